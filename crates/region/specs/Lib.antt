@@ -1,0 +1,7 @@
+pub mod Integers
+pub mod Order
+pub mod Powers
+pub mod Interval
+pub mod Measures
+pub mod Regions
+pub mod Answers

@@ -1,0 +1,384 @@
+// Region and its arithmetic (region.rs). Each function judges the regions that it is given, and the one that results, by document 01's measures.
+mod span;
+
+use numbers::ACCEPTED;
+use numbers::NOT_INSIDE;
+use numbers::OUT_OF_MEASURE;
+use numbers::OUT_OF_RANGE;
+use span::Span;
+ghost use mathlib.Core.Path.{_≡_};
+ghost use mathlib.Core.Bool.{false, _&&_};
+ghost use Prim.Native.Nat.{ℕ, _+_, _*_, _≤_, _<_, _^_};
+ghost use lib.Dec.{T, leb};
+ghost use lib.IntN.{pos};
+ghost use lib.Signed.{mag};
+ghost use Rattle.numbers.specs.Numbers.{outOfMeasure, outOfRange};
+ghost use Rattle.numbers.specs.Checks.{firstOf};
+ghost use Rattle.region.specs.Interval.{spanOf, covers, Near};
+ghost use Rattle.region.specs.Measures.{measured, pictured, areaFits};
+ghost use Rattle.region.specs.Regions.{columns, rows, regionOf, isEmpty, inside, contains, translated, intersected, paddedBy, downsampled, alignedTo, zeroRegion};
+ghost use Rattle.region.specs.Answers.{regionAnswer, boolAnswer, edgeAnswer, placedAnswer, givenChecks, pairChecks, resultChecks, settingChecks, placedChecks, isFactor, isAlignment, judgedNumber};
+
+#[repr(C)]
+pub struct Region {
+    pub left: i32,
+    pub top: i32,
+    pub width: u32,
+    pub height: u32,
+}
+
+#[repr(C)]
+pub struct RegionAnswer {
+    pub number: u32,
+    pub region: Region,
+}
+
+#[repr(C)]
+pub struct BoolAnswer {
+    pub number: u32,
+    pub holds: bool,
+}
+
+#[repr(C)]
+pub struct EdgeAnswer {
+    pub number: u32,
+    pub edge: i32,
+}
+
+// Where a filter region lies in an image region: columns and rows from the image's corner.
+#[repr(C)]
+pub struct PlacedAnswer {
+    pub number: u32,
+    pub x: u32,
+    pub y: u32,
+}
+
+const LARGEST_SIDE: u64 = 16_384;
+
+const LARGEST_AREA: u64 = 16_777_216;
+
+const LARGEST_FACTOR: u32 = 16;
+// 2^13 is the largest alignment, 8,192.
+const LARGEST_EXPONENT: u32 = 13;
+
+fn columns(r: Region) -> Span
+    ensures { λ s. ⌜ (s ≡ columns r) × Near 0x2_0000_0000 s ⌝ }
+{
+    span::span_of(r.left, r.width)
+}
+
+fn rows(r: Region) -> Span
+    ensures { λ s. ⌜ (s ≡ rows r) × Near 0x2_0000_0000 s ⌝ }
+{
+    span::span_of(r.top, r.height)
+}
+
+// Whether the region of these columns and rows is within the measures.
+fn within_measures(x: Span, y: Span) -> bool
+    requires { ⌜ Near 0x4_0000_0000_0000 x × Near 0x4_0000_0000_0000 y ⌝ }
+    ensures { λ b. ⌜ b ≡ measured (regionOf x y) ⌝ }
+{
+    if !span::placed(x) {
+        return false;
+    }
+    if !span::placed(y) {
+        return false;
+    }
+    if LARGEST_SIDE < span::extent(x) {
+        return false;
+    }
+    span::extent(y) <= LARGEST_SIDE
+}
+
+fn measured(r: Region) -> bool
+    ensures { λ b. ⌜ b ≡ measured r ⌝ }
+{
+    within_measures(columns(r), rows(r))
+}
+
+fn refused(number: u32) -> RegionAnswer
+    ensures { λ r. ⌜ r ≡ record { number = number; region = zeroRegion } ⌝ }
+{
+    RegionAnswer {
+        number,
+        region: Region {
+            left: 0,
+            top: 0,
+            width: 0,
+            height: 0,
+        },
+    }
+}
+
+// The region of these columns and rows, if it is within the measures.
+fn judged(x: Span, y: Span) -> RegionAnswer
+    requires { ⌜ Near 0x4_0000_0000_0000 x × Near 0x4_0000_0000_0000 y ⌝ }
+    ensures { λ r. ⌜ r ≡ regionAnswer (judgedNumber (regionOf x y)) (regionOf x y) ⌝ }
+{
+    if !within_measures(x, y) {
+        return refused(OUT_OF_MEASURE);
+    }
+    RegionAnswer {
+        number: ACCEPTED,
+        region: Region {
+            left: span::corner(x),
+            top: span::corner(y),
+            width: span::extent(x) as u32,
+            height: span::extent(y) as u32,
+        },
+    }
+}
+
+fn is_alignment(grid_dim: u32) -> bool
+    ensures { λ b. ⌜ b ≡ isAlignment «grid_dim» ⌝ }
+{
+    let exponent = u32::trailing_zeros(grid_dim);
+    if LARGEST_EXPONENT < exponent {
+        return false;
+    }
+    1u32 << exponent == grid_dim
+}
+
+fn empty(r: Region) -> bool
+    ensures { λ b. ⌜ b ≡ isEmpty r ⌝ }
+{
+    if r.width == 0 {
+        return true;
+    }
+    r.height == 0
+}
+
+fn told(holds: bool) -> BoolAnswer
+    ensures { λ r. ⌜ r ≡ boolAnswer 0 holds ⌝ }
+{
+    BoolAnswer {
+        number: ACCEPTED,
+        holds,
+    }
+}
+
+fn untold(number: u32) -> BoolAnswer
+    ensures { λ r. ⌜ r ≡ record { number = number; holds = false } ⌝ }
+{
+    BoolAnswer {
+        number,
+        holds: false,
+    }
+}
+
+fn edge_at(s: Span) -> EdgeAnswer
+    requires { ⌜ mag (s .end) < 0x8000_0000 ⌝ }
+    ensures { λ r. ⌜ r ≡ edgeAnswer 0 (s .end) ⌝ }
+{
+    EdgeAnswer {
+        number: ACCEPTED,
+        edge: span::edge(s),
+    }
+}
+
+fn no_edge(number: u32) -> EdgeAnswer
+    ensures { λ r. ⌜ r ≡ record { number = number; edge = pos 0 } ⌝ }
+{
+    EdgeAnswer { number, edge: 0 }
+}
+
+impl Region {
+    // A side of 0.
+    pub fn is_empty(self) -> BoolAnswer
+        ensures { λ r. ⌜ r ≡ boolAnswer (firstOf (givenChecks self)) (isEmpty self) ⌝ }
+    {
+        if !measured(self) {
+            return untold(OUT_OF_MEASURE);
+        }
+        told(empty(self))
+    }
+
+    // The column past the last.
+    pub fn right(self) -> EdgeAnswer
+        ensures { λ r. ⌜ r ≡ edgeAnswer (firstOf (givenChecks self)) (columns self .end) ⌝ }
+    {
+        if !measured(self) {
+            return no_edge(OUT_OF_MEASURE);
+        }
+        edge_at(columns(self))
+    }
+
+    // The row past the last.
+    pub fn bottom(self) -> EdgeAnswer
+        ensures { λ r. ⌜ r ≡ edgeAnswer (firstOf (givenChecks self)) (rows self .end) ⌝ }
+    {
+        if !measured(self) {
+            return no_edge(OUT_OF_MEASURE);
+        }
+        edge_at(rows(self))
+    }
+
+    pub fn contains(self, target: Region) -> BoolAnswer
+        ensures { λ r. ⌜ r ≡ boolAnswer (firstOf (pairChecks self target)) (contains self target) ⌝ }
+    {
+        if !measured(self) {
+            return untold(OUT_OF_MEASURE);
+        }
+        if !measured(target) {
+            return untold(OUT_OF_MEASURE);
+        }
+        told(holds(self, target))
+    }
+
+    pub fn translate(self, x: i32, y: i32) -> RegionAnswer
+        ensures { λ r. ⌜ r ≡ regionAnswer (firstOf (resultChecks self (translated x y self))) (translated x y self) ⌝ }
+    {
+        if !measured(self) {
+            return refused(OUT_OF_MEASURE);
+        }
+        judged(span::moved(columns(self), x), span::moved(rows(self), y))
+    }
+
+    pub fn intersection(self, rhs: Region) -> RegionAnswer
+        ensures { λ r. ⌜ r ≡ regionAnswer (firstOf (pairChecks self rhs)) (intersected self rhs) ⌝ }
+    {
+        if !measured(self) {
+            return refused(OUT_OF_MEASURE);
+        }
+        if !measured(rhs) {
+            return refused(OUT_OF_MEASURE);
+        }
+        common(self, rhs)
+    }
+
+    pub fn pad(self, size: u32) -> RegionAnswer
+        ensures { λ r. ⌜ r ≡ regionAnswer (firstOf (resultChecks self (paddedBy size self))) (paddedBy size self) ⌝ }
+    {
+        if !measured(self) {
+            return refused(OUT_OF_MEASURE);
+        }
+        judged(
+            span::padded(columns(self), size),
+            span::padded(rows(self), size),
+        )
+    }
+
+    pub fn downsample(self, factor: u32) -> RegionAnswer
+        ensures { λ r. ⌜ r ≡ regionAnswer (firstOf (settingChecks self (isFactor factor) (downsampled factor self))) (downsampled factor self) ⌝ }
+    {
+        if !measured(self) {
+            return refused(OUT_OF_MEASURE);
+        }
+        if LARGEST_FACTOR < factor {
+            return refused(OUT_OF_RANGE);
+        }
+        judged(
+            span::shrunk(columns(self), factor),
+            span::shrunk(rows(self), factor),
+        )
+    }
+
+    pub fn container_aligned(self, grid_dim: u32) -> RegionAnswer
+        ensures { λ r. ⌜ r ≡ regionAnswer (firstOf (settingChecks self (isAlignment «grid_dim») (alignedTo «grid_dim» self))) (alignedTo «grid_dim» self) ⌝ }
+    {
+        if !measured(self) {
+            return refused(OUT_OF_MEASURE);
+        }
+        if !is_alignment(grid_dim) {
+            return refused(OUT_OF_RANGE);
+        }
+        let exponent = u32::trailing_zeros(grid_dim);
+        judged(
+            span::aligned(columns(self), exponent),
+            span::aligned(rows(self), exponent),
+        )
+    }
+}
+
+// Each place of the target is a place of r.
+fn inside(r: Region, target: Region) -> bool
+    ensures { λ b. ⌜ b ≡ inside r target ⌝ }
+{
+    if !span::covers(columns(r), columns(target)) {
+        return false;
+    }
+    span::covers(rows(r), rows(target))
+}
+
+fn holds(r: Region, target: Region) -> bool
+    ensures { λ b. ⌜ b ≡ contains r target ⌝ }
+{
+    if empty(target) {
+        return true;
+    }
+    inside(r, target)
+}
+
+// What two regions within the measures have in common.
+fn common(a: Region, b: Region) -> RegionAnswer
+    requires { ⌜ T (measured a) × T (measured b) ⌝ }
+    ensures { λ r. ⌜ r ≡ regionAnswer 0 (intersected a b) ⌝ }
+{
+    let x = span::meet(columns(a), columns(b));
+    let y = span::meet(rows(a), rows(b));
+    if span::vacant(x) {
+        return refused(ACCEPTED);
+    }
+    if span::vacant(y) {
+        return refused(ACCEPTED);
+    }
+    judged(x, y)
+}
+
+fn area_fits(width: u32, height: u32) -> bool
+    ensures { λ b. ⌜ b ≡ areaFits width height ⌝ }
+{
+    if width < 1 {
+        return false;
+    }
+    if height < 1 {
+        return false;
+    }
+    (width as u64) * (height as u64) <= LARGEST_AREA
+}
+
+// A region that an image or a filter may have.
+fn pictured(r: Region) -> bool
+    ensures { λ b. ⌜ b ≡ pictured r ⌝ }
+{
+    if !measured(r) {
+        return false;
+    }
+    area_fits(r.width, r.height)
+}
+
+fn unplaced(number: u32) -> PlacedAnswer
+    ensures { λ r. ⌜ r ≡ record { number = number; x = 0; y = 0 } ⌝ }
+{
+    PlacedAnswer { number, x: 0, y: 0 }
+}
+
+// The columns and rows from a corner to a corner, both within the measures.
+fn offsets(image: Region, filter: Region) -> PlacedAnswer
+    requires { ⌜ T (measured image) × T (measured filter) ⌝ }
+    ensures { λ r. ⌜ r ≡ placedAnswer 0 image filter ⌝ }
+{
+    let x = span::offset(columns(image), columns(filter));
+    let y = span::offset(rows(image), rows(filter));
+    PlacedAnswer {
+        number: ACCEPTED,
+        x: x as u32,
+        y: y as u32,
+    }
+}
+
+// Where a filter region lies in an image region, for the passes: 4 where either is no region of a picture, 5 where it is not inside.
+pub fn placed(image: Region, filter: Region) -> PlacedAnswer
+    ensures { λ r. ⌜ r ≡ placedAnswer (firstOf (placedChecks image filter)) image filter ⌝ }
+{
+    if !pictured(image) {
+        return unplaced(OUT_OF_MEASURE);
+    }
+    if !pictured(filter) {
+        return unplaced(OUT_OF_MEASURE);
+    }
+    if !inside(image, filter) {
+        return unplaced(NOT_INSIDE);
+    }
+    offsets(image, filter)
+}
