@@ -7,7 +7,7 @@ use lib.Dec.{eqb, leb}
 use lib.IntN.{ℤ, pos, natAbs, _-ℤ_}
 use Rattle.numbers.specs.Numbers.{outOfMeasure, notInside, outOfRange}
 use Rattle.numbers.specs.Checks.{Check, always, given, firstOf}
-use Rattle.region.specs.Powers.{powerBelow}
+use Rattle.interval.specs.Powers.{powerBelow}
 use Rattle.region.specs.Measures.{measured, pictured}
 use Rattle.region.specs.Regions.{inside, zeroRegion}
 use Rattle.region.specs.declared.Region.{Region}
@@ -16,7 +16,7 @@ use Rattle.region.specs.declared.BoolAnswer.{BoolAnswer}
 use Rattle.region.specs.declared.EdgeAnswer.{EdgeAnswer}
 use Rattle.region.specs.declared.PlacedAnswer.{PlacedAnswer}
 
-abbrev pub regionAnswer : ℕ → Region → RegionAnswer
+unfoldable pub regionAnswer : ℕ → Region → RegionAnswer
 regionAnswer n r = record { number = n; region = cond (eqb n 0) r zeroRegion }
 
 abbrev pub boolAnswer : ℕ → Bool → BoolAnswer
@@ -65,7 +65,7 @@ placedAnswer n image filter = record {
 }
 
 -- the number of a region that results
-abbrev pub judgedNumber : Region → ℕ
+unfoldable pub judgedNumber : Region → ℕ
 judgedNumber r = firstOf (givenChecks r)
 
 -- ---- laws: the number given, by which test failed first
@@ -81,6 +81,7 @@ module _ (r made : Region) where
   result-fails e = rw e
 
   pub result-judged : measured r ≡ true → firstOf (resultChecks r made) ≡ judgedNumber made
+  unfolding judgedNumber
   result-judged e = rw e
 
   module _ (sound : Bool) where
@@ -91,6 +92,7 @@ module _ (r made : Region) where
     setting-fails e f = rw (e, f)
 
     pub setting-judged : measured r ≡ true → sound ≡ true → firstOf (settingChecks r sound made) ≡ judgedNumber made
+    unfolding judgedNumber
     setting-judged e f = rw (e, f)
 
 module _ (a b : Region) where

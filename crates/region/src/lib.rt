@@ -1,11 +1,10 @@
 // Region and its arithmetic (region.rs). Each function judges the regions that it is given, and the one that results, by document 01's measures.
-mod span;
 
+use interval::Span;
 use numbers::ACCEPTED;
 use numbers::NOT_INSIDE;
 use numbers::OUT_OF_MEASURE;
 use numbers::OUT_OF_RANGE;
-use span::Span;
 ghost use mathlib.Core.Path.{_≡_};
 ghost use mathlib.Core.Bool.{false, _&&_};
 ghost use Prim.Native.Nat.{ℕ, _+_, _*_, _≤_, _<_, _^_};
@@ -14,7 +13,7 @@ ghost use lib.IntN.{pos};
 ghost use lib.Signed.{mag};
 ghost use Rattle.numbers.specs.Numbers.{outOfMeasure, outOfRange};
 ghost use Rattle.numbers.specs.Checks.{firstOf};
-ghost use Rattle.region.specs.Interval.{spanOf, covers, Near};
+ghost use Rattle.interval.specs.Interval.{measured as measuredSpan};
 ghost use Rattle.region.specs.Measures.{measured, pictured, areaFits};
 ghost use Rattle.region.specs.Regions.{columns, rows, regionOf, isEmpty, inside, contains, translated, intersected, paddedBy, downsampled, alignedTo, zeroRegion};
 ghost use Rattle.region.specs.Answers.{regionAnswer, boolAnswer, edgeAnswer, placedAnswer, givenChecks, pairChecks, resultChecks, settingChecks, placedChecks, isFactor, isAlignment, judgedNumber};
@@ -53,8 +52,6 @@ pub struct PlacedAnswer {
     pub y: u32,
 }
 
-const LARGEST_SIDE: u64 = 16_384;
-
 const LARGEST_AREA: u64 = 16_777_216;
 
 const LARGEST_FACTOR: u32 = 16;
@@ -62,38 +59,31 @@ const LARGEST_FACTOR: u32 = 16;
 const LARGEST_EXPONENT: u32 = 13;
 
 fn columns(r: Region) -> Span
-    ensures { λ s. ⌜ (s ≡ columns r) × Near 0x2_0000_0000 s ⌝ }
+    ensures { λ s. ⌜ s ≡ columns r ⌝ }
 {
-    span::span_of(r.left, r.width)
+    interval::span_of(r.left, r.width)
 }
 
 fn rows(r: Region) -> Span
-    ensures { λ s. ⌜ (s ≡ rows r) × Near 0x2_0000_0000 s ⌝ }
+    ensures { λ s. ⌜ s ≡ rows r ⌝ }
 {
-    span::span_of(r.top, r.height)
+    interval::span_of(r.top, r.height)
 }
 
-// Whether the region of these columns and rows is within the measures.
-fn within_measures(x: Span, y: Span) -> bool
-    requires { ⌜ Near 0x4_0000_0000_0000 x × Near 0x4_0000_0000_0000 y ⌝ }
-    ensures { λ b. ⌜ b ≡ measured (regionOf x y) ⌝ }
+fn within(s: Span) -> bool
+    ensures { λ b. ⌜ b ≡ measuredSpan s ⌝ }
 {
-    if !span::placed(x) {
-        return false;
-    }
-    if !span::placed(y) {
-        return false;
-    }
-    if LARGEST_SIDE < span::extent(x) {
-        return false;
-    }
-    span::extent(y) <= LARGEST_SIDE
+    interval::judge(s).ok
 }
 
+// Region arithmetic takes sides of 0 and has no area limit.
 fn measured(r: Region) -> bool
     ensures { λ b. ⌜ b ≡ measured r ⌝ }
 {
-    within_measures(columns(r), rows(r))
+    if !within(columns(r)) {
+        return false;
+    }
+    within(rows(r))
 }
 
 fn refused(number: u32) -> RegionAnswer
@@ -112,19 +102,23 @@ fn refused(number: u32) -> RegionAnswer
 
 // The region of these columns and rows, if it is within the measures.
 fn judged(x: Span, y: Span) -> RegionAnswer
-    requires { ⌜ Near 0x4_0000_0000_0000 x × Near 0x4_0000_0000_0000 y ⌝ }
     ensures { λ r. ⌜ r ≡ regionAnswer (judgedNumber (regionOf x y)) (regionOf x y) ⌝ }
 {
-    if !within_measures(x, y) {
+    let across = interval::judge(x);
+    let down = interval::judge(y);
+    if !across.ok {
+        return refused(OUT_OF_MEASURE);
+    }
+    if !down.ok {
         return refused(OUT_OF_MEASURE);
     }
     RegionAnswer {
         number: ACCEPTED,
         region: Region {
-            left: span::corner(x),
-            top: span::corner(y),
-            width: span::extent(x) as u32,
-            height: span::extent(y) as u32,
+            left: across.start,
+            top: down.start,
+            width: across.len,
+            height: down.len,
         },
     }
 }
@@ -172,7 +166,7 @@ fn edge_at(s: Span) -> EdgeAnswer
 {
     EdgeAnswer {
         number: ACCEPTED,
-        edge: span::edge(s),
+        edge: s.end as i32,
     }
 }
 
@@ -231,7 +225,10 @@ impl Region {
         if !measured(self) {
             return refused(OUT_OF_MEASURE);
         }
-        judged(span::moved(columns(self), x), span::moved(rows(self), y))
+        judged(
+            interval::moved(self.left, self.width, x),
+            interval::moved(self.top, self.height, y),
+        )
     }
 
     pub fn intersection(self, rhs: Region) -> RegionAnswer
@@ -253,8 +250,8 @@ impl Region {
             return refused(OUT_OF_MEASURE);
         }
         judged(
-            span::padded(columns(self), size),
-            span::padded(rows(self), size),
+            interval::padded(self.left, self.width, size),
+            interval::padded(self.top, self.height, size),
         )
     }
 
@@ -268,8 +265,8 @@ impl Region {
             return refused(OUT_OF_RANGE);
         }
         judged(
-            span::shrunk(columns(self), factor),
-            span::shrunk(rows(self), factor),
+            interval::shrunk(self.left, self.width, factor),
+            interval::shrunk(self.top, self.height, factor),
         )
     }
 
@@ -284,8 +281,8 @@ impl Region {
         }
         let exponent = u32::trailing_zeros(grid_dim);
         judged(
-            span::aligned(columns(self), exponent),
-            span::aligned(rows(self), exponent),
+            interval::aligned(self.left, self.width, exponent),
+            interval::aligned(self.top, self.height, exponent),
         )
     }
 }
@@ -294,10 +291,10 @@ impl Region {
 fn inside(r: Region, target: Region) -> bool
     ensures { λ b. ⌜ b ≡ inside r target ⌝ }
 {
-    if !span::covers(columns(r), columns(target)) {
+    if !interval::covers(columns(r), columns(target)) {
         return false;
     }
-    span::covers(rows(r), rows(target))
+    interval::covers(rows(r), rows(target))
 }
 
 fn holds(r: Region, target: Region) -> bool
@@ -314,12 +311,12 @@ fn common(a: Region, b: Region) -> RegionAnswer
     requires { ⌜ T (measured a) × T (measured b) ⌝ }
     ensures { λ r. ⌜ r ≡ regionAnswer 0 (intersected a b) ⌝ }
 {
-    let x = span::meet(columns(a), columns(b));
-    let y = span::meet(rows(a), rows(b));
-    if span::vacant(x) {
+    let x = interval::meet(columns(a), columns(b));
+    let y = interval::meet(rows(a), rows(b));
+    if interval::vacant(x) {
         return refused(ACCEPTED);
     }
-    if span::vacant(y) {
+    if interval::vacant(y) {
         return refused(ACCEPTED);
     }
     judged(x, y)
@@ -353,20 +350,6 @@ fn unplaced(number: u32) -> PlacedAnswer
     PlacedAnswer { number, x: 0, y: 0 }
 }
 
-// The columns and rows from a corner to a corner, both within the measures.
-fn offsets(image: Region, filter: Region) -> PlacedAnswer
-    requires { ⌜ T (measured image) × T (measured filter) ⌝ }
-    ensures { λ r. ⌜ r ≡ placedAnswer 0 image filter ⌝ }
-{
-    let x = span::offset(columns(image), columns(filter));
-    let y = span::offset(rows(image), rows(filter));
-    PlacedAnswer {
-        number: ACCEPTED,
-        x: x as u32,
-        y: y as u32,
-    }
-}
-
 // Where a filter region lies in an image region, for the passes: 4 where either is no region of a picture, 5 where it is not inside.
 pub fn placed(image: Region, filter: Region) -> PlacedAnswer
     ensures { λ r. ⌜ r ≡ placedAnswer (firstOf (placedChecks image filter)) image filter ⌝ }
@@ -380,5 +363,9 @@ pub fn placed(image: Region, filter: Region) -> PlacedAnswer
     if !inside(image, filter) {
         return unplaced(NOT_INSIDE);
     }
-    offsets(image, filter)
+    PlacedAnswer {
+        number: ACCEPTED,
+        x: interval::offset(image.left, filter.left),
+        y: interval::offset(image.top, filter.top),
+    }
 }

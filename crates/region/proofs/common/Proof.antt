@@ -4,11 +4,11 @@ use mathlib.Core.Bool.{true, false}
 use Prim.Native.Nat.{ℕ}
 use native.Mathlib.Omega.{arith}
 use borrow.Author.Needs.{needs}
-use Rattle.region.proofs.Flags.{not-true, not-false, yes, true-of}
-use Rattle.region.specs.Answers.{regionAnswer, given-holds}
-use Rattle.region.specs.Interval.{near-up, vacant, meet}
-use Rattle.region.specs.Measures.{measured}
-use Rattle.region.specs.Regions.{columns, rows, regionOf, meet-measured}
+use Rattle.interval.proofs.Flags.{not-true, not-false, yes, true-of}
+use Rattle.interval.specs.Interval.{vacant, meet}
+use Rattle.region.specs.Answers.{regionAnswer, judgedNumber, given-holds}
+use Rattle.region.specs.Measures.{measured, meet-measured}
+use Rattle.region.specs.Regions.{columns, rows, regionOf, intersected}
 use Rattle.region.proofs.common.Statement.{statement}
 use Rattle.region.proofs.common.Tie as tie
 
@@ -16,26 +16,20 @@ use Rattle.region.proofs.common.Tie as tie
 across : (c : tie.After-meet2) → c .before .before .before .meet .result ≡ meet (columns (c .before .before .before .before .before .before .args .a)) (columns (c .before .before .before .before .before .before .args .b))
 across c =
     let k = c .before .before .before in
-    rw (k .before .columns2 .ensures .0, k .before .before .columns .ensures .0) at (k .meet .ensures .0)
+    rw (k .before .columns2 .ensures, k .before .before .columns .ensures) at (k .meet .ensures)
 
 down : (c : tie.After-meet2) → c .meet2 .result ≡ meet (rows (c .before .before .before .before .before .before .args .a)) (rows (c .before .before .before .before .before .before .args .b))
-down c = rw (c .before .rows2 .ensures .0, c .before .before .rows .ensures .0) at (c .meet2 .ensures .0)
-
-meet-requires : tie.Need-meet-requires
-meet-requires c κs =
-    (near-up 0x2_0000_0000 0x4_0000_0000_0000 _ (omega arith) (c .before .columns .ensures .1), near-up 0x2_0000_0000 0x4_0000_0000_0000 _ (omega arith) (c .columns2 .ensures .1))
-
-meet-requires-2 : tie.Need-meet-requires-2
-meet-requires-2 c κs =
-    (near-up 0x2_0000_0000 0x4_0000_0000_0000 _ (omega arith) (c .before .rows .ensures .1), near-up 0x2_0000_0000 0x4_0000_0000_0000 _ (omega arith) (c .rows2 .ensures .1))
+down c = rw (c .before .rows2 .ensures, c .before .before .rows .ensures) at (c .meet2 .ensures)
 
 returns : tie.Need-returns
+unfolding regionAnswer intersected
 returns c =
     let k = c .before .before in
     let v = rw (across (k .before)) at (sym (k .vacant .ensures) ∙ c .before .if1 .taken) in
     c .refused .ensures ∙ rw v
 
 returns-2 : tie.Need-returns-2
+unfolding regionAnswer intersected
 returns-2 c =
     let k = c .before .before in
     let m = k .before .before .before in
@@ -43,12 +37,8 @@ returns-2 c =
     let w = rw (down m) at (sym (k .vacant2 .ensures) ∙ c .before .if2 .taken) in
     c .refused2 .ensures ∙ rw (v, w)
 
-judged-requires : tie.Need-judged-requires
-judged-requires c κs =
-    let m = c .before .before .before .before in
-    (m .before .before .before .meet .ensures .1, m .meet2 .ensures .1)
-
 returns-3 : tie.Need-returns-3
+unfolding intersected judgedNumber
 returns-3 c =
     let k = c .before .before in
     let m = k .before .before .before in
@@ -63,4 +53,4 @@ returns-3 c =
 pub common-spec : {M : Type 1} → statement M
 common-spec =
     tie.close
-    (tie.spec (λ c κs. search needs) (λ c κs. search needs) meet-requires (λ c κs. search needs) (λ c κs. search needs) meet-requires-2 (λ c κs. search needs) (λ c κs. search needs) returns (λ c κs. search needs) (λ c κs. search needs) returns-2 judged-requires returns-3)
+    (tie.spec (λ c κs. search needs) (λ c κs. search needs) (λ c κs. search needs) (λ c κs. search needs) (λ c κs. search needs) (λ c κs. search needs) (λ c κs. search needs) (λ c κs. search needs) returns (λ c κs. search needs) (λ c κs. search needs) returns-2 (λ c κs. search needs) returns-3)

@@ -9,7 +9,7 @@ use native.Mathlib.Omega.{arith}
 use borrow.Author.Needs.{needs}
 use lib.Count.{trailingZeros}
 use lib.Dec.{eqb, eqb→eq}
-use Rattle.region.specs.Powers.{powerBelow, power-found, power-in}
+use Rattle.interval.specs.Powers.{powerBelow, power-found, power-in}
 use Rattle.region.proofs.is_alignment.Statement.{statement}
 use Rattle.region.proofs.is_alignment.Tie as tie
 

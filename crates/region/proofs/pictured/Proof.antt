@@ -4,7 +4,7 @@ use mathlib.Core.Bool.{true, false}
 use Prim.Native.Nat.{ℕ}
 use native.Mathlib.Omega.{arith}
 use borrow.Author.Needs.{needs}
-use Rattle.region.proofs.Flags.{not-true, not-false, yes}
+use Rattle.interval.proofs.Flags.{not-true, not-false, yes}
 use Rattle.region.specs.Measures.{measured, pictured}
 use Rattle.region.proofs.pictured.Statement.{statement}
 use Rattle.region.proofs.pictured.Tie as tie

@@ -4,9 +4,11 @@ use mathlib.Core.Bool.{true, false}
 use Prim.Native.Nat.{ℕ}
 use native.Mathlib.Omega.{arith}
 use borrow.Author.Needs.{needs}
-use Rattle.region.proofs.Flags.{not-true, not-false, yes}
+use Rattle.interval.proofs.Flags.{not-true, not-false, yes}
+use mir.Syntax.{w32}
+use mir.Facts.{toZ-ofZ}
 use Rattle.region.specs.Answers.{placedAnswer, placed-image, placed-filter, placed-outside, placed-inside}
-use Rattle.region.specs.Measures.{pictured, pictured-measured}
+use Rattle.region.specs.Measures.{pictured}
 use Rattle.region.proofs.placed.Statement.{statement}
 use Rattle.region.proofs.placed.Tie as tie
 
@@ -34,19 +36,19 @@ returns-3 c =
     let o = sym (c .before .before .inside .ensures) ∙ not-true (c .before .if3 .taken) in
     c .unplaced3 .ensures ∙ ap (λ (n : ℕ). placedAnswer n (s .image) (s .filter)) (sym (placed-outside (s .image) (s .filter) (both k .0) (both k .1) o))
 
-offsets-requires : tie.Need-offsets-requires
-offsets-requires c κs =
-    let k = both (c .before .before) in
-    (pictured-measured _ (yes (k .0)), pictured-measured _ (yes (k .1)))
-
 returns-4 : tie.Need-returns-4
 returns-4 c =
-    let k = c .before .before .before in
-    let s = k .before .before .before .before .args in
-    let o = sym (c .before .before .inside .ensures) ∙ not-false (c .before .if3 .left) in
-    c .offsets .ensures ∙ ap (λ (n : ℕ). placedAnswer n (s .image) (s .filter)) (sym (placed-inside (s .image) (s .filter) (both k .0) (both k .1) o))
+    let t = c .before .before .before .before .before .before in
+    let k = t .before .before in
+    let s = k .before .before .before .before in
+    let i = c .before .before .before .before .before .struct-told .given in
+    let f = c .before .before .before .before .struct-told2 .given in
+    let o = sym (t .before .inside .ensures) ∙ not-false (t .if3 .left) in
+    let x = rw (toZ-ofZ {w = w32} {z = s .args .image .left} (record { sfits = i .0 .1 }), toZ-ofZ {w = w32} {z = s .args .filter .left} (record { sfits = f .0 .1 })) at (c .before .before .before .offset .ensures) in
+    let y = rw (toZ-ofZ {w = w32} {z = s .args .image .top} (record { sfits = i .1 .0 .1 }), toZ-ofZ {w = w32} {z = s .args .filter .top} (record { sfits = f .1 .0 .1 })) at (c .offset2 .ensures) in
+    rw (x, y, placed-inside (s .args .image) (s .args .filter) (both k .0) (both k .1) o)
 
 pub placed-spec : {M : Type 1} → statement M
 placed-spec =
     tie.close
-    (tie.spec (λ c κs. search needs) (λ c κs. search needs) returns (λ c κs. search needs) (λ c κs. search needs) returns-2 (λ c κs. search needs) (λ c κs. search needs) returns-3 offsets-requires returns-4)
+    (tie.spec (λ c κs. search needs) (λ c κs. search needs) returns (λ c κs. search needs) (λ c κs. search needs) returns-2 (λ c κs. search needs) (λ c κs. search needs) returns-3 (λ c κs. search needs) (λ c κs. search needs) returns-4)

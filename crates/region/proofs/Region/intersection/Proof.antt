@@ -4,7 +4,7 @@ use mathlib.Core.Bool.{true, false}
 use Prim.Native.Nat.{ℕ}
 use native.Mathlib.Omega.{arith}
 use borrow.Author.Needs.{needs}
-use Rattle.region.proofs.Flags.{not-true, not-false, yes}
+use Rattle.interval.proofs.Flags.{not-true, not-false, yes}
 use Rattle.region.specs.Answers.{regionAnswer, pair-first, pair-second, pair-holds}
 use Rattle.region.specs.Regions.{intersected}
 use Rattle.region.specs.Measures.{measured}
@@ -12,12 +12,14 @@ use Rattle.region.proofs.Region.intersection.Statement.{statement}
 use Rattle.region.proofs.Region.intersection.Tie as tie
 
 returns : tie.Need-returns
+unfolding regionAnswer
 returns c =
     let s = c .before .before .before .args in
     let m = sym (c .before .before .measured .ensures) ∙ not-true (c .before .if1 .taken) in
     c .refused .ensures ∙ ap (λ (n : ℕ). regionAnswer n (intersected (s .self) (s .rhs))) (sym (pair-first (s .self) (s .rhs) m))
 
 returns-2 : tie.Need-returns-2
+unfolding regionAnswer
 returns-2 c =
     let s = c .before .before .before .before .before .args in
     let m = sym (c .before .before .before .before .measured .ensures) ∙ not-false (c .before .before .before .if1 .left) in
