@@ -1,0 +1,16 @@
+-- `mirror::mirrored` meets its contract. Assumes nothing.
+use mathlib.Core.Path.{_∙_}
+use native.Mathlib.Omega.{arith}
+use borrow.Author.Needs.{needs}
+use Rattle.mirror.specs.Mirror.{mirror-ahead, mirror-back}
+use Rattle.mirror.proofs.mirrored.Statement.{statement}
+use Rattle.mirror.proofs.mirrored.Tie as tie
+
+returns : tie.Need-returns
+returns c = c .place .ensures ∙ mirror-ahead _ _ _ (omega arith)
+
+returns-2 : tie.Need-returns-2
+returns-2 c = c .place2 .ensures ∙ mirror-back _ _ _ (omega arith)
+
+pub mirrored-spec : {M : Type 1} → statement M
+mirrored-spec = tie.close (tie.spec (λ c κs. search needs) returns (λ c. search needs) (λ c. search needs) (λ c κs. search needs) returns-2)

@@ -1,0 +1,30 @@
+-- `mirror::place` meets its contract: inside the row by the identity, past it by the runs that go up and down. Assumes nothing.
+use mathlib.Core.Path.{_≡_, sym}
+use native.Mathlib.Nat.{mod-lt}
+use native.Mathlib.Omega.{arith}
+use borrow.Author.Needs.{needs}
+use lib.IntN.{pos}
+use Rattle.mirror.specs.Mirror.{mirror-in, mirror-none, mirror-even, mirror-odd}
+use Rattle.mirror.proofs.place.Statement.{statement}
+use Rattle.mirror.proofs.place.Tie as tie
+
+returns : tie.Need-returns
+returns c = sym (mirror-in (c .before .args .n) (c .before .args .ahead) (omega arith))
+
+returns-2 : tie.Need-returns-2
+returns-2 c = sym (rw e (mirror-none (pos (c .before .before .args .ahead))))
+  where
+    e : c .before .before .args .n ≡ 0
+    e = omega arith
+
+sub-result-2 : tie.Need-sub-result-2
+sub-result-2 c = omega (arith, mod-lt (c .before .before .before .args .ahead) {m = c .before .before .before .args .n} (omega arith))
+
+returns-3 : tie.Need-returns-3
+returns-3 c = sym (mirror-even (c .before .before .before .args .n) (c .before .before .before .args .ahead) (omega arith) (omega arith))
+
+returns-4 : tie.Need-returns-4
+returns-4 c = sym (mirror-odd (c .before .before .before .args .n) (c .before .before .before .args .ahead) (omega arith) (λ e. omega arith))
+
+pub place-spec : {M : Type 1} → statement M
+place-spec = tie.close (tie.spec returns returns-2 (λ c. search needs) (λ c. search needs) (λ c. search needs) sub-result-2 returns-3 returns-4)

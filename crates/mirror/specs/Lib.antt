@@ -1,0 +1,5 @@
+pub mod Mirror
+pub mod Offset
+pub mod Cut
+pub mod Outcome
+pub mod Instances

@@ -1,0 +1,28 @@
+-- What `mirror` answers: the table of its checks, and the outcome for every offset and length.
+use mathlib.Core.Bool.{cond}
+use mathlib.Core.List.{List, [], _∷_}
+use Prim.Native.Nat.{ℕ}
+use lib.Dec.{ltb, eqb}
+use lib.IntN.{ℤ, pos, negℤ}
+use lib.Signed.{ltZ}
+use Rattle.numbers.specs.Numbers.{outOfRange}
+use Rattle.numbers.specs.Checks.{Check, always, firstOf}
+use Rattle.mirror.specs.declared.MirrorAnswer.{MirrorAnswer}
+use Rattle.mirror.specs.Mirror.{mirror}
+
+-- Document 01, number 9: a mirror length outside 1 to 16,384, or an offset outside the range of left.
+abbrev pub mirrorChecks : ℤ → ℕ → List Check
+mirrorChecks offset len =
+    always outOfRange (ltb len 1)
+    ∷ always outOfRange (ltb 16384 len)
+    ∷ always outOfRange (ltZ offset (negℤ (pos 1048576)))
+    ∷ always outOfRange (ltZ (pos 1048576) offset)
+    ∷ []
+
+-- a refusal has 0 as its place
+abbrev pub answered : ℕ → ℕ → MirrorAnswer
+answered number place = record { number = number; place = cond (eqb number 0) place 0 }
+
+-- the number of the first check that applies, and the offset's place where none does
+abbrev pub mirrorOutcome : ℤ → ℕ → MirrorAnswer
+mirrorOutcome offset len = answered (firstOf (mirrorChecks offset len)) (mirror offset len)
