@@ -7,7 +7,8 @@ fn main() {
     println!("cargo:rerun-if-changed=build.rs");
     let folder = env::var("LOUPE_RUST_SRC")
         .expect("LOUPE_RUST_SRC: the folder that has crates/jxl-frame and crates/jxl-render");
-    let folder = PathBuf::from(folder).join("crates/jxl-frame/src");
+    let folder = fs::canonicalize(PathBuf::from(folder).join("crates/jxl-frame/src"))
+        .expect("LOUPE_RUST_SRC: no crates/jxl-frame/src there");
     let mut modules = String::new();
     for name in ["filter", "header"] {
         let file = folder.join(name).with_extension("rs");

@@ -27,7 +27,8 @@ fn main() {
     println!("cargo:rerun-if-changed=build.rs");
     let folder = env::var("LOUPE_RUST_SRC")
         .expect("LOUPE_RUST_SRC: the folder that has crates/jxl-frame and crates/jxl-render");
-    let folder = PathBuf::from(folder).join("crates/jxl-render/src");
+    let folder = fs::canonicalize(PathBuf::from(folder).join("crates/jxl-render/src"))
+        .expect("LOUPE_RUST_SRC: no crates/jxl-render/src there");
     println!("cargo:rerun-if-changed={}", folder.display());
     let out = PathBuf::from(env::var("OUT_DIR").unwrap());
     write(&out, "modules.rs", whole(&folder));
