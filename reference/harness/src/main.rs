@@ -7,6 +7,10 @@
 mod boundary;
 mod expected;
 mod frame;
+#[cfg(feature = "gabor")]
+mod gabor;
+#[cfg(feature = "header")]
+mod header;
 mod kinds;
 mod mirror;
 mod random;
@@ -59,6 +63,10 @@ fn compare(scale: u64) -> ExitCode {
     for subject in subjects {
         subject.compare(random, &mut report);
     }
+    #[cfg(feature = "header")]
+    header::compare(scale, &mut report);
+    #[cfg(feature = "gabor")]
+    gabor::compare(scale, &mut report);
     if report.finish() {
         ExitCode::SUCCESS
     } else {

@@ -25,6 +25,12 @@ impl Random {
         least + (u128::from(self.next()).wrapping_mul(count) >> 64) as i128
     }
 
+    /// True once in so many times.
+    #[cfg(any(feature = "header", feature = "gabor"))]
+    pub fn once_in(&mut self, times: u64) -> bool {
+        self.next().is_multiple_of(times)
+    }
+
     pub fn one_of<T: Copy>(&mut self, list: &[T]) -> T {
         list[self.within(0, list.len() as i128 - 1) as usize]
     }

@@ -1,8 +1,6 @@
 //! The table of what was compared.
 
-use std::time::Instant;
-
-use crate::subject::Answer;
+use std::{fmt::Debug, time::Instant};
 
 /// Differences that are written out for a row.
 const SHOWN: u64 = 5;
@@ -33,12 +31,12 @@ impl Row {
         self.numbers[number as usize] += 1;
     }
 
-    pub fn differs(&mut self, case: &[i128], given: &Answer, due: &Answer) {
+    pub fn differs(&mut self, case: &dyn Debug, given: &dyn Debug, due: &dyn Debug) {
         self.differ += 1;
         if self.differ <= SHOWN {
             println!("{} at {case:?}", self.subject);
-            println!("  given {} {:?}", given.number, given.fields);
-            println!("  due   {} {:?}", due.number, due.fields);
+            println!("  given {given:?}");
+            println!("  due   {due:?}");
         }
     }
 }

@@ -86,9 +86,9 @@ impl Subject {
         let ours = (self.ours)(case);
         row.count(due.number);
         if ours != due {
-            row.differs(case, &ours, &due);
+            row.differs(&case, &ours, &due);
         } else if due != rule {
-            row.differs(case, &due, &rule);
+            row.differs(&case, &due, &rule);
         }
     }
 
