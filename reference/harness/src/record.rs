@@ -9,6 +9,8 @@ use crate::{
 
 /// Rows for each subject.
 const ROWS: usize = 64;
+/// Characters of a row that `rt fmt` leaves on one line.
+const LONGEST_ROW: usize = 60;
 /// About how many cases of each source there are, among which the rows are chosen.
 const CANDIDATES: usize = 2_000;
 
@@ -27,23 +29,26 @@ fn print_subject(subject: &Subject) {
     let width = subject.inputs.len() + 1 + subject.outputs;
     let cases = chosen(subject);
     println!();
-    println!("// {} rows of {width}.", cases.len());
     println!(
-        "pub const {}: [i64; {}] = [",
+        "pub const {}: [[i64; {width}]; {}] = [",
         subject.name.to_uppercase(),
-        cases.len() * width
+        cases.len()
     );
     for case in cases {
-        let due = subject.due(&case);
-        let row: Vec<String> = case
-            .iter()
-            .chain([&i128::from(due.number)])
-            .chain(&due.fields[..subject.outputs])
-            .map(i128::to_string)
-            .collect();
-        println!("    {},", row.join(", "));
+        println!("    {},", row(subject, &case));
     }
     println!("];");
+}
+
+fn row(subject: &Subject, case: &[i128]) -> String {
+    let due = subject.due(case);
+    let numbers: Vec<String> = case
+        .iter()
+        .chain([&i128::from(due.number)])
+        .chain(&due.fields[..subject.outputs])
+        .map(i128::to_string)
+        .collect();
+    format!("[{}]", numbers.join(", "))
 }
 
 /// The named cases, then cases taken in turn from each class: number, and whether any field is
@@ -54,7 +59,9 @@ fn chosen(subject: &Subject) -> Vec<Vec<i128>> {
     let mut random = Random::for_name(&format!("record {}", subject.name));
     let mut classes: BTreeMap<(u32, bool), Vec<Vec<i128>>> = BTreeMap::new();
     for case in candidates(subject, &mut random) {
-        if case.iter().all(|&n| n.unsigned_abs() <= i64::MAX as u128) && seen.insert(case.clone()) {
+        let fits = case.iter().all(|&n| n.unsigned_abs() <= i64::MAX as u128)
+            && row(subject, &case).len() <= LONGEST_ROW;
+        if fits && seen.insert(case.clone()) {
             let due = subject.due(&case);
             let class = (due.number, due.fields.iter().any(|&field| field != 0));
             classes.entry(class).or_default().push(case);
