@@ -9,7 +9,7 @@ use Rattle.numbers.specs.Numbers.{outOfMeasure, notInside, outOfRange}
 use Rattle.numbers.specs.Checks.{Check, always, given, firstOf}
 use Rattle.interval.specs.Powers.{powerBelow}
 use Rattle.region.specs.Measures.{measured, pictured}
-use Rattle.region.specs.Regions.{inside, zeroRegion}
+use Rattle.region.specs.Regions.{columns, rows, isEmpty, inside, contains, translated, intersected, paddedBy, downsampled, alignedTo, zeroRegion}
 use Rattle.region.specs.declared.Region.{Region}
 use Rattle.region.specs.declared.RegionAnswer.{RegionAnswer}
 use Rattle.region.specs.declared.BoolAnswer.{BoolAnswer}
@@ -67,6 +67,40 @@ placedAnswer n image filter = record {
 -- the number of a region that results
 unfoldable pub judgedNumber : Region → ℕ
 judgedNumber r = firstOf (givenChecks r)
+
+-- ---- the outcome of each public function, for every input
+
+abbrev pub isEmptyOutcome : Region → BoolAnswer
+isEmptyOutcome r = boolAnswer (firstOf (givenChecks r)) (isEmpty r)
+
+-- the column past the last
+abbrev pub rightOutcome : Region → EdgeAnswer
+rightOutcome r = edgeAnswer (firstOf (givenChecks r)) (columns r .end)
+
+-- the row past the last
+abbrev pub bottomOutcome : Region → EdgeAnswer
+bottomOutcome r = edgeAnswer (firstOf (givenChecks r)) (rows r .end)
+
+abbrev pub containsOutcome : Region → Region → BoolAnswer
+containsOutcome r target = boolAnswer (firstOf (pairChecks r target)) (contains r target)
+
+abbrev pub translateOutcome : Region → ℤ → ℤ → RegionAnswer
+translateOutcome r x y = regionAnswer (firstOf (resultChecks r (translated x y r))) (translated x y r)
+
+abbrev pub intersectionOutcome : Region → Region → RegionAnswer
+intersectionOutcome a b = regionAnswer (firstOf (pairChecks a b)) (intersected a b)
+
+abbrev pub padOutcome : Region → ℕ → RegionAnswer
+padOutcome r size = regionAnswer (firstOf (resultChecks r (paddedBy size r))) (paddedBy size r)
+
+abbrev pub downsampleOutcome : Region → ℕ → RegionAnswer
+downsampleOutcome r factor = regionAnswer (firstOf (settingChecks r (isFactor factor) (downsampled factor r))) (downsampled factor r)
+
+abbrev pub alignedOutcome : Region → ℕ → RegionAnswer
+alignedOutcome r dim = regionAnswer (firstOf (settingChecks r (isAlignment dim) (alignedTo dim r))) (alignedTo dim r)
+
+abbrev pub placedOutcome : Region → Region → PlacedAnswer
+placedOutcome image filter = placedAnswer (firstOf (placedChecks image filter)) image filter
 
 -- ---- laws: the number given, by which test failed first
 

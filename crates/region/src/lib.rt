@@ -6,17 +6,15 @@ use numbers::NOT_INSIDE;
 use numbers::OUT_OF_MEASURE;
 use numbers::OUT_OF_RANGE;
 ghost use mathlib.Core.Path.{_≡_};
-ghost use mathlib.Core.Bool.{false, _&&_};
-ghost use Prim.Native.Nat.{ℕ, _+_, _*_, _≤_, _<_, _^_};
-ghost use lib.Dec.{T, leb};
+ghost use mathlib.Core.Bool.{false};
+ghost use Prim.Native.Nat.{_<_};
+ghost use lib.Dec.{T};
 ghost use lib.IntN.{pos};
 ghost use lib.Signed.{mag};
-ghost use Rattle.numbers.specs.Numbers.{outOfMeasure, outOfRange};
-ghost use Rattle.numbers.specs.Checks.{firstOf};
 ghost use Rattle.interval.specs.Interval.{measured as measuredSpan};
 ghost use Rattle.region.specs.Measures.{measured, pictured, areaFits};
-ghost use Rattle.region.specs.Regions.{columns, rows, regionOf, isEmpty, inside, contains, translated, intersected, paddedBy, downsampled, alignedTo, zeroRegion};
-ghost use Rattle.region.specs.Answers.{regionAnswer, boolAnswer, edgeAnswer, placedAnswer, givenChecks, pairChecks, resultChecks, settingChecks, placedChecks, isFactor, isAlignment, judgedNumber};
+ghost use Rattle.region.specs.Regions.{columns, rows, regionOf, isEmpty, inside, contains, intersected, zeroRegion};
+ghost use Rattle.region.specs.Answers.{regionAnswer, boolAnswer, edgeAnswer, judgedNumber, isAlignment, isEmptyOutcome, rightOutcome, bottomOutcome, containsOutcome, translateOutcome, intersectionOutcome, padOutcome, downsampleOutcome, alignedOutcome, placedOutcome};
 
 #[repr(C)]
 pub struct Region {
@@ -179,7 +177,7 @@ fn no_edge(number: u32) -> EdgeAnswer
 impl Region {
     // A side of 0.
     pub fn is_empty(self) -> BoolAnswer
-        ensures { λ r. ⌜ r ≡ boolAnswer (firstOf (givenChecks self)) (isEmpty self) ⌝ }
+        ensures { λ r. ⌜ r ≡ isEmptyOutcome self ⌝ }
     {
         if !measured(self) {
             return untold(OUT_OF_MEASURE);
@@ -189,7 +187,7 @@ impl Region {
 
     // The column past the last.
     pub fn right(self) -> EdgeAnswer
-        ensures { λ r. ⌜ r ≡ edgeAnswer (firstOf (givenChecks self)) (columns self .end) ⌝ }
+        ensures { λ r. ⌜ r ≡ rightOutcome self ⌝ }
     {
         if !measured(self) {
             return no_edge(OUT_OF_MEASURE);
@@ -199,7 +197,7 @@ impl Region {
 
     // The row past the last.
     pub fn bottom(self) -> EdgeAnswer
-        ensures { λ r. ⌜ r ≡ edgeAnswer (firstOf (givenChecks self)) (rows self .end) ⌝ }
+        ensures { λ r. ⌜ r ≡ bottomOutcome self ⌝ }
     {
         if !measured(self) {
             return no_edge(OUT_OF_MEASURE);
@@ -208,7 +206,7 @@ impl Region {
     }
 
     pub fn contains(self, target: Region) -> BoolAnswer
-        ensures { λ r. ⌜ r ≡ boolAnswer (firstOf (pairChecks self target)) (contains self target) ⌝ }
+        ensures { λ r. ⌜ r ≡ containsOutcome self target ⌝ }
     {
         if !measured(self) {
             return untold(OUT_OF_MEASURE);
@@ -220,7 +218,7 @@ impl Region {
     }
 
     pub fn translate(self, x: i32, y: i32) -> RegionAnswer
-        ensures { λ r. ⌜ r ≡ regionAnswer (firstOf (resultChecks self (translated x y self))) (translated x y self) ⌝ }
+        ensures { λ r. ⌜ r ≡ translateOutcome self x y ⌝ }
     {
         if !measured(self) {
             return refused(OUT_OF_MEASURE);
@@ -232,7 +230,7 @@ impl Region {
     }
 
     pub fn intersection(self, rhs: Region) -> RegionAnswer
-        ensures { λ r. ⌜ r ≡ regionAnswer (firstOf (pairChecks self rhs)) (intersected self rhs) ⌝ }
+        ensures { λ r. ⌜ r ≡ intersectionOutcome self rhs ⌝ }
     {
         if !measured(self) {
             return refused(OUT_OF_MEASURE);
@@ -244,7 +242,7 @@ impl Region {
     }
 
     pub fn pad(self, size: u32) -> RegionAnswer
-        ensures { λ r. ⌜ r ≡ regionAnswer (firstOf (resultChecks self (paddedBy size self))) (paddedBy size self) ⌝ }
+        ensures { λ r. ⌜ r ≡ padOutcome self size ⌝ }
     {
         if !measured(self) {
             return refused(OUT_OF_MEASURE);
@@ -256,7 +254,7 @@ impl Region {
     }
 
     pub fn downsample(self, factor: u32) -> RegionAnswer
-        ensures { λ r. ⌜ r ≡ regionAnswer (firstOf (settingChecks self (isFactor factor) (downsampled factor self))) (downsampled factor self) ⌝ }
+        ensures { λ r. ⌜ r ≡ downsampleOutcome self factor ⌝ }
     {
         if !measured(self) {
             return refused(OUT_OF_MEASURE);
@@ -271,7 +269,7 @@ impl Region {
     }
 
     pub fn container_aligned(self, grid_dim: u32) -> RegionAnswer
-        ensures { λ r. ⌜ r ≡ regionAnswer (firstOf (settingChecks self (isAlignment «grid_dim») (alignedTo «grid_dim» self))) (alignedTo «grid_dim» self) ⌝ }
+        ensures { λ r. ⌜ r ≡ alignedOutcome self «grid_dim» ⌝ }
     {
         if !measured(self) {
             return refused(OUT_OF_MEASURE);
@@ -352,7 +350,7 @@ fn unplaced(number: u32) -> PlacedAnswer
 
 // Where a filter region lies in an image region, for the passes: 4 where either is no region of a picture, 5 where it is not inside.
 pub fn placed(image: Region, filter: Region) -> PlacedAnswer
-    ensures { λ r. ⌜ r ≡ placedAnswer (firstOf (placedChecks image filter)) image filter ⌝ }
+    ensures { λ r. ⌜ r ≡ placedOutcome image filter ⌝ }
 {
     if !pictured(image) {
         return unplaced(OUT_OF_MEASURE);
