@@ -9,7 +9,7 @@ use lib.Dec.{T, leb, leb→le, le→leb}
 use lib.Ieee.Fits.{and-l, and-r, and-i}
 use lib.IntN.{ℤ, pos, negsuc, natAbs, _+ℤ_, _-ℤ_}
 use lib.Signed.{leZ, mag}
-use Rattle.interval.specs.Order.{above, below, one-side, sum-is, difference-is, size-is, side-mag, mag-add}
+use Rattle.interval.specs.Order.{above, below, one-side, sum-is, difference-is, size-is, side-mag, mag-add, eq-of, le-to, ahead}
 use Rattle.interval.specs.Interval.{spanOf, extent, place, side, measured, axisOf}
 use Rattle.interval.specs.declared.Span.{Span}
 
@@ -88,3 +88,11 @@ axis-ok s = go (measured s) refl
 pub axis-yes : (s : Span) → measured s ≡ true → axisOf s ≡ record { ok = true; start = s .start; len = extent s }
 unfolding axisOf
 axis-yes s e = rw e
+
+-- an interval that is not turned round is the one of its start and extent
+pub span-back : (s : Span) → T (leZ (s .start) (s .end)) → spanOf (s .start) (extent s) ≡ s
+span-back s h = ap (λ (z : ℤ). record { start = s .start; end = z }) (eq-of (s .start +ℤ pos (extent s)) (s .end) arithmetic)
+  where
+    arithmetic : above (s .start +ℤ pos (extent s)) + below (s .end) ≡ above (s .end) + below (s .start +ℤ pos (extent s))
+    arithmetic =
+        omega (arith, sum-is (s .start) (pos (extent s)), size-is (s .end -ℤ s .start), difference-is (s .end) (s .start), ahead (s .start) (s .end) (le-to (s .start) (s .end) h))

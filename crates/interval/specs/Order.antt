@@ -6,7 +6,7 @@ use mathlib.Core.Logic.{_⊎_, inl, inr, ⊎-elim}
 use Prim.Native.Nat.{ℕ, zero, suc, _+_, _-_, _*_, _<_, _≤_}
 use native.Mathlib.Decide.{decLe}
 use native.Mathlib.Omega.{arith}
-use lib.Dec.{T, ltb, leb→le, le→leb}
+use lib.Dec.{T, ltb, leb→le, le→leb, lt→ltb}
 use borrow.Author.Tests.{ltb-true, ltb-false, lt-leb, le-leb}
 use lib.IntN.{ℤ, pos, negsuc, negℤ, natAbs, subℕ, _+ℤ_, _-ℤ_}
 use lib.Signed.{leZ, ltZ, nonNeg, mag}
@@ -234,3 +234,16 @@ above-mag (negsuc n) = omega arith
 pub below-mag : (z : ℤ) → below z ≤ mag z + 1
 below-mag (pos n) = omega arith
 below-mag (negsuc n) = omega arith
+
+pub lt-to : (a b : ℤ) → T (ltZ a b) → above a + below b < above b + below a
+lt-to a b t = not-le b a (lt-not-le a b (true-of (ltZ a b) t))
+  where
+    true-of : (x : Bool) → T x → x ≡ true
+    true-of true t = refl
+    true-of false t = absurd t
+
+pub lt-of : (a b : ℤ) → above a + below b < above b + below a → T (ltZ a b)
+lt-of (pos a) (pos b) h = lt→ltb a b (omega arith)
+lt-of (pos a) (negsuc b) h = absurd (omega arith)
+lt-of (negsuc a) (pos b) h = tt
+lt-of (negsuc a) (negsuc b) h = lt→ltb b a (omega arith)

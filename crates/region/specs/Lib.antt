@@ -1,3 +1,4 @@
 pub mod Regions
 pub mod Measures
 pub mod Answers
+pub mod Laws
