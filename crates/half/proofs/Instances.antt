@@ -2,10 +2,11 @@
 use mathlib.Core.Path.{refl}
 use lib.Ieee.{ofBits, ofFields, odd}
 use lib.Count.{trailingZeros}
-use Rattle.half.specs.Bits.{field}
+use Rattle.half.specs.Bits.{u, field}
 use Rattle.half.specs.Value.{valueOf, halfOf}
+use Rattle.half.specs.Half.{f16}
 use Rattle.half.specs.Instances.{Halves}
 
 pub halves : Halves
-unfolding field valueOf halfOf ofBits ofFields odd trailingZeros
+unfolding u f16 field valueOf halfOf ofBits ofFields odd trailingZeros
 halves = (refl, refl, refl, refl, refl)

@@ -23,7 +23,7 @@ abbrev pub fieldChecks : List ℕ → ℕ → ℕ → List Check
 fieldChecks s p n = always wrongLength (ltb 65536 (length s)) ∷ always bitsRunOut (ltb (length s * 8) (p + n)) ∷ []
 
 -- u(n) of ISO/IEC 18181-1, read at bit p
-abbrev pub u : ℕ → List ℕ → ℕ → Outcome ℕ
+unfoldable pub u : ℕ → List ℕ → ℕ → Outcome ℕ
 u n s p = judged (firstOf (fieldChecks s p n)) (field s p n) (p + n)
 
 -- the document's number and values for each case of the code's enum

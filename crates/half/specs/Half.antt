@@ -4,7 +4,7 @@ use mathlib.Core.List.{List, [], _∷_}
 use lib.Dec.{eqb}
 use lib.Ieee.{Float, ofBits, binary32}
 use Rattle.numbers.specs.Numbers.{halfNotFinite}
-use Rattle.numbers.specs.Checks.{always, firstOf}
+use Rattle.numbers.specs.Checks.{Check, always, firstOf}
 use Rattle.half.specs.Outcome.{Outcome, accepted, refused, judged, andThen, number, value, next}
 use Rattle.half.specs.Bits.{u}
 use Rattle.half.specs.Value.{exponentOf, halfOf}
@@ -12,12 +12,16 @@ use Rattle.half.specs.declared.Half.{Half}
 use Rattle.half.specs.declared.Half.the-variants.{Value, Refused}
 use Rattle.half.specs.declared.HalfAnswer.{HalfAnswer}
 
--- 16 bits as a half: exponent field 31 is refused
+-- exponent field 31, an infinity or a NaN
+abbrev pub halfChecks : ℕ → List Check
+halfChecks h = always halfNotFinite (eqb (exponentOf h) 31) ∷ []
+
+-- 16 bits as a half
 abbrev pub finite : ℕ → ℕ → Outcome Float
-finite h next = judged (firstOf (always halfNotFinite (eqb (exponentOf h) 31) ∷ [])) (halfOf h) next
+finite h next = judged (firstOf (halfChecks h)) (halfOf h) next
 
 -- F16() of ISO/IEC 18181-1, read at bit p
-abbrev pub f16 : List ℕ → ℕ → Outcome Float
+unfoldable pub f16 : List ℕ → ℕ → Outcome Float
 f16 s p = andThen (u 16 s p) finite
 
 -- the document's number and values for each case of the code's enum

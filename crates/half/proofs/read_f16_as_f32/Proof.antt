@@ -5,7 +5,7 @@ use denote.Ref.{now}
 use Prim.Native.Nat.{ℕ}
 use Rattle.half.specs.Outcome.{Outcome, andThen}
 use Rattle.half.specs.Bits.{bitsOutcome}
-use Rattle.half.specs.Half.{finite}
+use Rattle.half.specs.Half.{f16, finite}
 use Rattle.half.proofs.Judged.{u-below}
 use Rattle.half.proofs.read_f16_as_f32.Statement.{statement}
 use Rattle.half.proofs.read_f16_as_f32.Tie as tie
@@ -16,12 +16,14 @@ finite-half-requires c κs =
     (ap bitsOutcome (sym (c .before .half .given .1)) ∙ c .before .before .before .read-bits .ensures)
 
 returns : tie.Need-returns
+unfolding f16
 returns c =
     c .finite-half .ensures
     ∙ ap (λ (o : Outcome ℕ). andThen o finite)
     (ap bitsOutcome (sym (c .before .before .half .given .1)) ∙ c .before .before .before .before .read-bits .ensures)
 
 returns-2 : tie.Need-returns-2
+unfolding f16
 returns-2 c =
     ap (λ (o : Outcome ℕ). andThen o finite) (ap bitsOutcome (sym (c .before .number .given .1)) ∙ c .before .before .before .read-bits .ensures)
 

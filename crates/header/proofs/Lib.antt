@@ -1,0 +1,4 @@
+pub mod Rows
+pub mod Numbered
+pub mod NearZero
+pub mod GaborCases

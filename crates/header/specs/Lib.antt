@@ -1,0 +1,5 @@
+pub mod Fields
+pub mod Gabor
+pub mod EdgeFilter
+pub mod Restoration
+pub mod Pieces

@@ -1,0 +1,51 @@
+-- The pieces in which the code reads the tables: the cases of its enums, and the rows that a function reads.
+use Prim.Native.Nat.{ℕ}
+use mathlib.Core.Bool.{true, _&&_}
+use mathlib.Core.List.{List, [], _∷_}
+use lib.Ieee.{Float}
+use Rattle.half.specs.Outcome.{Outcome, accepted, refused}
+use Rattle.header.specs.Fields.{Fields, bits, half, halves, bundle, yes}
+use Rattle.header.specs.EdgeFilter.{varDct, sigmaOf, quantMul, pass0SigmaScale, pass2SigmaScale, borderSadMul}
+use Rattle.header.specs.declared.Encoding.{Encoding}
+use Rattle.header.specs.declared.EpfSigma.{EpfSigma}
+use Rattle.header.specs.declared.Channel.{Channel}
+use Rattle.header.specs.declared.Channel.the-variants as channel
+use Rattle.header.specs.declared.Place.{Place}
+use Rattle.header.specs.declared.Place.the-variants as place
+use Rattle.header.specs.declared.Sigma.{Sigma}
+use Rattle.header.specs.declared.Sigma.the-variants as sigma
+
+abbrev pub channelOutcome : Channel → Outcome (List Float)
+channelOutcome (channel.Weights w0 w1 next) = accepted (w0 ∷ w1 ∷ []) next
+channelOutcome (channel.Refused n) = refused n
+
+-- a place, beside the values that were filled in on the way to it
+abbrev pub placeOutcome : Place → List Float → Outcome (List Float)
+placeOutcome (place.Next next) values = accepted values next
+placeOutcome (place.Refused n) values = refused n
+
+abbrev pub sigmaOutcome : Sigma → Outcome EpfSigma
+sigmaOutcome (sigma.Value v next) = accepted v next
+sigmaOutcome (sigma.Refused n) = refused n
+
+unfoldable pub sharpFields : Encoding → List Float → Fields (List Float)
+sharpFields e defaults =
+    bits (varDct e) 1 0 λ custom.
+    halves (yes custom) defaults λ lut.
+    bundle lut
+
+unfoldable pub scaleFields : List Float → Fields (List Float)
+scaleFields defaults =
+    bits true 1 0 λ custom.
+    halves (yes custom) defaults λ scale.
+    bits (yes custom) 32 0 λ ignored.
+    bundle scale
+
+unfoldable pub sigmaFields : Encoding → Fields EpfSigma
+sigmaFields e =
+    bits true 1 0 λ custom.
+    half (yes custom && varDct e) quantMul λ quant-mul.
+    half (yes custom) pass0SigmaScale λ pass0-sigma-scale.
+    half (yes custom) pass2SigmaScale λ pass2-sigma-scale.
+    half (yes custom) borderSadMul λ border-sad-mul.
+    bundle (sigmaOf quant-mul pass0-sigma-scale pass2-sigma-scale border-sad-mul)
