@@ -10,6 +10,8 @@ use Rattle.half.specs.Outcome.{Outcome, accepted, refused, andThen}
 use Rattle.half.specs.Bits.{u}
 use Rattle.half.specs.Half.{f16}
 use Rattle.header.specs.Fields.{Fields, bits, half, halves, refuse, bundle, nested, read, f16s, ifThere, yes}
+use Rattle.header.specs.Pieces.{placeOutcome}
+use Rattle.header.specs.declared.Place.{Place}
 
 -- ---- one reading after another
 same : {A B : Type 0} (o : Outcome A) {f g : A → ℕ → Outcome B} → ((a : A) (q : ℕ) → f a q ≡ g a q) → andThen o f ≡ andThen o g
@@ -24,6 +26,9 @@ assoc (refused n) f g = refl
 -- what a call's result says of the definition that the call ensures
 pub told : {E A : Type 0} (f : E → Outcome A) {r v : E} {o : Outcome A} → r ≡ v → f r ≡ o → o ≡ f v
 told f e h = sym h ∙ ap f e
+
+pub told-place : (l : List Float) {r v : Place} {o : Outcome (List Float)} → r ≡ v → placeOutcome r l ≡ o → o ≡ placeOutcome v l
+told-place l e h = sym h ∙ ap (λ (r : Place). placeOutcome r l) e
 
 -- ---- a Bool() field
 pub is-yes : (v : ℕ) → (v ≡ 0 → ⊥) → true ≡ yes v

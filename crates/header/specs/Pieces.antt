@@ -1,13 +1,14 @@
 -- The pieces in which the code reads the tables: the cases of its enums, and the rows that a function reads.
 use Prim.Native.Nat.{ℕ}
-use mathlib.Core.Bool.{true, _&&_}
+use mathlib.Core.Bool.{Bool, true, _&&_}
 use mathlib.Core.List.{List, [], _∷_}
 use lib.Ieee.{Float}
 use Rattle.half.specs.Outcome.{Outcome, accepted, refused}
-use Rattle.header.specs.Fields.{Fields, bits, half, halves, bundle, yes}
-use Rattle.header.specs.EdgeFilter.{varDct, sigmaOf, quantMul, pass0SigmaScale, pass2SigmaScale, borderSadMul}
+use Rattle.header.specs.Fields.{Fields, bits, half, halves, bundle, nested, yes}
+use Rattle.header.specs.EdgeFilter.{varDct, modular, sigmaOf, epfWith, sigmaForModular, quantMul, pass0SigmaScale, pass2SigmaScale, borderSadMul}
 use Rattle.header.specs.declared.Encoding.{Encoding}
 use Rattle.header.specs.declared.EpfSigma.{EpfSigma}
+use Rattle.header.specs.declared.EdgePreservingFilter.{EdgePreservingFilter}
 use Rattle.header.specs.declared.Channel.{Channel}
 use Rattle.header.specs.declared.Channel.the-variants as channel
 use Rattle.header.specs.declared.Place.{Place}
@@ -34,18 +35,32 @@ sharpFields e defaults =
     halves (yes custom) defaults λ lut.
     bundle lut
 
+unfoldable pub customScaleFields : Bool → List Float → Fields (List Float)
+customScaleFields custom defaults =
+    halves custom defaults λ scale.
+    bits custom 32 0 λ ignored.
+    bundle scale
+
 unfoldable pub scaleFields : List Float → Fields (List Float)
 scaleFields defaults =
     bits true 1 0 λ custom.
-    halves (yes custom) defaults λ scale.
-    bits (yes custom) 32 0 λ ignored.
-    bundle scale
+    customScaleFields (yes custom) defaults
+
+unfoldable pub customSigmaFields : Encoding → Bool → Fields EpfSigma
+customSigmaFields e custom =
+    half (custom && varDct e) quantMul λ quant-mul.
+    half custom pass0SigmaScale λ pass0-sigma-scale.
+    half custom pass2SigmaScale λ pass2-sigma-scale.
+    half custom borderSadMul λ border-sad-mul.
+    bundle (sigmaOf quant-mul pass0-sigma-scale pass2-sigma-scale border-sad-mul)
 
 unfoldable pub sigmaFields : Encoding → Fields EpfSigma
 sigmaFields e =
     bits true 1 0 λ custom.
-    half (yes custom && varDct e) quantMul λ quant-mul.
-    half (yes custom) pass0SigmaScale λ pass0-sigma-scale.
-    half (yes custom) pass2SigmaScale λ pass2-sigma-scale.
-    half (yes custom) borderSadMul λ border-sad-mul.
-    bundle (sigmaOf quant-mul pass0-sigma-scale pass2-sigma-scale border-sad-mul)
+    customSigmaFields e (yes custom)
+
+unfoldable pub settingFields : Encoding → ℕ → List Float → List Float → Fields EdgePreservingFilter
+settingFields e iters sharp-lut channel-scale =
+    nested (sigmaFields e) λ sigma.
+    half (modular e) sigmaForModular λ sigma-for-modular.
+    bundle (epfWith iters sharp-lut channel-scale sigma sigma-for-modular)
