@@ -5,17 +5,17 @@ use mathlib.Core.List.{List}
 use mathlib.Core.Path.{_≡_, refl, sym, ap, _∙_}
 use native.Mathlib.Omega.{arith}
 use Rattle.half.specs.Outcome.{Outcome, accepted, refused, number, value, next}
-use Rattle.header.specs.Fields.{Fields, bundle, nested, read, yes}
-use Rattle.header.specs.Gabor.{channelFields, channelsFields, weightFields, gaborFields, gaborOff, gaborAnswer}
-use Rattle.header.specs.EdgeFilter.{parameterFields, epfFields, epfOff, epfAnswer}
+use Rattle.fields.specs.Fields.{Fields, bundle, nested, read, yes}
+use Rattle.gabor_header.specs.Gabor.{channelFields, channelsFields, weightFields, gaborFields, gaborOff, gaborAnswer}
+use Rattle.epf_header.specs.EdgeFilter.{parameterFields, epfFields, epfOff, epfAnswer}
 use Rattle.header.specs.Restoration.{bothOf, restorationFields}
-use Rattle.header.specs.declared.Encoding.{Encoding}
-use Rattle.header.specs.declared.Gabor.{Gabor}
-use Rattle.header.specs.declared.GaborAnswer.{GaborAnswer}
-use Rattle.header.specs.declared.EdgePreservingFilter.{EdgePreservingFilter}
-use Rattle.header.specs.declared.EpfAnswer.{EpfAnswer}
-use Rattle.header.proofs.Rows.{read-nested}
-use Rattle.header.proofs.Numbered.{Numbered, Told, read-told}
+use Rattle.epf_header.specs.declared.Encoding.{Encoding}
+use Rattle.gabor_header.specs.declared.Gabor.{Gabor}
+use Rattle.gabor_header.specs.declared.GaborAnswer.{GaborAnswer}
+use Rattle.epf_header.specs.declared.EdgePreservingFilter.{EdgePreservingFilter}
+use Rattle.epf_header.specs.declared.EpfAnswer.{EpfAnswer}
+use Rattle.fields.proofs.Rows.{read-nested}
+use Rattle.fields.proofs.Numbered.{Numbered, Told, read-told}
 
 -- ---- an outcome from its number
 is-accepted : {A : Type 0} (z : A) (o : Outcome A) → Told o → number o ≡ 0 → o ≡ accepted (value z o) (next o)

@@ -1,5 +1,1 @@
-pub mod Fields
-pub mod Gabor
-pub mod EdgeFilter
 pub mod Restoration
-pub mod Pieces

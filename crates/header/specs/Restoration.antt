@@ -2,12 +2,12 @@
 use Prim.Native.Nat.{ℕ}
 use mathlib.Core.List.{List}
 use Rattle.half.specs.Outcome.{Outcome, number, value, next}
-use Rattle.header.specs.Fields.{Fields, bundle, nested, read}
-use Rattle.header.specs.Gabor.{gaborFields, gaborOff}
-use Rattle.header.specs.EdgeFilter.{epfFields, epfOff}
-use Rattle.header.specs.declared.Gabor.{Gabor}
-use Rattle.header.specs.declared.Encoding.{Encoding}
-use Rattle.header.specs.declared.EdgePreservingFilter.{EdgePreservingFilter}
+use Rattle.fields.specs.Fields.{Fields, bundle, nested, read}
+use Rattle.gabor_header.specs.Gabor.{gaborFields, gaborOff}
+use Rattle.epf_header.specs.EdgeFilter.{epfFields, epfOff}
+use Rattle.gabor_header.specs.declared.Gabor.{Gabor}
+use Rattle.epf_header.specs.declared.Encoding.{Encoding}
+use Rattle.epf_header.specs.declared.EdgePreservingFilter.{EdgePreservingFilter}
 use Rattle.header.specs.declared.RestorationFilter.{RestorationFilter}
 use Rattle.header.specs.declared.RestorationAnswer.{RestorationAnswer}
 

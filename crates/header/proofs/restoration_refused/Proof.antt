@@ -4,7 +4,7 @@ use Rattle.header.proofs.restoration_refused.Statement.{statement}
 use Rattle.header.proofs.restoration_refused.Tie as tie
 
 returns : tie.Need-returns
-returns c = rw (c .epf-off .ensures, c .before .gabor-of .ensures)
+returns c = rw (c .off2 .ensures, c .before .off .ensures)
 
 pub restoration-refused-spec : {M : Type 1} → statement M
 restoration-refused-spec =
