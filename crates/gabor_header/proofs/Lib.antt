@@ -1,2 +1,3 @@
 pub mod NearZero
 pub mod GaborCases
+pub mod Instances
