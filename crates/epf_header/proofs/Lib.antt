@@ -1,0 +1,3 @@
+pub mod Told
+pub mod Halves
+pub mod EpfCases

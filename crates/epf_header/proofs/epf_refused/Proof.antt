@@ -1,0 +1,16 @@
+-- `epf_header::epf_refused` meets its contract. Assumes nothing.
+use borrow.Author.Needs.{needs}
+use mathlib.Core.Path.{ap, _∙_}
+use Rattle.epf_header.proofs.epf_refused.Statement.{statement}
+use Rattle.epf_header.proofs.epf_refused.Tie as tie
+
+returns : tie.Need-returns
+returns c = c .epf-answer .ensures ∙ rw (c .before .off .ensures)
+
+pub epf-refused-spec : {M : Type 1} → statement M
+epf-refused-spec =
+    tie.close
+    (tie.spec
+    (λ c κs. search needs)
+    (λ c κs. search needs)
+    returns)

@@ -1,0 +1,2 @@
+pub mod EdgeFilter
+pub mod Pieces

@@ -1,0 +1,39 @@
+-- The table of the Gabor bundle, case by case as the code reads it. Assumes nothing.
+use Prim.Native.Nat.{ℕ}
+use mathlib.Core.Bool.{Bool, true, false, cond}
+use mathlib.Core.List.{List, [], _∷_}
+use mathlib.Core.Path.{_≡_, refl, sym, ap, _∙_}
+use lib.Ieee.{Float}
+use Rattle.half.specs.Outcome.{Outcome, accepted, refused, andThen}
+use Rattle.half.specs.Bits.{u}
+use Rattle.fields.specs.Fields.{Fields, bundle, nested, read, yes}
+use Rattle.gabor_header.specs.Gabor.{channelFields, channelsFields, weightFields, gaborFields, gaborOff, gaborWith, sideWeight, cornerWeight}
+use Rattle.fields.proofs.Rows.{is-yes, is-no}
+
+abbrev default : List Float
+default = sideWeight ∷ cornerWeight ∷ []
+
+module _ (s : List ℕ) (p : ℕ) where
+  pub gabor-refused : {n : ℕ} → u 1 s p ≡ refused n → refused n ≡ read gaborFields s p
+  unfolding read gaborFields
+  gabor-refused e = rw e
+
+  pub gabor-off : {v q : ℕ} → u 1 s p ≡ accepted v q → v ≡ 0 → accepted gaborOff q ≡ read gaborFields s p
+  unfolding read gaborFields
+  gabor-off {v} {q} e h = rw e (ap (λ (b : Bool). read (cond b weightFields (bundle gaborOff)) s q) (is-no v h))
+
+  pub gabor-on : {v q : ℕ} → u 1 s p ≡ accepted v q → (v ≡ 0 → ⊥) → read weightFields s q ≡ read gaborFields s p
+  unfolding read gaborFields
+  gabor-on {v} {q} e h = rw e (ap (λ (b : Bool). read (cond b weightFields (bundle gaborOff)) s q) (is-yes v h))
+
+  pub custom-refused : {n : ℕ} → u 1 s p ≡ refused n → refused n ≡ read weightFields s p
+  unfolding read weightFields
+  custom-refused e = rw e
+
+  pub custom-off : {v q : ℕ} → u 1 s p ≡ accepted v q → v ≡ 0 → accepted (gaborWith default default default) q ≡ read weightFields s p
+  unfolding read nested channelFields channelsFields weightFields
+  custom-off {v} {q} e h = rw e (ap (λ (b : Bool). read (channelsFields b) s q) (is-no v h))
+
+  pub custom-on : {v q : ℕ} → u 1 s p ≡ accepted v q → (v ≡ 0 → ⊥) → read (channelsFields true) s q ≡ read weightFields s p
+  unfolding read weightFields
+  custom-on {v} {q} e h = rw e (ap (λ (b : Bool). read (channelsFields b) s q) (is-yes v h))

@@ -1,0 +1,3 @@
+pub mod NearZero
+pub mod GaborCases
+pub mod Instances

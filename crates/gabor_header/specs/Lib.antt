@@ -1,0 +1,2 @@
+pub mod Gabor
+pub mod Instances

@@ -1,0 +1,5 @@
+pub mod Significand
+pub mod Fields
+pub mod Widened
+pub mod Judged
+pub mod Instances

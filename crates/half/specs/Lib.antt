@@ -1,0 +1,5 @@
+pub mod Outcome
+pub mod Bits
+pub mod Value
+pub mod Half
+pub mod Instances

@@ -1,0 +1,30 @@
+-- What a reader of the header comes to. Document 01: an accepted reading has number 0, what was read and the next bit place; a refusal has its number and 0 in all else.
+use Prim.Native.Nat.{ℕ}
+use mathlib.Core.Bool.{cond}
+use lib.Dec.{eqb}
+
+pub data Outcome (A : Type 0) : Type 0 where
+  accepted : A → ℕ → Outcome A
+  refused : ℕ → Outcome A
+
+-- the document's three answers, `zero` standing for 0 in all fields of what is read
+abbrev pub number : {A : Type 0} → Outcome A → ℕ
+number (accepted a next) = 0
+number (refused n) = n
+
+abbrev pub value : {A : Type 0} → A → Outcome A → A
+value zero (accepted a next) = a
+value zero (refused n) = zero
+
+abbrev pub next : {A : Type 0} → Outcome A → ℕ
+next (accepted a n) = n
+next (refused n) = 0
+
+-- a reading that a number judges: 0 accepts it
+abbrev pub judged : {A : Type 0} → ℕ → A → ℕ → Outcome A
+judged n a next = cond (eqb n 0) (accepted a next) (refused n)
+
+-- one reading after another: the second starts where the first ended, and a refusal ends all
+abbrev pub andThen : {A B : Type 0} → Outcome A → (A → ℕ → Outcome B) → Outcome B
+andThen (accepted a next) k = k a next
+andThen (refused n) k = refused n

@@ -1,0 +1,84 @@
+-- One bundle after the other, told apart by the number of its answer. Assumes nothing.
+use Prim.Native.Nat.{ℕ, _<_}
+use mathlib.Core.Bool.{Bool, true, false, cond}
+use mathlib.Core.List.{List}
+use mathlib.Core.Path.{_≡_, refl, sym, ap, _∙_}
+use native.Mathlib.Omega.{arith}
+use Rattle.half.specs.Outcome.{Outcome, accepted, refused, number, value, next}
+use Rattle.fields.specs.Fields.{Fields, bundle, nested, read, yes}
+use Rattle.gabor_header.specs.Gabor.{channelFields, channelsFields, weightFields, gaborFields, gaborOff, gaborAnswer}
+use Rattle.epf_header.specs.EdgeFilter.{parameterFields, epfFields, epfOff, epfAnswer}
+use Rattle.header.specs.Restoration.{bothOf, restorationFields}
+use Rattle.epf_header.specs.declared.Encoding.{Encoding}
+use Rattle.gabor_header.specs.declared.Gabor.{Gabor}
+use Rattle.gabor_header.specs.declared.GaborAnswer.{GaborAnswer}
+use Rattle.epf_header.specs.declared.EdgePreservingFilter.{EdgePreservingFilter}
+use Rattle.epf_header.specs.declared.EpfAnswer.{EpfAnswer}
+use Rattle.fields.proofs.Rows.{read-nested}
+use Rattle.fields.proofs.Numbered.{Numbered, Told, read-told}
+
+-- ---- an outcome from its number
+is-accepted : {A : Type 0} (z : A) (o : Outcome A) → Told o → number o ≡ 0 → o ≡ accepted (value z o) (next o)
+is-accepted z (accepted a q) h e = refl
+is-accepted z (refused n) h e = absurd (none n h e)
+  where
+    none : (n : ℕ) → 0 < n → n ≡ 0 → ⊥
+    none n h e = omega arith
+
+is-refused : {A : Type 0} (o : Outcome A) → (number o ≡ 0 → ⊥) → o ≡ refused (number o)
+is-refused (accepted a q) h = absurd (h refl)
+is-refused (refused n) h = refl
+
+-- ---- the two tables
+numbered-gabor : Numbered gaborFields
+unfolding Numbered nested channelFields channelsFields weightFields gaborFields
+numbered-gabor v = by (yes v)
+  where
+    by : (b : Bool) → Numbered (cond b weightFields (bundle gaborOff))
+    by true = λ custom x0 x1. (omega arith, λ y0 y1. (omega arith, λ b0 b1. (omega arith, tt)))
+    by false = tt
+
+numbered-epf : (e : Encoding) → Numbered (epfFields e)
+unfolding Numbered parameterFields epfFields
+numbered-epf e v = by (yes v)
+  where
+    by : (b : Bool) → Numbered (cond b (parameterFields e v) (bundle epfOff))
+    by true = λ a b c d f g h i j k l. tt
+    by false = tt
+
+-- ---- what an answer says
+module _ (s : List ℕ) (p : ℕ) where
+  module _ (a : GaborAnswer) (is : a ≡ gaborAnswer (read gaborFields s p)) where
+    pub gabor-accepted : a .number ≡ 0 → read gaborFields s p ≡ accepted (a .gabor) (a .next)
+    gabor-accepted h =
+        is-accepted gaborOff (read gaborFields s p) (read-told gaborFields numbered-gabor s p) (sym (ap (λ (b : GaborAnswer). b .number) is) ∙ h)
+        ∙ sym (ap (λ (b : GaborAnswer). accepted (b .gabor) (b .next)) is)
+
+    pub gabor-refused : (a .number ≡ 0 → ⊥) → read gaborFields s p ≡ refused (a .number)
+    gabor-refused h =
+        is-refused (read gaborFields s p) (λ e. h (ap (λ (b : GaborAnswer). b .number) is ∙ e)) ∙ sym (ap (λ (b : GaborAnswer). refused (b .number)) is)
+
+  module _ (e : Encoding) (a : EpfAnswer) (is : a ≡ epfAnswer (read (epfFields e) s p)) where
+    pub epf-accepted : a .number ≡ 0 → read (epfFields e) s p ≡ accepted (a .epf) (a .next)
+    epf-accepted h =
+        is-accepted epfOff (read (epfFields e) s p) (read-told (epfFields e) (numbered-epf e) s p) (sym (ap (λ (b : EpfAnswer). b .number) is) ∙ h)
+        ∙ sym (ap (λ (b : EpfAnswer). accepted (b .epf) (b .next)) is)
+
+    pub epf-refused : (a .number ≡ 0 → ⊥) → read (epfFields e) s p ≡ refused (a .number)
+    epf-refused h =
+        is-refused (read (epfFields e) s p) (λ z. h (ap (λ (b : EpfAnswer). b .number) is ∙ z)) ∙ sym (ap (λ (b : EpfAnswer). refused (b .number)) is)
+
+  -- ---- both
+  module _ (e : Encoding) where
+    pub first-refused : {n : ℕ} → read gaborFields s p ≡ refused n → refused n ≡ read (restorationFields e) s p
+    unfolding read restorationFields
+    first-refused h = rw (read-nested, h)
+
+    pub second-refused : {g : Gabor} {q n : ℕ} → read gaborFields s p ≡ accepted g q → read (epfFields e) s q ≡ refused n → refused n ≡ read (restorationFields e) s p
+    unfolding read restorationFields
+    second-refused h k = rw (read-nested, h, read-nested, k)
+
+    pub both : {g : Gabor} {f : EdgePreservingFilter} {q r : ℕ} → read gaborFields s p ≡ accepted g q → read (epfFields e) s q ≡ accepted f r
+        → accepted (bothOf g f) r ≡ read (restorationFields e) s p
+    unfolding read restorationFields
+    both h k = rw (read-nested, h, read-nested, k)

@@ -1,0 +1,28 @@
+-- Both bundles in sequence, as `RestorationFilter` has them (without `all_default` and extensions).
+use Prim.Native.Nat.{ℕ}
+use mathlib.Core.List.{List}
+use Rattle.half.specs.Outcome.{Outcome, number, value, next}
+use Rattle.fields.specs.Fields.{Fields, bundle, nested, read}
+use Rattle.gabor_header.specs.Gabor.{gaborFields, gaborOff}
+use Rattle.epf_header.specs.EdgeFilter.{epfFields, epfOff}
+use Rattle.gabor_header.specs.declared.Gabor.{Gabor}
+use Rattle.epf_header.specs.declared.Encoding.{Encoding}
+use Rattle.epf_header.specs.declared.EdgePreservingFilter.{EdgePreservingFilter}
+use Rattle.header.specs.declared.RestorationFilter.{RestorationFilter}
+use Rattle.header.specs.declared.RestorationAnswer.{RestorationAnswer}
+
+abbrev pub bothOf : Gabor → EdgePreservingFilter → RestorationFilter
+bothOf g f = record { gabor = g; epf = f }
+
+unfoldable pub restorationFields : Encoding → Fields RestorationFilter
+restorationFields e =
+    nested gaborFields λ gabor.
+    nested (epfFields e) λ epf.
+    bundle (bothOf gabor epf)
+
+abbrev pub restorationAt : Encoding → List ℕ → ℕ → Outcome RestorationFilter
+restorationAt e = read (restorationFields e)
+
+-- number, fields and next place; a refusal has 0 in all fields
+abbrev pub restorationAnswer : Outcome RestorationFilter → RestorationAnswer
+restorationAnswer o = record { number = number o; filter = value (bothOf gaborOff epfOff) o; next = next o }

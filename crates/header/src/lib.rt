@@ -1,0 +1,57 @@
+// Both filter bundles of a frame header in sequence, as `RestorationFilter` has them (without `all_default` and extensions).
+ghost use mathlib.Core.Path.{_≡_};
+ghost use Rattle.half.specs.Outcome.{refused};
+ghost use Rattle.header.specs.Restoration.{restorationAt, restorationAnswer};
+use epf_header::EdgePreservingFilter;
+use epf_header::Encoding;
+use gabor_header::Gabor;
+
+#[repr(C)]
+pub struct RestorationFilter {
+    pub gabor: Gabor,
+    pub epf: EdgePreservingFilter,
+}
+
+#[repr(C)]
+pub struct RestorationAnswer {
+    pub number: u32,
+    pub filter: RestorationFilter,
+    pub next: usize,
+}
+
+fn restoration_refused(number: u32) -> RestorationAnswer
+    ensures { λ r. ⌜ r ≡ restorationAnswer (refused number) ⌝ }
+{
+    let gabor = Gabor::off();
+    let epf = EdgePreservingFilter::off();
+    let filter = RestorationFilter { gabor, epf };
+    RestorationAnswer {
+        number,
+        filter,
+        next: 0,
+    }
+}
+
+impl RestorationFilter {
+    pub fn parse(bytes: &[u8], at: usize, encoding: Encoding) -> RestorationAnswer
+        ensures { λ r. ⌜ r ≡ restorationAnswer (restorationAt encoding (now (bytes .entry)) at) ⌝ }
+    {
+        let first = Gabor::parse(bytes, at);
+        if first.number != numbers::ACCEPTED {
+            return restoration_refused(first.number);
+        }
+        let after = first.next;
+        let second = EdgePreservingFilter::parse(bytes, after, encoding);
+        if second.number != numbers::ACCEPTED {
+            return restoration_refused(second.number);
+        }
+        let gabor = first.gabor;
+        let epf = second.epf;
+        let filter = RestorationFilter { gabor, epf };
+        RestorationAnswer {
+            number: numbers::ACCEPTED,
+            filter,
+            next: second.next,
+        }
+    }
+}
