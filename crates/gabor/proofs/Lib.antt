@@ -1,1 +1,1 @@
-pub mod Kernel
+pub mod Mirrored

@@ -1,7 +1,7 @@
 pub mod Ends
 pub mod Formula
 pub mod Gabor
-pub mod Kernel
+pub mod Mirrored
 pub mod Local
 pub mod Rows
 pub mod Instances

@@ -1,1 +1,3 @@
-// The Gabor-like pass.
+// The Gabor-like pass of the restoration filters over rows of a filter region that lies anywhere in an image region.
+mod kernel;
+mod rows;

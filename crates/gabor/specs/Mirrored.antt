@@ -109,7 +109,7 @@ Linear f = counted (coefficients f) ≡ number (expand f)
     number [] = 0
     number (t ∷ ts) = suc (number ts)
 
--- ---- the statements, proved in proofs/Kernel.antt
+-- ---- the statements, proved in proofs/Mirrored.antt
 
 -- a row other than the only one: the formula has the coefficients of the mirrored kernel, and no other term
 abbrev pub IsMirrored : End → End → Type 0
