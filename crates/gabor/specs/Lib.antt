@@ -4,4 +4,5 @@ pub mod Gabor
 pub mod Mirrored
 pub mod Local
 pub mod Rows
+pub mod Pass
 pub mod Instances
