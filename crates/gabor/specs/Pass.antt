@@ -14,9 +14,9 @@ use Rattle.planes.specs.Sets.{of}
 use Rattle.planes.specs.Rect.{rowsFill, planesFill, planes-turn, rows-cong}
 use Rattle.planes.specs.Band.{inner, passed, copiedOutside, filterRow}
 use Rattle.planes.specs.Stored.{LayoutFits, BandFits, passed-over, fits-copied}
-use Rattle.gabor.specs.Ends.{stands}
-use Rattle.gabor.specs.Gabor.{total, gabor, sideWeight, diagonalWeight, gaborPass}
-use Rattle.gabor.specs.Local.{scaled-same}
+use Rattle.gabor_kernel.specs.Ends.{stands}
+use Rattle.gabor_kernel.specs.Gabor.{total, gabor, sideWeight, diagonalWeight, gaborPass}
+use Rattle.gabor_kernel.specs.Local.{scaled-same}
 use Rattle.gabor.specs.Rows.{region, regionSample, RegionFits}
 
 -- rows of a region, counted from row `from`

@@ -14,22 +14,13 @@ use lib.Ieee.{Float, nan}
 use Rattle.mirror.specs.Mirror.{mirror}
 use Rattle.planes.specs.Picture.{Picture, around}
 use Rattle.planes.specs.Fill.{fill, row-of-one, row-of-more}
-use Rattle.gabor.specs.Ends.{End, only, first, last, inner, stands, stands-only, stands-first, stands-last, stands-inner, before-first, before-other, after-last, after-other, itself}
-use Rattle.gabor.specs.Formula.{value, formula}
-use Rattle.gabor.specs.Gabor.{alone, scaled}
-use Rattle.gabor.specs.Local.{scaled-same}
+use Rattle.gabor_kernel.specs.Ends.{End, only, first, last, inner, stands, stands-only, stands-first, stands-last, stands-inner, before-first, before-other, after-last, after-other, itself}
+use Rattle.gabor_kernel.specs.Formula.{value, formula}
+use Rattle.gabor_kernel.specs.Gabor.{alone, scaled}
+use Rattle.gabor_kernel.specs.Nine.{pick, nine}
+use Rattle.gabor_kernel.specs.Local.{scaled-same}
 
 -- ---- readers over indices
-
--- one of three by an offset of −1, 0 or 1
-unfoldable pub pick : {A : Type 0} → A → A → A → ℤ → A
-pick a b c (pos zero) = b
-pick a b c (pos (suc n)) = c
-pick a b c (negsuc n) = a
-
--- nine samples: the rows above, here and below, each from left to right
-unfoldable pub nine : Float → Float → Float → Float → Float → Float → Float → Float → Float → ℤ → ℤ → Float
-nine t0 t1 t2 c0 c1 c2 b0 b1 b2 = λ dx dy. pick (pick t0 t1 t2 dx) (pick c0 c1 c2 dx) (pick b0 b1 b2 dx) dy
 
 -- those at columns l, m and r of the rows that start at t, c and b of a list
 abbrev pub taps : List Float → ℕ → ℕ → ℕ → ℕ → ℕ → ℕ → ℤ → ℤ → Float

@@ -1,4 +1,4 @@
 // The Gabor-like pass of the restoration filters over rows of a filter region that lies anywhere in an image region.
-mod kernel;
 mod pass;
+mod reads;
 mod rows;

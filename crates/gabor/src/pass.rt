@@ -1,6 +1,6 @@
 // The Gabor-like pass: rows of one plane, of several planes, and a band with what lies outside the filter region.
-use crate::kernel::global_weight;
 use crate::rows::region_row;
+use gabor_kernel::global_weight;
 use planes::Layout;
 use planes::copy_outside;
 use planes::filter_row;
@@ -10,7 +10,7 @@ ghost use lib.ListN.{length};
 ghost use Rattle.planes.specs.Rect.{rowsFill, planesFill};
 ghost use Rattle.planes.specs.Band.{inner, passed};
 ghost use Rattle.planes.specs.Stored.{LayoutFits, BandFits};
-ghost use Rattle.gabor.specs.Gabor.{total, gaborPass};
+ghost use Rattle.gabor_kernel.specs.Gabor.{total, gaborPass};
 ghost use Rattle.gabor.specs.Rows.{RegionFits};
 ghost use Rattle.gabor.specs.Pass.{regionRows, passRows};
 

@@ -1,17 +1,17 @@
 // Rows of the Gabor-like filter: loops that store what the kernel functions compute.
 // Each row is written at index o; c is its start in `src`, and w its number of columns.
-use crate::kernel::edge_at;
-use crate::kernel::edge_end;
-use crate::kernel::edge_lone;
-use crate::kernel::lone_at;
-use crate::kernel::solo_at;
-use crate::kernel::solo_end;
-use crate::kernel::tap_at;
+use crate::reads::edge_at;
+use crate::reads::edge_end;
+use crate::reads::edge_lone;
+use crate::reads::lone_at;
+use crate::reads::solo_at;
+use crate::reads::solo_end;
+use crate::reads::tap_at;
 ghost use mathlib.Core.Path.{_≡_};
 ghost use Prim.Native.Nat.{_+_, _*_, _<_, _≤_};
 ghost use lib.ListN.{length};
 ghost use Rattle.planes.specs.Fill.{fill};
-ghost use Rattle.gabor.specs.Ends.{only, first, inner};
+ghost use Rattle.gabor_kernel.specs.Ends.{only, first, inner};
 ghost use Rattle.gabor.specs.Rows.{innerSample, rowSample, regionSample, RegionFits};
 
 // n columns that have neighbours on both sides, of a row between the rows at t and b.

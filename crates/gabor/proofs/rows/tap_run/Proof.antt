@@ -4,7 +4,7 @@ use Prim.Native.Nat.{_+_, _-_, _≤_}
 use native.Mathlib.Omega.{arith}
 use lib.ListN.{length, length-set}
 use Rattle.planes.specs.Fill.{fill, fill-turn, fill-end}
-use Rattle.gabor.specs.Ends.{inner}
+use Rattle.gabor_kernel.specs.Ends.{inner}
 use Rattle.gabor.specs.Rows.{innerSample}
 use Rattle.gabor.proofs.rows.tap_run.Statement.{statement}
 use Rattle.gabor.proofs.rows.tap_run.Tie as tie

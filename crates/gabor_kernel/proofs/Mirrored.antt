@@ -6,9 +6,9 @@ use native.Mathlib.Omega.{arith}
 use borrow.Author.Tests.{le-ltb}
 use lib.IntN.{ℤ, pos, negsuc, _+ℤ_}
 use Rattle.mirror.specs.Mirror.{mirror}
-use Rattle.gabor.specs.Ends.{End, only, first, last, inner, stands, stands-only, stands-first, stands-last, stands-inner, before-first, before-other, after-last, after-other, itself}
-use Rattle.gabor.specs.Formula.{formula}
-use Rattle.gabor.specs.Mirrored.{fold, expand, KernelMirrored, SingleRowDiffers, AloneCopied, FoldMirrors}
+use Rattle.gabor_kernel.specs.Ends.{End, only, first, last, inner, stands, stands-only, stands-first, stands-last, stands-inner, before-first, before-other, after-last, after-other, itself}
+use Rattle.gabor_kernel.specs.Formula.{formula}
+use Rattle.gabor_kernel.specs.Mirrored.{fold, expand, KernelMirrored, SingleRowDiffers, AloneCopied, FoldMirrors}
 
 pub kernel-mirrored : KernelMirrored
 unfolding fold expand formula

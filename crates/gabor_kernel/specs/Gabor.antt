@@ -7,8 +7,8 @@ use lib.IntN.{ℤ, pos}
 use lib.Ieee.{Float, nan}
 use Rattle.planes.specs.Samples.{_⊕_, _⊗_, _⊘_, b1, b4}
 use Rattle.planes.specs.Picture.{Picture, around}
-use Rattle.gabor.specs.Ends.{End, only, first, last, inner, stands}
-use Rattle.gabor.specs.Formula.{value, formula}
+use Rattle.gabor_kernel.specs.Ends.{End, only, first, last, inner, stands}
+use Rattle.gabor_kernel.specs.Formula.{value, formula}
 
 -- the reciprocal of the kernel's sum, (1 + w0 × 4) + w1 × 4
 abbrev pub total : Float → Float → Float

@@ -7,9 +7,9 @@ use Rattle.mirror.specs.Mirror.{mirror}
 use Rattle.planes.specs.Samples.{bits, b0, b1, b2, b4}
 use Rattle.planes.specs.Picture.{around}
 use Rattle.planes.specs.Sets.{of, setOf, tab}
-use Rattle.gabor.specs.Ends.{stands}
-use Rattle.gabor.specs.Formula.{value, formula}
-use Rattle.gabor.specs.Gabor.{alone, scaled, gaborPass}
+use Rattle.gabor_kernel.specs.Ends.{stands}
+use Rattle.gabor_kernel.specs.Formula.{value, formula}
+use Rattle.gabor_kernel.specs.Gabor.{alone, scaled, gaborPass}
 
 -- 14.0 and 16.0
 abbrev b14 : Float

@@ -3,7 +3,7 @@
 use lib.IntN.{ℤ, pos, negsuc}
 use lib.Ieee.{Float}
 use Rattle.planes.specs.Samples.{_⊕_, _⊗_, b1, b2, b3}
-use Rattle.gabor.specs.Ends.{End, only, first, last, inner}
+use Rattle.gabor_kernel.specs.Ends.{End, only, first, last, inner}
 
 infixl 60 _⊞_
 infixl 70 _⊠_

@@ -7,9 +7,9 @@ use lib.Dec.{T, leb, leb→le}
 use lib.IntN.{ℤ, pos, negsuc, natAbs}
 use lib.Ieee.{Float}
 use lib.Ieee.Fits.{and-l, and-r}
-use Rattle.gabor.specs.Ends.{End, only, first, last, inner}
-use Rattle.gabor.specs.Formula.{Formula, one, two, three, w0, w1, sample, _⊞_, _⊠_, value, formula}
-use Rattle.gabor.specs.Gabor.{alone, scaled}
+use Rattle.gabor_kernel.specs.Ends.{End, only, first, last, inner}
+use Rattle.gabor_kernel.specs.Formula.{Formula, one, two, three, w0, w1, sample, _⊞_, _⊠_, value, formula}
+use Rattle.gabor_kernel.specs.Gabor.{alone, scaled}
 
 -- two samples that see the same within one column and one row
 abbrev pub Alike : (ℤ → ℤ → Float) → (ℤ → ℤ → Float) → Type 0
