@@ -24,7 +24,7 @@ use Rattle.planes.specs.declared.Layout.{Layout}
 use Rattle.planes.specs.Band.{layoutFits, setFits, rowsFit}
 use Rattle.planes.specs.Stored.{LayoutFits}
 use Rattle.layout.specs.declared.LayoutAnswer.{LayoutAnswer}
-use Rattle.layout.specs.Outcome.{layoutOf, noLayout, layoutAnswer, layoutOutcome, passChecks}
+use Rattle.layout.specs.Outcome.{layoutOf, noLayout, layoutAnswer, layoutOutcome, passChecks, PassOutcome, passOutcome}
 
 -- a part that lies inside, an axis at a time
 part-fits : (a b : ℤ) (n m : ℕ) → T (leZ a b) → T (leZ (b +ℤ pos m) (a +ℤ pos n)) → natAbs (b -ℤ a) + m ≤ n
@@ -147,12 +147,32 @@ answer-refused image filter full p a e h q =
 
 pub answer-accepted : (image filter : Region) (full : Bool) (p : PlacedAnswer) → p ≡ placedOutcome image filter → p .number ≡ 0
     → _≡_ {A = LayoutAnswer} (record {
-        number = 0;
-        layout = record { image = record { width = image .width; height = image .height }; left = p .x; top = p .y; width = filter .width; height = filter .height; full = full };
-      }) (layoutOutcome image filter full)
+      number = 0;
+      layout = record { image = record { width = image .width; height = image .height }; left = p .x; top = p .y; width = filter .width; height = filter .height; full = full };
+    }) (layoutOutcome image filter full)
 unfolding layoutAnswer layoutOf
 answer-accepted image filter full p e h =
     let k : firstOf (placedChecks image filter) ≡ 0 = sym (ap (λ (z : PlacedAnswer). z .number) e) ∙ h in
     let x : p .x ≡ natAbs (filter .left -ℤ image .left) = ap (λ (z : PlacedAnswer). z .x) e ∙ rw k in
     let y : p .y ≡ natAbs (filter .top -ℤ image .top) = ap (λ (z : PlacedAnswer). z .y) e ∙ rw k in
     rw (k, x, y)
+
+-- ---- for passes: a is the answer, and the pass's number and target follow
+
+pub answer-number : (image filter : Region) (full : Bool) (a : LayoutAnswer) → a ≡ layoutOutcome image filter full → a .number ≡ firstOf (placedChecks image filter)
+unfolding layoutAnswer
+answer-number image filter full a e = ap (λ (z : LayoutAnswer). z .number) e
+
+pub answer-layout : (image filter : Region) (full : Bool) (a : LayoutAnswer) → a ≡ layoutOutcome image filter full → a .number ≡ 0 → a .layout ≡ layoutOf image filter full
+unfolding layoutAnswer
+answer-layout image filter full a e h =
+    let k : firstOf (placedChecks image filter) ≡ 0 = sym (answer-number image filter full a e) ∙ h in
+    ap (λ (z : LayoutAnswer). z .layout) e ∙ rw k
+
+pub pass-refused : (k n : ℕ) (left dst : List Float) → k ≡ n → (k ≡ 0 → ⊥) → _≡_ {A = PassOutcome} (record { number = k; target = dst }) (passOutcome n left dst)
+unfolding passOutcome
+pass-refused k n left dst e h = let m : eqb n 0 ≡ false = ne-eqb n 0 (λ (z : n ≡ 0). h (e ∙ z)) in rw (m, e)
+
+pub pass-done : (n : ℕ) (left dst b : List Float) → 0 ≡ n → b ≡ left → _≡_ {A = PassOutcome} (record { number = 0; target = b }) (passOutcome n left dst)
+unfolding passOutcome
+pass-done n left dst b e h = rw (← e, h)

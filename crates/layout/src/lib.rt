@@ -1,8 +1,9 @@
 // Where a filter region lies in the planes of an image region: what every pass takes from the two regions.
 use numbers::ACCEPTED;
-use planes::{Layout, Size};
-use region::{Region, placed};
-
+use planes::Layout;
+use planes::Size;
+use region::Region;
+use region::placed;
 ghost use mathlib.Core.Path.{_≡_};
 ghost use Rattle.layout.specs.Outcome.{layoutOutcome, noLayout};
 
@@ -14,7 +15,10 @@ pub struct LayoutAnswer {
 fn refused(number: u32) -> LayoutAnswer
     ensures { λ a. ⌜ a ≡ record { number = number; layout = noLayout } ⌝ }
 {
-    let image = Size { width: 0, height: 0 };
+    let image = Size {
+        width: 0,
+        height: 0,
+    };
     let layout = Layout {
         image,
         left: 0,
