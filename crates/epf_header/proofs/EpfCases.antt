@@ -1,14 +1,14 @@
 -- The table of the edge-preserving filter bundle, piece by piece and case by case as the code reads it. Assumes nothing.
 use Prim.Native.Nat.{ℕ}
-use mathlib.Core.Bool.{Bool, true, false, cond}
-use mathlib.Core.List.{List, [], _∷_}
-use mathlib.Core.Path.{_≡_, refl, sym, ap, _∙_}
+use mathlib.Core.Bool.{Bool, true, cond}
+use mathlib.Core.List.{List}
+use mathlib.Core.Path.{_≡_, refl, ap, _∙_}
 use lib.ListN.{length}
 use lib.Ieee.{Float}
 use Rattle.half.specs.Outcome.{Outcome, accepted, refused, andThen}
 use Rattle.half.specs.Bits.{u}
 use Rattle.half.specs.Half.{f16}
-use Rattle.fields.specs.Fields.{Fields, bundle, halves, nested, read, f16s, ifThere, yes}
+use Rattle.fields.specs.Fields.{bundle, nested, read, f16s, ifThere}
 use Rattle.epf_header.specs.EdgeFilter.{varDct, modular, sharpLut, channelScale, quantMul, pass0SigmaScale, pass2SigmaScale, borderSadMul, sigmaForModular, sigmaOf, epfOff, epfWith, parameterFields, epfFields}
 use Rattle.epf_header.specs.Pieces.{sharpFields, customScaleFields, scaleFields, customSigmaFields, sigmaFields, settingFields}
 use Rattle.epf_header.specs.declared.Encoding.{Encoding}

@@ -1,6 +1,6 @@
 -- Halves one after another, as the loop of `read_halves` goes along them. Assumes nothing.
 use Prim.Native.Nat.{ℕ, zero, suc, _+_, _-_, _<_, _≤_}
-use mathlib.Core.List.{List, [], _∷_, _++_}
+use mathlib.Core.List.{List}
 use mathlib.Core.Path.{_≡_, refl, sym, ap, _∙_}
 use native.Mathlib.Nat.{suc-add, zero-add}
 use native.Mathlib.Numerals.{add-one}
@@ -8,7 +8,7 @@ use native.Mathlib.Omega.{arith}
 use lib.ListN.{length, take, set}
 use lib.Seq.{take-suc-set, take-all}
 use lib.Ieee.{Float}
-use Rattle.half.specs.Outcome.{Outcome, accepted, refused, andThen}
+use Rattle.half.specs.Outcome.{accepted, refused}
 use Rattle.half.specs.Half.{f16}
 use Rattle.fields.specs.Fields.{f16s}
 

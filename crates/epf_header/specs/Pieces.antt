@@ -1,7 +1,7 @@
 -- The pieces in which the code reads the tables: the cases of its enums, and the rows that a function reads.
 use Prim.Native.Nat.{ℕ}
 use mathlib.Core.Bool.{Bool, true, _&&_}
-use mathlib.Core.List.{List, [], _∷_}
+use mathlib.Core.List.{List}
 use lib.Ieee.{Float}
 use Rattle.half.specs.Outcome.{Outcome, accepted, refused}
 use Rattle.fields.specs.Fields.{Fields, bits, half, halves, bundle, nested, yes}

@@ -53,6 +53,7 @@ enum Sigma {
     Refused(u32),
 }
 
+// 0, 1/7, 2/7 and so on to 1.
 const SHARP_LUT: [f32; 8] = [
     0.0,
     0.14285715,
@@ -72,6 +73,7 @@ const PASS0_SIGMA_SCALE: f32 = 0.9;
 
 const PASS2_SIGMA_SCALE: f32 = 6.5;
 
+// 2/3.
 const BORDER_SAD_MUL: f32 = 0.6666667;
 
 const SIGMA_FOR_MODULAR: f32 = 1.0;

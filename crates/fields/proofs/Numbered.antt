@@ -1,20 +1,19 @@
 -- A table whose refusals have numbers above 0 never refuses with 0, so number 0 says that it was accepted. Assumes nothing.
-use Prim.Native.Nat.{ℕ, zero, suc, _+_, _*_, _<_}
+use Prim.Native.Nat.{ℕ, zero, suc, _+_, _<_}
 use mathlib.Core.Bool.{Bool, true, false, cond}
-use mathlib.Core.List.{List, [], _∷_}
-use mathlib.Core.Path.{_≡_, refl, sym, _∙_}
-use native.Mathlib.Omega.{arith}
+use mathlib.Core.List.{List}
+use mathlib.Core.Path.{_≡_, refl}
 use native.Mathlib.Nat.{pos-of-ne-zero}
 use borrow.Author.Tests.{eqb-false}
 use lib.Dec.{eqb}
 use lib.ListN.{length}
 use lib.Ieee.{Float}
 use Rattle.numbers.specs.Checks.{firstOf}
-use Rattle.half.specs.Outcome.{Outcome, accepted, refused, andThen, judged, number}
+use Rattle.half.specs.Outcome.{Outcome, accepted, refused, andThen, judged}
 use Rattle.half.specs.Bits.{u, field, fieldChecks}
 use Rattle.half.specs.Value.{halfOf}
 use Rattle.half.specs.Half.{f16, finite, halfChecks}
-use Rattle.fields.specs.Fields.{Fields, bits, half, halves, refuse, bundle, nested, read, f16s, ifThere}
+use Rattle.fields.specs.Fields.{Fields, bits, half, halves, refuse, bundle, read, f16s, ifThere}
 
 unfoldable pub Numbered : {A : Type 0} → Fields A → Type 0
 Numbered (bits c n d k) = (v : ℕ) → Numbered (k v)

@@ -1,11 +1,10 @@
 -- Reading a table row by row: what a row comes to, given what reading its field came to. Assumes nothing.
-use Prim.Native.Nat.{ℕ, suc, _+_}
-use mathlib.Core.Bool.{Bool, true, false, cond}
-use mathlib.Core.List.{List, [], _∷_, _++_}
+use Prim.Native.Nat.{ℕ}
+use mathlib.Core.Bool.{true, false}
+use mathlib.Core.List.{List}
 use mathlib.Core.Path.{_≡_, refl, sym, ap, _∙_}
 use borrow.Author.Tests.{eq-eqb, ne-eqb}
 use lib.ListN.{length}
-use lib.Ieee.{Float}
 use Rattle.half.specs.Outcome.{Outcome, accepted, refused, andThen}
 use Rattle.half.specs.Bits.{u}
 use Rattle.half.specs.Half.{f16}

@@ -1,12 +1,12 @@
 -- The table of the Gabor bundle, case by case as the code reads it. Assumes nothing.
 use Prim.Native.Nat.{ℕ}
-use mathlib.Core.Bool.{Bool, true, false, cond}
+use mathlib.Core.Bool.{Bool, true, cond}
 use mathlib.Core.List.{List, [], _∷_}
-use mathlib.Core.Path.{_≡_, refl, sym, ap, _∙_}
+use mathlib.Core.Path.{_≡_, ap}
 use lib.Ieee.{Float}
-use Rattle.half.specs.Outcome.{Outcome, accepted, refused, andThen}
+use Rattle.half.specs.Outcome.{accepted, refused}
 use Rattle.half.specs.Bits.{u}
-use Rattle.fields.specs.Fields.{Fields, bundle, nested, read, yes}
+use Rattle.fields.specs.Fields.{bundle, nested, read}
 use Rattle.gabor_header.specs.Gabor.{channelFields, channelsFields, weightFields, gaborFields, gaborOff, gaborWith, sideWeight, cornerWeight}
 use Rattle.fields.proofs.Rows.{is-yes, is-no}
 

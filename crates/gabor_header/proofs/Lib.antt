@@ -1,3 +1,4 @@
 pub mod NearZero
 pub mod GaborCases
 pub mod Instances
+pub mod Field

@@ -2,7 +2,6 @@
 use Prim.Native.Nat.{ℕ}
 use mathlib.Core.Bool.{Bool, true, false, cond, _&&_}
 use mathlib.Core.List.{List, [], _∷_}
-use lib.Dec.{eqb}
 use lib.Ieee.{Float, nan, inf, fin, add, mul, lt, ofBits, binary32}
 use Rattle.numbers.specs.Numbers.{kernelNearZero}
 use Rattle.half.specs.Outcome.{Outcome, accepted, refused, number, value, next}

@@ -2,8 +2,8 @@
 use Prim.Native.Nat.{ℕ, zero, suc, _+_, _*_, _/_, _%_, _^_}
 use mathlib.Core.List.{List, [], _∷_}
 use mathlib.Core.Path.{_≡_}
-use lib.Ieee.{Float, ofBits, binary32}
-use Rattle.half.specs.Outcome.{Outcome, accepted, refused}
+use lib.Ieee.{ofBits, binary32}
+use Rattle.half.specs.Outcome.{accepted, refused}
 use Rattle.gabor_header.specs.Gabor.{gaborWith, gaborAt}
 use Rattle.gabor_header.specs.declared.Gabor.{Gabor}
 

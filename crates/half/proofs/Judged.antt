@@ -2,12 +2,12 @@
 use Prim.Native.Nat.{ℕ, _+_, _*_, _^_, _<_, _≤_}
 use mathlib.Core.Bool.{Bool, true, false, cond}
 use mathlib.Core.List.{List}
-use mathlib.Core.Path.{_≡_, refl}
+use mathlib.Core.Path.{_≡_}
 use native.Mathlib.Omega.{arith}
 use borrow.Author.Tests.{lt-ltb, le-ltb}
 use lib.Dec.{eqb}
 use lib.ListN.{length}
-use Rattle.half.specs.Outcome.{Outcome, accepted, refused, judged}
+use Rattle.half.specs.Outcome.{accepted, refused}
 use Rattle.half.specs.Bits.{field, u, fieldChecks}
 use Rattle.numbers.specs.Checks.{firstOf}
 use Rattle.half.proofs.Fields.{field-below}

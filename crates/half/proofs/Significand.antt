@@ -1,5 +1,5 @@
 -- A significand with zeros put at its end, and the exponent lowered by as many, is the same number: how binary16 and binary32 write one value. Assumes nothing.
-use Prim.Native.Nat.{ℕ, zero, suc, _+_, _-_, _*_, _/_, _%_, _^_, _<_, _≤_}
+use Prim.Native.Nat.{ℕ, zero, suc, _+_, _-_, _*_, _/_, _%_, _^_, _<_}
 use mathlib.Core.Bool.{Bool, true, false}
 use mathlib.Core.Path.{_≡_, refl, sym, ap, _∙_}
 use native.Mathlib.Nat.{mul-assoc, mul-comm, mul-one, mul-pos, mul-div-mul-right, zero-add, suc-add, pow-suc, not-suc-le-zero}
@@ -9,7 +9,7 @@ use lib.Dec.{leb}
 use lib.IntN.{pos, negsuc}
 use lib.Count.{trailingZeros, under}
 use lib.Pow.{pow-pos, pow-add}
-use lib.Ieee.{Float, fin, odd, minus}
+use lib.Ieee.{fin, odd, minus}
 
 -- ---- trailing zeros
 double-div : (n : ℕ) → n * 2 / 2 ≡ n

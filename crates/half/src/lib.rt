@@ -1,6 +1,6 @@
 // Fields of bits and half-precision numbers, read from a header at any bit place.
 ghost use mathlib.Core.Path.{_≡_};
-ghost use Prim.Native.Nat.{ℕ, _+_, _*_, _/_, _%_, _^_, _<_, _≤_};
+ghost use Prim.Native.Nat.{_+_, _*_, _/_, _%_, _<_, _≤_};
 ghost use lib.ListN.{length};
 ghost use lib.Dec.{leb};
 ghost use lib.Ieee.{binary32, ofFields};

@@ -1,6 +1,6 @@
 -- `epf_header::epf_refused` meets its contract. Assumes nothing.
 use borrow.Author.Needs.{needs}
-use mathlib.Core.Path.{ap, _∙_}
+use mathlib.Core.Path.{_∙_}
 use Rattle.epf_header.proofs.epf_refused.Statement.{statement}
 use Rattle.epf_header.proofs.epf_refused.Tie as tie
 

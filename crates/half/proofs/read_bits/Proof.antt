@@ -1,5 +1,4 @@
 -- `half::read_bits` meets its contract. Assumes nothing.
-use mathlib.Core.Path.{_≡_, ap, _∙_}
 use native.Mathlib.Omega.{arith}
 use borrow.Author.Needs.{needs}
 use denote.Ref.{now}
