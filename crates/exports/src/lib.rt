@@ -1,13 +1,28 @@
 // The C boundary: each function takes its arguments apart, if at all, and passes them on. Names begin with `loupe_`.
+use epf_header::EdgePreservingFilter;
+use epf_header::Encoding;
+use epf_header::EpfAnswer;
 use frame::Frame;
 use frame::FrameAnswer;
 use frame::SplitAnswer;
+use gabor_header::Gabor;
+use gabor_header::GaborAnswer;
+use half::HalfAnswer;
+use header::RestorationAnswer;
+use header::RestorationFilter;
 use mirror::MirrorAnswer;
 use region::BoolAnswer;
 use region::EdgeAnswer;
 use region::Region;
 use region::RegionAnswer;
 ghost use mathlib.Core.Path.{_≡_};
+ghost use Rattle.epf_header.specs.EdgeFilter.{epfAt, epfAnswer};
+ghost use Rattle.exports.specs.Boundary.{encodingOf};
+ghost use Rattle.gabor.specs.Outcome.{gaborOutcome};
+ghost use Rattle.gabor_header.specs.Gabor.{gaborAt, gaborAnswer};
+ghost use Rattle.half.specs.Half.{f16, halfAnswer};
+ghost use Rattle.header.specs.Restoration.{restorationAt, restorationAnswer};
+ghost use Rattle.layout.specs.Outcome.{PassOutcome};
 ghost use Rattle.frame.specs.Outcome.{frameOutcome, splitOutcome};
 ghost use Rattle.mirror.specs.Outcome.{mirrorOutcome};
 ghost use Rattle.region.specs.Answers.{isEmptyOutcome, rightOutcome, bottomOutcome, containsOutcome, translateOutcome, intersectionOutcome, padOutcome, downsampleOutcome, alignedOutcome};
@@ -94,4 +109,60 @@ pub extern "C" fn loupe_split_block(block: u32, group_size_shift: u32) -> SplitA
     ensures { λ a. ⌜ a ≡ splitOutcome block «group_size_shift» ⌝ }
 {
     frame::split_block(block, group_size_shift)
+}
+
+#[no_mangle]
+pub extern "C" fn loupe_read_half(bytes: &[u8], at: usize) -> HalfAnswer
+    ensures { λ a. ⌜ a ≡ halfAnswer (f16 (now (bytes .entry)) at) ⌝ }
+{
+    half::read_half(bytes, at)
+}
+
+#[no_mangle]
+pub extern "C" fn loupe_read_gabor(bytes: &[u8], at: usize) -> GaborAnswer
+    ensures { λ a. ⌜ a ≡ gaborAnswer (gaborAt (now (bytes .entry)) at) ⌝ }
+{
+    Gabor::parse(bytes, at)
+}
+
+// An encoding crosses as a yes or no.
+fn encoding(modular: bool) -> Encoding
+    ensures { λ e. ⌜ e ≡ encodingOf modular ⌝ }
+{
+    if modular {
+        return Encoding::Modular;
+    }
+    Encoding::VarDct
+}
+
+#[no_mangle]
+pub extern "C" fn loupe_read_epf(bytes: &[u8], at: usize, modular: bool) -> EpfAnswer
+    ensures { λ a. ⌜ a ≡ epfAnswer (epfAt (encodingOf modular) (now (bytes .entry)) at) ⌝ }
+{
+    EdgePreservingFilter::parse(bytes, at, encoding(modular))
+}
+
+#[no_mangle]
+pub extern "C" fn loupe_read_filters(bytes: &[u8], at: usize, modular: bool) -> RestorationAnswer
+    ensures { λ a. ⌜ a ≡ restorationAnswer (restorationAt (encodingOf modular) (now (bytes .entry)) at) ⌝ }
+{
+    RestorationFilter::parse(bytes, at, encoding(modular))
+}
+
+// Weights cross in the settings that hold them; whether these are on is not asked.
+#[no_mangle]
+pub extern "C" fn loupe_gabor_pass(
+    image: Region,
+    filter: Region,
+    preserve_outside: bool,
+    settings: Gabor,
+    from: u32,
+    to: u32,
+    src: &[f32],
+    dst: &mut [f32],
+) -> u32
+    ensures { λ r. ⌜ _≡_ {A = PassOutcome} (record { number = r; target = now (dst .exit) }) (gaborOutcome image filter «preserve_outside» (settings .weights) from to (now (src .entry)) (now (dst .entry))) ⌝ }
+{
+    let weights = gabor_header::weights(settings);
+    gabor::gabor_pass(image, filter, preserve_outside, weights, from, to, src, dst)
 }

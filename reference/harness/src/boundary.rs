@@ -82,11 +82,9 @@ unsafe extern "C" {
     pub safe fn loupe_split_block(block: u32, group_size_shift: u32) -> SplitAnswer;
 }
 
-#[cfg(feature = "header")]
 pub use self::header::*;
 
 /// Reading a filter header: the slice, the bit place, and the encoding (Modular or else VarDct).
-#[cfg(feature = "header")]
 mod header {
     #[repr(C)]
     pub struct HalfAnswer {
@@ -160,26 +158,19 @@ mod header {
     }
 }
 
-#[cfg(feature = "gabor")]
 pub use self::gabor::*;
 
 /// One pass of the Gabor-like filter over some rows of its result.
-#[cfg(feature = "gabor")]
 mod gabor {
-    use super::Region;
-
-    #[repr(C)]
-    pub struct Weights {
-        pub weights: [[f32; 2]; 3],
-    }
+    use super::{Gabor, Region};
 
     // The result is the full planes or, where `preserve_outside` is false, the filter region.
     unsafe extern "C" {
-        pub fn loupe_gabor_rows(
+        pub fn loupe_gabor_pass(
             image: Region,
             filter: Region,
             preserve_outside: bool,
-            weights: Weights,
+            settings: Gabor,
             from: u32,
             to: u32,
             source: *const f32,

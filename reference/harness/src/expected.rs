@@ -3,9 +3,7 @@
 //! They say which number is given. Where none is, the original's answer is what is compared, and
 //! it must be the rule's as well.
 
-#[cfg(feature = "gabor")]
 pub mod gabor;
-#[cfg(feature = "header")]
 pub mod header;
 
 /// A side, left or top outside the measures, given or resulting.

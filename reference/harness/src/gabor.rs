@@ -48,11 +48,12 @@ impl Pass {
     fn ours(&self, (from, to): (u32, u32), source: &[f32], target: &mut [f32]) -> u32 {
         // SAFETY: two whole slices are lent.
         unsafe {
-            boundary::loupe_gabor_rows(
+            boundary::loupe_gabor_pass(
                 region(self.image),
                 region(self.filter),
                 self.preserve_outside,
-                boundary::Weights {
+                boundary::Gabor {
+                    enabled: true,
                     weights: self.weights,
                 },
                 from,

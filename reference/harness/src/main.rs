@@ -7,9 +7,7 @@
 mod boundary;
 mod expected;
 mod frame;
-#[cfg(feature = "gabor")]
 mod gabor;
-#[cfg(feature = "header")]
 mod header;
 mod kinds;
 mod mirror;
@@ -63,9 +61,7 @@ fn compare(scale: u64) -> ExitCode {
     for subject in subjects {
         subject.compare(random, &mut report);
     }
-    #[cfg(feature = "header")]
     header::compare(scale, &mut report);
-    #[cfg(feature = "gabor")]
     gabor::compare(scale, &mut report);
     if report.finish() {
         ExitCode::SUCCESS

@@ -26,7 +26,6 @@ impl Random {
     }
 
     /// True once in so many times.
-    #[cfg(any(feature = "header", feature = "gabor"))]
     pub fn once_in(&mut self, times: u64) -> bool {
         self.next().is_multiple_of(times)
     }
