@@ -44,6 +44,7 @@ fn main() {
 fn whole(folder: &Path) -> String {
     let region = folder.join("region.rs");
     let filter = folder.join("filter");
+    let rows = Path::new(env!("CARGO_MANIFEST_DIR")).join("src/rows.rs");
     format!(
         "#[path = {region:?}]
         #[allow(clippy::all, warnings)]
@@ -55,6 +56,8 @@ fn whole(folder: &Path) -> String {
             pub(crate) mod epf;
             pub(crate) mod gabor;
             pub(crate) mod owned;
+            #[path = {rows:?}]
+            pub(crate) mod rows;
             pub(super) mod impls {{
                 pub(crate) mod generic;
                 pub(super) use generic::{{epf_row_handler, gabor_row_handler}};

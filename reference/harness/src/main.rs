@@ -1,9 +1,10 @@
 //! Compares the proved library with the original Rust on the same inputs.
 //!
 //! `harness [--scale N]` prints a table of what was compared and fails if anything differs;
-//! N multiplies the random cases. `harness record` prints a sample of the original's answers as
+//! N multiplies the random cases. `harness bench` prints times beside the original's. `harness record` prints a sample of the original's answers as
 //! Rattle constants.
 
+mod bench;
 mod boundary;
 mod expected;
 mod frame;
@@ -34,6 +35,10 @@ fn main() -> ExitCode {
             Ok(scale) => compare(scale),
             Err(_) => usage(),
         },
+        ["bench"] => {
+            bench::print();
+            ExitCode::SUCCESS
+        }
         ["record"] => {
             record::print(&subjects());
             ExitCode::SUCCESS
@@ -43,7 +48,7 @@ fn main() -> ExitCode {
 }
 
 fn usage() -> ExitCode {
-    eprintln!("usage: harness [--scale N] | harness record");
+    eprintln!("usage: harness [--scale N] | harness bench | harness record");
     ExitCode::from(2)
 }
 

@@ -8,6 +8,8 @@ pub use filters::*;
 pub use headers::*;
 pub use sizes::*;
 
+pub use crate::filter::rows::gabor_plane;
+
 use crate::{Region, util};
 
 /// `Region::container_aligned`, which the original keeps to itself.

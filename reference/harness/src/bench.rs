@@ -1,0 +1,134 @@
+//! Times of the proved library beside the original's, on the same buffers in one process.
+
+use std::{
+    hint::black_box,
+    time::{Duration, Instant},
+};
+
+use crate::{
+    boundary::{self, Region},
+    random::Random,
+};
+
+/// How long each case is run; the best run of either side counts.
+const PER_CASE: Duration = Duration::from_secs(2);
+const FEWEST_RUNS: u32 = 5;
+
+const SIZES: [(u32, u32); 6] = [
+    (64, 64),
+    (256, 256),
+    (504, 504),
+    (1024, 1024),
+    (2040, 2040),
+    (7, 2040),
+];
+
+pub fn print() {
+    for (width, height) in SIZES {
+        gabor(width, height);
+    }
+    header();
+}
+
+/// Runs both by turns and gives the shortest time of each in ns.
+fn best(mut ours: impl FnMut(), mut theirs: impl FnMut()) -> (f64, f64) {
+    let mut shortest = [f64::INFINITY; 2];
+    let began = Instant::now();
+    let mut runs = 0;
+    while runs < FEWEST_RUNS || began.elapsed() < PER_CASE {
+        for (side, time) in shortest.iter_mut().enumerate() {
+            let start = Instant::now();
+            if side == 0 {
+                ours()
+            } else {
+                theirs()
+            }
+            *time = time.min(start.elapsed().as_secs_f64() * 1e9);
+        }
+        runs += 1;
+    }
+    (shortest[0], shortest[1])
+}
+
+fn gabor(width: u32, height: u32) {
+    let plane = width as usize * height as usize;
+    let mut random = Random::for_name("bench gabor");
+    let source: Vec<f32> = (0..3 * plane)
+        .map(|_| random.within(0, 1 << 20) as f32 / 1024.0)
+        .collect();
+    let target = std::cell::RefCell::new(vec![0.0f32; 3 * plane]);
+    let weights = black_box([[0.115_169_525f32, 0.061_248_592]; 3]);
+    let image = Region {
+        left: 0,
+        top: 0,
+        width,
+        height,
+    };
+    let (ours, rust) = best(
+        || {
+            let mut target = target.borrow_mut();
+            let settings = boundary::Gabor {
+                enabled: true,
+                weights,
+            };
+            // SAFETY: two whole slices are lent.
+            let number = unsafe {
+                boundary::loupe_gabor_pass(
+                    image,
+                    image,
+                    true,
+                    settings,
+                    0,
+                    height,
+                    black_box(&source).as_ptr(),
+                    source.len(),
+                    target.as_mut_ptr(),
+                    target.len(),
+                )
+            };
+            assert_eq!(number, 0);
+        },
+        || {
+            let mut target = target.borrow_mut();
+            for channel in 0..3 {
+                let planes = channel * plane..(channel + 1) * plane;
+                oracle::gabor_plane(
+                    &black_box(&source)[planes.clone()],
+                    &mut target[planes],
+                    width as usize,
+                    weights[channel],
+                );
+            }
+        },
+    );
+    let samples = 3.0 * plane as f64;
+    println!(
+        "gabor {width}x{height} ours={:.2}ns rust={:.2}ns ratio={:.2}",
+        ours / samples,
+        rust / samples,
+        ours / rust
+    );
+}
+
+/// Reading both bundles at the last place of a slice of 64 KiB and at the first.
+fn header() {
+    const BITS: usize = 65_536 * 8;
+    const TIMES: usize = 1000;
+    let bytes = vec![0u8; 65_536];
+    let read = |place: usize| {
+        for _ in 0..TIMES {
+            // SAFETY: a whole slice is lent.
+            let answer = unsafe {
+                boundary::loupe_read_filters(bytes.as_ptr(), bytes.len(), black_box(place), false)
+            };
+            assert_eq!(black_box(answer).number, 0);
+        }
+    };
+    let (last, first) = best(|| read(BITS - 3), || read(0));
+    println!(
+        "header last={:.1}ns first={:.1}ns ratio={:.2}",
+        last / TIMES as f64,
+        first / TIMES as f64,
+        last / first
+    );
+}
