@@ -12,7 +12,7 @@ ghost use Prim.Native.Nat.{_+_, _*_, _<_, _≤_};
 ghost use lib.ListN.{length};
 ghost use Rattle.planes.specs.Fill.{fill};
 ghost use Rattle.gabor_kernel.specs.Ends.{only, first, inner};
-ghost use Rattle.gabor.specs.Rows.{innerSample, rowSample, regionSample, RegionFits};
+ghost use Rattle.gabor_plane.specs.Rows.{innerSample, rowSample, regionSample, RegionFits};
 
 // n columns that have neighbours on both sides, of a row between the rows at t and b.
 fn tap_run(

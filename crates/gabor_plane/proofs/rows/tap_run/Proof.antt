@@ -1,13 +1,13 @@
--- `gabor::rows::tap_run` meets its contract. The invariant: j is at most n, and `dst` has its first j samples. Assumes nothing.
+-- `gabor_plane::rows::tap_run` meets its contract. The invariant: j is at most n, and `dst` has its first j samples. Assumes nothing.
 use mathlib.Core.Path.{_≡_, refl, _∙_}
 use Prim.Native.Nat.{_+_, _-_, _≤_}
 use native.Mathlib.Omega.{arith}
 use lib.ListN.{length, length-set}
 use Rattle.planes.specs.Fill.{fill, fill-turn, fill-end}
 use Rattle.gabor_kernel.specs.Ends.{inner}
-use Rattle.gabor.specs.Rows.{innerSample}
-use Rattle.gabor.proofs.rows.tap_run.Statement.{statement}
-use Rattle.gabor.proofs.rows.tap_run.Tie as tie
+use Rattle.gabor_plane.specs.Rows.{innerSample}
+use Rattle.gabor_plane.proofs.rows.tap_run.Statement.{statement}
+use Rattle.gabor_plane.proofs.rows.tap_run.Tie as tie
 
 abbrev Inv-loop : tie.InvT-loop
 Inv-loop src dst₀ t c b o n w0 w1 g j₀ dst j = (j ≤ n) × (length dst ≡ length dst₀) × (dst ≡ fill dst₀ o j (innerSample src t c b w0 w1 g inner))

@@ -168,13 +168,17 @@ module _ (s : List Float) (t u c b w : ℕ) (w0 w1 g : Float) (x : ℕ) where
 -- ---- the region's room in a list of that length
 pub record RegionFits (at stride w h len : ℕ) : Type 0 where
   pub wide : 0 < w
+  pub high : 0 < h
   pub apart : w ≤ stride
   pub short : stride ≤ 16384
-  pub ends : at + h * stride ≤ len + (stride - w)
+  pub low : h ≤ 16384
+  pub ends : at + ((h - 1) * stride + w) ≤ len
 
 -- row y ends within the list
 pub row-room : (at stride w h len y : ℕ) → RegionFits at stride w h len → y < h → at + y * stride + w ≤ len
-row-room at stride w h len y f p = omega (arith, f .apart, f .ends, suc-mul y stride, mul-le-mul-right stride p)
+row-room at stride w h len y f p =
+    let q : y ≤ h - 1 = omega arith in
+    omega (arith, f .ends, mul-le-mul-right stride q)
 
 pub row-above : (y stride : ℕ) → 0 < y → y * stride ≡ (y - 1) * stride + stride
 row-above zero stride p = absurd (omega arith)
@@ -182,6 +186,10 @@ row-above (suc y) stride p = let e : suc y - 1 ≡ y = omega arith in rw e (suc-
 
 pub row-below : (y stride : ℕ) → (y + 1) * stride ≡ y * stride + stride
 row-below y stride = let e : y + 1 ≡ suc y = omega arith in rw e (suc-mul y stride)
+
+-- where a row would start that follows the last one
+pub start-room : (at stride w h len y : ℕ) → RegionFits at stride w h len → y ≤ h → at + y * stride ≤ len + stride
+start-room at stride w h len y f p = omega (arith, f .ends, row-above h stride (f .high), mul-le-mul-right stride p)
 
 -- ---- what each row function writes is the region's row
 module _ (s : List Float) (at stride w h : ℕ) (w0 w1 g : Float) (y x o : ℕ) (p : x < w) (q : y < h) (e : o ≡ at + y * stride) where

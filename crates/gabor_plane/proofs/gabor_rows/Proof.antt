@@ -1,16 +1,16 @@
--- `gabor::pass::gabor_rows` meets its contract. The invariant: i rows of n are written, and o is where the next one starts. Assumes nothing.
+-- `gabor_plane::gabor_rows` meets its contract. The invariant: i rows of n are written, and o is where the next one starts. Assumes nothing.
 use mathlib.Core.Path.{_≡_, refl, _∙_}
 use Prim.Native.Nat.{ℕ, suc, _+_, _-_, _*_, _≤_, _<_}
-use native.Mathlib.Nat.{suc-mul, mul-le-mul-right, add-mul}
+use native.Mathlib.Nat.{add-mul}
 use native.Mathlib.Omega.{arith}
 use denote.Ref.{now}
 use borrow.Author.Needs.{needs}
 use lib.ListN.{length}
 use Rattle.planes.specs.Rect.{rowsFill, rows-turn, rows-end}
-use Rattle.gabor.specs.Rows.{RegionFits, row-room, row-below}
-use Rattle.gabor.specs.Pass.{regionRows}
-use Rattle.gabor.proofs.pass.gabor_rows.Statement.{statement}
-use Rattle.gabor.proofs.pass.gabor_rows.Tie as tie
+use Rattle.gabor_plane.specs.Rows.{RegionFits, row-room, row-below, start-room}
+use Rattle.gabor_plane.specs.Plane.{regionRows}
+use Rattle.gabor_plane.proofs.gabor_rows.Statement.{statement}
+use Rattle.gabor_plane.proofs.gabor_rows.Tie as tie
 
 abbrev Inv-loop : tie.InvT-loop
 Inv-loop src dst₀ at stride w h from n w0 w1 g i₀ o₀ dst i o =
@@ -24,8 +24,13 @@ unfolding rowsFill
 loop-holds c = (omega arith, omega arith, refl, refl)
 
 -- the first row's start, in numbers of the machine
-first : (from h stride : ℕ) → from ≤ h → from * stride ≤ h * stride
-first from h stride p = mul-le-mul-right stride p
+start : (s : tie.Start Inv-loop μ-loop) → s .args .at + s .args .from * s .args .stride ≤ length (now (s .args .src)) + 16384
+start s =
+    omega (
+      arith,
+      s .pre .0 .short,
+      start-room (s .args .at) (s .args .stride) (s .args .w) (s .args .h) (length (now (s .args .src))) (s .args .from) (s .pre .0) (omega (arith, s .pre .1 .1)),
+    )
 
 -- row from + i starts at o, ends within both slices, and is followed by no more than the region
 record Here (at stride w h len from i o : ℕ) : Type 0 where
@@ -74,8 +79,8 @@ gabor-rows-spec =
     Inv-loop
     μ-loop
     (λ c κs. search needs)
-    (λ c. let s = c .before .before .before in omega (arith, s .pre .0 .ends, s .pre .0 .short, first (s .args .from) (s .args .h) (s .args .stride) (omega (arith, s .pre .1 .1))))
-    (λ c. let s = c .before .before .before in omega (arith, s .pre .0 .ends, s .pre .0 .short, first (s .args .from) (s .args .h) (s .args .stride) (omega (arith, s .pre .1 .1))))
+    (λ c. omega (arith, start (c .before .before .before)))
+    (λ c. omega (arith, start (c .before .before .before)))
     loop-holds
     (λ c. omega (arith, c .before .before .before .before .before .before .pre .1 .1))
     (λ c κs. let s = c .before .before .before .before .before .before in let t = turn (c .before) in (s .pre .0, (omega arith, t .starts, omega (arith, t .ends))))

@@ -1,9 +1,9 @@
--- `gabor::rows::gabor_row_solo` meets its contract: a row of one column, or its two ends and the columns between. Assumes nothing.
+-- `gabor_plane::rows::gabor_row_solo` meets its contract: a row of one column, or its two ends and the columns between. Assumes nothing.
 use native.Mathlib.Omega.{arith}
 use lib.ListN.{length-set}
-use Rattle.gabor.specs.Rows.{solo-one, solo-more}
-use Rattle.gabor.proofs.rows.gabor_row_solo.Statement.{statement}
-use Rattle.gabor.proofs.rows.gabor_row_solo.Tie as tie
+use Rattle.gabor_plane.specs.Rows.{solo-one, solo-more}
+use Rattle.gabor_plane.proofs.rows.gabor_row_solo.Statement.{statement}
+use Rattle.gabor_plane.proofs.rows.gabor_row_solo.Tie as tie
 
 returns-2 : tie.Need-returns-2
 returns-2 c =

@@ -12,7 +12,7 @@ ghost use Prim.Native.Nat.{_+_, _<_};
 ghost use lib.ListN.{length};
 ghost use Rattle.gabor_kernel.specs.Ends.{only, first, last, inner};
 ghost use Rattle.gabor_kernel.specs.Gabor.{scaled};
-ghost use Rattle.gabor.specs.Rows.{taps, column};
+ghost use Rattle.gabor_plane.specs.Rows.{taps, column};
 
 // A row with rows on both sides.
 pub(crate) fn tap_at(

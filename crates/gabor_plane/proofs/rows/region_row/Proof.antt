@@ -1,4 +1,4 @@
--- `gabor::rows::region_row` meets its contract: in each of its four places a row's samples are the region's, and the rows that it reads lie within the slice. Assumes nothing.
+-- `gabor_plane::rows::region_row` meets its contract: in each of its four places a row's samples are the region's, and the rows that it reads lie within the slice. Assumes nothing.
 use mathlib.Core.Path.{_≡_, _∙_}
 use Prim.Native.Nat.{_+_, _-_, _*_, _<_, _≤_}
 use native.Mathlib.Omega.{arith}
@@ -6,9 +6,9 @@ use denote.Ref.{now}
 use borrow.Author.Needs.{needs}
 use lib.ListN.{length}
 use Rattle.planes.specs.Fill.{fill-cong}
-use Rattle.gabor.specs.Rows.{row-room, row-above, row-below, region-only, region-first, region-last, region-inner}
-use Rattle.gabor.proofs.rows.region_row.Statement.{statement}
-use Rattle.gabor.proofs.rows.region_row.Tie as tie
+use Rattle.gabor_plane.specs.Rows.{row-room, row-above, row-below, region-only, region-first, region-last, region-inner}
+use Rattle.gabor_plane.proofs.rows.region_row.Statement.{statement}
+use Rattle.gabor_plane.proofs.rows.region_row.Tie as tie
 
 -- the row, and those on either side of it, end within the slice read
 module _ (s : tie.Start) where
