@@ -64,8 +64,8 @@ module _ (image filter : Region) (full : Bool) (ws : List (List Float)) (from to
         pub outcome-fits : BandFits (a .layout) 3 from to src dst
         outcome-fits = band-fits (a .layout) 3 from to src dst s t r
 
-        pub outcome-wide : 0 < a .layout .width
-        outcome-wide = rw l-is (layout-accepted image filter full ok .wide)
+        pub outcome-sides : (0 < a .layout .width) × (0 < a .layout .height)
+        outcome-sides = rw l-is (layout-accepted image filter full ok .wide, layout-accepted image filter full ok .high)
 
         pub outcome-passed : (b : List Float) → b ≡ gaborPassed 3 (a .layout) ws from to src dst → Outcome 0 b
         unfolding gaborOutcome

@@ -17,11 +17,8 @@ use Rattle.planes.specs.Stored.{LayoutFits, BandFits, passed-over, fits-copied}
 use Rattle.gabor_kernel.specs.Ends.{stands}
 use Rattle.gabor_kernel.specs.Gabor.{total, gabor, sideWeight, diagonalWeight, gaborPass}
 use Rattle.gabor_kernel.specs.Local.{scaled-same}
-use Rattle.gabor.specs.Rows.{region, regionSample, RegionFits}
-
--- rows of a region, counted from row `from`
-unfoldable pub regionRows : List Float → ℕ → ℕ → ℕ → ℕ → Float → Float → Float → ℕ → ℕ → ℕ → Float
-regionRows s at stride w h w0 w1 g from i x = regionSample s at stride w h w0 w1 g (from + i) x
+use Rattle.gabor_plane.specs.Rows.{region, regionSample, RegionFits, row-above}
+use Rattle.gabor_plane.specs.Plane.{regionRows, planeOutcome, region-true, plane-rows}
 
 -- the pass over the filter region of a set, its rows counted from row `from`
 unfoldable pub passRows : List (List Float) → Layout → List Float → ℕ → Picture
@@ -48,16 +45,17 @@ module _ (l : Layout) (s : List Float) (c : ℕ) where
 -- a turn of the loop over planes
 pub plane-next : (l : Layout) (ws : List (List Float)) (s d a b : List Float) (k at from m : ℕ)
     → a ≡ planesFill (l .image .width) (l .image .height) (l .left) (l .width) (l .top + from) m (passRows ws l s from) d k → at ≡ regionStart l k
-    → b ≡ rowsFill a (at + from * l .image .width) (l .image .width) (l .width) m
-    (regionRows s at (l .image .width) (l .width) (l .height) (sideWeight ws k) (diagonalWeight ws k) (total (sideWeight ws k) (diagonalWeight ws k)) from)
+    → RegionFits at (l .image .width) (l .width) (l .height) (length s) → length a ≡ length s → from + m ≤ l .height
+    → b ≡ planeOutcome at (l .image .width) (l .width) (l .height) from m (sideWeight ws k) (diagonalWeight ws k) s a
     → b ≡ planesFill (l .image .width) (l .image .height) (l .left) (l .width) (l .top + from) m (passRows ws l s from) d (k + 1)
 unfolding regionRows passRows gaborPass
-plane-next l ws s d a b k at from m p e q =
+plane-next l ws s d a b k at from m p e f len rows q =
     let z : at + from * l .image .width ≡ (k * l .image .height + (l .top + from)) * l .image .width + l .left =
     let r : k * l .image .height + (l .top + from) ≡ k * l .image .height + l .top + from = omega arith in
     rw r (omega (arith, add-mul (k * l .image .height + l .top) from (l .image .width))) in
     planes-turn (l .image .width) (l .image .height) (l .left) (l .width) (l .top + from) m _ d a b k p
-    (q ∙ rw (z, e) (rows-cong a _ (l .image .width) (l .width) m _ _ (λ i x h t. region-sample l s k (sideWeight ws k) (diagonalWeight ws k) (from + i) x)))
+    (q ∙ sym (plane-rows at (l .image .width) (l .width) (l .height) from m (sideWeight ws k) (diagonalWeight ws k) s a (region-true at (l .image .width) (l .width) (l .height) (length s) f) len rows)
+    ∙ rw (z, e) (rows-cong a _ (l .image .width) (l .width) m _ _ (λ i x h t. region-sample l s k (sideWeight ws k) (diagonalWeight ws k) (from + i) x)))
 
 -- plane c's part of the filter region, in numbers of the machine and within the n planes
 pub record PlaneRoom (l : Layout) (n c : ℕ) : Type 0 where
@@ -65,8 +63,8 @@ pub record PlaneRoom (l : Layout) (n c : ℕ) : Type 0 where
   pub start : (c * l .image .height + l .top) * l .image .width ≤ 65536 * 16384
   pub region : RegionFits (regionStart l c) (l .image .width) (l .width) (l .height) (n * l .image .height * l .image .width)
 
-pub plane-room : (l : Layout) (n c : ℕ) → LayoutFits l → n ≤ 3 → c < n → 0 < l .width → PlaneRoom l n c
-plane-room l n c f q p w =
+pub plane-room : (l : Layout) (n c : ℕ) → LayoutFits l → n ≤ 3 → c < n → 0 < l .width → 0 < l .height → PlaneRoom l n c
+plane-room l n c f q p w h =
     let few : c ≤ 3 = omega arith in
     let a : c * l .image .height ≤ 3 * 16384 = mul-le-mul few (f .high) in
     let b : c * l .image .height + l .top ≤ 65536 = omega (arith, f .down, f .high) in
@@ -76,9 +74,11 @@ plane-room l n c f q p w =
       start = mul-le-mul b (f .wide);
       region = record {
         wide = w;
+        high = h;
         apart = omega (arith, f .across);
         short = f .wide;
-        ends = omega (arith, f .across, add-mul (c * l .image .height + l .top) (l .height) (l .image .width), mul-le-mul-right (l .image .width) t);
+        low = omega (arith, f .down, f .high);
+        ends = omega (arith, f .across, row-above (l .height) (l .image .width) h, add-mul (c * l .image .height + l .top) (l .height) (l .image .width), mul-le-mul-right (l .image .width) t);
       };
     }
 

@@ -6,7 +6,7 @@ use borrow.Author.Tests.{not-true, not-false}
 use denote.Ref.{now}
 use lib.ListN.{length}
 use Rattle.planes.specs.Band.{setFits, rowsFit}
-use Rattle.gabor.specs.Outcome.{outcome-placed, outcome-source, outcome-target, outcome-rows, outcome-fits, outcome-wide, outcome-passed}
+use Rattle.gabor.specs.Outcome.{outcome-placed, outcome-source, outcome-target, outcome-rows, outcome-fits, outcome-sides, outcome-passed}
 use Rattle.gabor.proofs.gabor_pass.Statement.{statement}
 use Rattle.gabor.proofs.gabor_pass.Tie as tie
 
@@ -55,7 +55,7 @@ gabor-band-requires d κs =
     let s = start c in
     let a = c .before .before .before .before .before .before .before .before .layout-of in (
       outcome-fits (s .args .image) (s .args .filter) (s .args .preserve-outside) (s .args .weights) (s .args .from) (s .args .to) (now (s .args .src)) (now (s .args .dst)) (a .result) (a .ensures) (c .before .before .before .before .before .before .before .if1 .left) (source c) (target c) (rows c),
-      outcome-wide (s .args .image) (s .args .filter) (s .args .preserve-outside) (s .args .weights) (s .args .from) (s .args .to) (now (s .args .src)) (now (s .args .dst)) (a .result) (a .ensures) (c .before .before .before .before .before .before .before .if1 .left) (source c) (target c) (rows c),
+      outcome-sides (s .args .image) (s .args .filter) (s .args .preserve-outside) (s .args .weights) (s .args .from) (s .args .to) (now (s .args .src)) (now (s .args .dst)) (a .result) (a .ensures) (c .before .before .before .before .before .before .before .if1 .left) (source c) (target c) (rows c),
     )
 
 returns-5 : tie.Need-returns-5

@@ -32,7 +32,8 @@ gabor-band-spec =
       s .pre .0 .layout,
       (
         s .pre .0 .planes,
-        s .pre .1,
+        s .pre .1 .0,
+        s .pre .1 .1,
         s .pre .0 .source,
         c .before .before .before .before .before .copy-outside .kept .1 .0 ∙ s .pre .0 .target,
         omega (arith, rows s, c .before .filter-row2 .ensures, c .before .before .filter-row .ensures),

@@ -23,16 +23,18 @@ loop-holds c = (omega arith, refl, refl)
 
 -- in a turn
 turn : (c : tie.In-loop Inv-loop μ-loop) → let s = c .before .before .before .before in PlaneRoom (s .args .l) (s .args .n) (c .before .loop .c)
-turn c = let s = c .before .before .before .before in plane-room (s .args .l) (s .args .n) (c .before .loop .c) (s .pre .0) (s .pre .1 .0) (c .loop-test .taken) (s .pre .1 .1)
+turn c = let s = c .before .before .before .before in plane-room (s .args .l) (s .args .n) (c .before .loop .c) (s .pre .0) (s .pre .1 .0) (c .loop-test .taken) (s .pre .1 .1) (s .pre .1 .2)
 
 loop-again : tie.Need-loop-again Inv-loop μ-loop
 loop-again c =
     let called = c .before .before in
-    let at-loop = called .before .before .before .before .before .before .before .before in
+    let in-loop = called .before .before .before .before .before .before .before in
+    let at-loop = in-loop .before in
+    let start = at-loop .before .before .before in
     let inv = at-loop .loop .inv in (
-      omega arith,
-      called .gabor-rows .kept .1 .0 ∙ inv .1,
-      plane-next _ _ _ _ _ _ _ _ _ _ (inv .2) refl (called .gabor-rows .ensures),
+      omega (arith, in-loop .loop-test .taken),
+      called .gabor-plane .kept .1 .0 ∙ inv .1,
+      plane-next _ _ _ _ _ _ _ _ _ _ (inv .2) refl (rw (start .pre .1 .3) (turn in-loop .region)) (omega (arith, start .pre .1 .3, start .pre .1 .4, inv .1)) (start .pre .1 .5) (called .gabor-plane .ensures),
     )
 
 pub gabor-planes-spec : {M : Type 1} → statement M
@@ -50,7 +52,7 @@ gabor-planes-spec =
     (λ c. let s = c .before .before .before .before .before .before .before .before .before in omega (arith, turn (c .before .before .before .before .before) .start, s .pre .0 .across, s .pre .0 .wide))
     (λ c. search needs)
     (λ c. search needs)
-    (λ c κs. let s = c .before .before .before .before .before .before .before .before .before .before in let k = c .before .before .before .before .before .before in (rw (s .pre .1 .2) (turn k .region), (omega (arith, s .pre .1 .2, s .pre .1 .3), s .pre .1 .4)))
+    (λ c κs. search needs)
     (λ c. omega arith)
     (λ c. omega arith)
     loop-again
