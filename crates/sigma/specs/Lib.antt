@@ -1,0 +1,5 @@
+pub mod Table
+pub mod Sigma
+pub mod Outcome
+pub mod Fill
+pub mod Laws
