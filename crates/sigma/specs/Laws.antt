@@ -19,12 +19,12 @@ use Rattle.frame.specs.declared.SplitAnswer.{SplitAnswer}
 use Rattle.frame.specs.Sizes.{groupDim, groupOf, innerOf, sizesOf}
 use Rattle.frame.specs.Laws.{Sound, frame-sound, Bounded, sizes-bounded, group-dim-ge, split-accepted}
 use Rattle.frame.specs.Outcome.{badSide, badUpsampling, frameChecks, splitOutcome}
-use Rattle.numbers.specs.Numbers.{accepted, outOfMeasure, outOfRange}
+use Rattle.numbers.specs.Numbers.{accepted, outOfMeasure, wrongLength, blockNotHeld, outOfRange}
 use Rattle.numbers.specs.Checks.{always, firstOf}
 use Rattle.sigma.specs.declared.Blocks.{Blocks}
-use Rattle.sigma.specs.Table.{presence, present, gridWidth, gridHeight, badPresence, badGridSide, badGrid, cells, gridStart, someBelow}
+use Rattle.sigma.specs.Table.{presence, present, gridWidth, gridHeight, badPresence, badGridSide, badGrid, cells, lacks, gridStart, someBelow}
 use Rattle.sigma.specs.Sigma.{across, down, groupAt}
-use Rattle.sigma.specs.Outcome.{badSides, badSettings, badBlocks, notHeld, someNotHeld, tableFits, gridsFit, sigmaCount, sigmaNumber}
+use Rattle.sigma.specs.Outcome.{badSides, badSettings, badBlocks, notHeld, someNotHeld, frameFits, tableFits, tableRead, someGroup, gridsFit, sigmaCount, sigmaNumber}
 
 -- ---- tests that do not hold
 
@@ -62,6 +62,12 @@ some-turn n has e h = rw (add-one n, e, h)
 pub some-end : (i n : ℕ) (has : ℕ → Bool) → someBelow i has ≡ false → i ≤ n → n ≤ i → someBelow n has ≡ false
 some-end i n has e p q = let z : i ≡ n = omega arith in rw (← z) e
 
+pub some-fewer : (n k : ℕ) (has : ℕ → Bool) → someBelow n has ≡ false → k ≤ n → someBelow k has ≡ false
+unfolding someBelow
+some-fewer zero k has e l = let z : k ≡ 0 = omega arith in rw z
+some-fewer (suc n) k has e l =
+    ⊎-elim (λ (z : k ≡ suc n). rw z e) (λ (m : k < suc n). some-fewer n k has (neither (someBelow n has) (has n) e .0) (le-of-suc-le-suc m)) (eq-or-lt-of-le l)
+
 -- and so each of them has it not.
 pub none-below : (n k : ℕ) (has : ℕ → Bool) → someBelow n has ≡ false → k < n → has k ≡ false
 unfolding someBelow
@@ -79,6 +85,14 @@ grid-sides t g h p =
     let e : (badGridSide (gridWidth t g) || badGridSide (gridHeight t g)) ≡ false = rw (eq-eqb (presence t g) 1 p) at h in
     let n = neither (badGridSide (gridWidth t g)) (badGridSide (gridHeight t g)) e in
     (side-range (gridWidth t g) 1024 (n .0), side-range (gridHeight t g) 1024 (n .1))
+
+-- a cell that a present grid does not lack
+pub lacks-not : (t : List ℕ) (g column row : ℕ) → lacks t g column row ≡ false → presence t g ≡ 1 → (column < gridWidth t g) × (row < gridHeight t g)
+unfolding lacks
+lacks-not t g column row h p =
+    let e : (leb (gridWidth t g) column || leb (gridHeight t g) row) ≡ false = rw (eq-eqb (presence t g) 1 p) at h in
+    let n = neither (leb (gridWidth t g) column) (leb (gridHeight t g) row) e in
+    (leb-false (gridWidth t g) column (n .0), leb-false (gridHeight t g) row (n .1))
 
 pub cells-present : (t : List ℕ) (g : ℕ) → presence t g ≡ 1 → cells t g ≡ gridWidth t g * gridHeight t g
 unfolding cells
@@ -190,6 +204,24 @@ module _ (f : Frame) (sizes : GroupSizes) (t : List ℕ) (h : TableOf f sizes t)
   pub entries-le : length t ≤ 768
   entries-le = omega (arith, h .entries, sizes-bounded f (h .sound) .groups-le)
 
+-- a block that is held has its group in the frame and its cell in the group's grid, if that is present
+pub record Held (f : Frame) (t : List ℕ) (bx by : ℕ) : Type 0 where
+  pub in-row : groupOf bx (f .«group_size_shift») < sizesOf f .«groups_per_row»
+  pub in-column : groupOf by (f .«group_size_shift») < sizesOf f .«groups_per_column»
+  pub in-grid : lacks t (groupAt f bx by) (innerOf bx (f .«group_size_shift»)) (innerOf by (f .«group_size_shift»)) ≡ false
+
+pub held : (f : Frame) (t : List ℕ) (bx by : ℕ) → notHeld f t bx by ≡ false → Held f t bx by
+unfolding notHeld
+held f t bx by h =
+    let s = f .«group_size_shift» in
+    let g = neither _ (lacks t (groupAt f bx by) (innerOf bx s) (innerOf by s)) h in
+    let n = neither (leb (sizesOf f .«groups_per_row») (groupOf bx s)) (leb (sizesOf f .«groups_per_column») (groupOf by s)) (g .0) in
+    record {
+      in-row = leb-false (sizesOf f .«groups_per_row») (groupOf bx s) (n .0);
+      in-column = leb-false (sizesOf f .«groups_per_column») (groupOf by s) (n .1);
+      in-grid = g .1;
+    }
+
 -- ---- what is refused and what is accepted
 
 -- the number that the frame alone gives
@@ -234,3 +266,53 @@ pub record Fitting (f : Frame) (sizes : GroupSizes) (b : Blocks) : Type 0 where
 
 pub fitting-sound : (f : Frame) → badSides f ≡ false → badSettings f ≡ false → Sound f
 fitting-sound f s t = frame-sound f (frame-is f ∙ rw (s, t))
+
+-- a check that does not apply
+passed : (b : Bool) (k rest : ℕ) → 0 < k → cond b k rest ≡ 0 → (b ≡ false) × (rest ≡ 0)
+passed true k rest p e = absurd (omega arith)
+passed false k rest p e = (refl, e)
+
+-- What an acceptance says: the frame's and the filter region's numbers are in range, and lengths, grids and blocks fit.
+pub record Accepted (on : Bool) (f : Frame) (b : Blocks) (t : List ℕ) (grids : List Float) (n : ℕ) : Type 0 where
+  pub frame-fits : firstOf (frameChecks f) ≡ accepted
+  pub blocks : Measured b
+  pub entries : length t ≡ 3 * sizesOf f .«num_groups»
+  pub sides : someGroup f (badGrid t) ≡ false
+  pub presences : someGroup f (badPresence t) ≡ false
+  pub cells-are : length grids ≡ gridStart t (sizesOf f .«num_groups»)
+  pub count : n ≡ sigmaCount on b
+  pub held-all : on ≡ true → someNotHeld f b t ≡ false
+
+module _ (on : Bool) (f : Frame) (b : Blocks) (t : List ℕ) (grids : List Float) (n : ℕ) where
+  -- from the tests, once table and settings are known to be read
+  accepted-tests : badSides f ≡ false → badBlocks b ≡ false → badSettings f ≡ false → (tableRead f t && someGroup f (badGrid t)) ≡ false
+      → (frameFits f && not (tableFits f t)) ≡ false → (tableRead f t && not (someGroup f (badPresence t)) && not (gridsFit f t grids)) ≡ false
+      → (not (badBlocks b) && not (eqb n (sigmaCount on b))) ≡ false → (tableRead f t && not (badBlocks b) && on && someNotHeld f b t) ≡ false
+      → (tableRead f t && someGroup f (badPresence t)) ≡ false → Accepted on f b t grids n
+  unfolding tableFits gridsFit
+  accepted-tests s k q g l c m h p =
+      let fits : tableFits f t ≡ true = not-false (tableFits f t) (rw (s, q) at l) in
+      let clear : someGroup f (badPresence t) ≡ false = rw (s, q, fits) at p in
+      record {
+        frame-fits = frame-is f ∙ rw (s, q);
+        blocks = measured b k;
+        entries = eqb-true (length t) (3 * sizesOf f .«num_groups») fits;
+        sides = rw (s, q, fits) at g;
+        presences = clear;
+        cells-are = eqb-true (length grids) (gridStart t (sizesOf f .«num_groups»)) (not-false (gridsFit f t grids) (rw (s, q, fits, clear) at c));
+        count = eqb-true n (sigmaCount on b) (not-false (eqb n (sigmaCount on b)) (rw k at m));
+        held-all = λ o. rw (s, q, fits, k, o) at h;
+      }
+
+  pub accepted-fits : sigmaNumber on f b t grids n ≡ 0 → Accepted on f b t grids n
+  accepted-fits e =
+      let a1 = passed (badSides f) outOfMeasure _ (omega arith) e in
+      let a2 = passed (badBlocks b) outOfMeasure _ (omega arith) (a1 .1) in
+      let a3 = passed (tableRead f t && someGroup f (badGrid t)) outOfMeasure _ (omega arith) (a2 .1) in
+      let a4 = passed (frameFits f && not (tableFits f t)) wrongLength _ (omega arith) (a3 .1) in
+      let a5 = passed (tableRead f t && not (someGroup f (badPresence t)) && not (gridsFit f t grids)) wrongLength _ (omega arith) (a4 .1) in
+      let a6 = passed (not (badBlocks b) && not (eqb n (sigmaCount on b))) wrongLength _ (omega arith) (a5 .1) in
+      let a7 = passed (tableRead f t && not (badBlocks b) && on && someNotHeld f b t) blockNotHeld _ (omega arith) (a6 .1) in
+      let a8 = passed (badSettings f) outOfRange _ (omega arith) (a7 .1) in
+      let a9 = passed (tableRead f t && someGroup f (badPresence t)) outOfRange 0 (omega arith) (a8 .1) in
+      accepted-tests (a1 .0) (a2 .0) (a8 .0) (a3 .0) (a4 .0) (a5 .0) (a6 .0) (a7 .0) (a9 .0)

@@ -3,3 +3,4 @@ pub mod Sigma
 pub mod Outcome
 pub mod Fill
 pub mod Laws
+pub mod Runs

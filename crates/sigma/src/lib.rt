@@ -7,11 +7,13 @@ ghost use Prim.Native.Nat.{ℕ, _+_, _-_, _*_, _<_, _≤_};
 ghost use lib.Dec.{ltb, eqb};
 ghost use lib.ListN.{length, getD};
 ghost use lib.Ieee.{nan};
-ghost use Rattle.frame.specs.Sizes.{dividedUp, sizesOf};
+ghost use Rattle.frame.specs.Sizes.{dividedUp, groupOf, sizesOf};
+ghost use Rattle.frame.specs.Laws.{Sound};
 ghost use Rattle.sigma.specs.Table.{badGrid, badPresence, cells, gridStart, lacks, someBelow};
 ghost use Rattle.sigma.specs.Sigma.{across, down, missing, sigmaIn, sigmaOf, blockSigmas};
 ghost use Rattle.sigma.specs.Outcome.{badBlocks, notHeld, someNotHeld, sigmaCount, gridsFit, sigmaNumber, SigmasOutcome, sigmasOutcome};
 ghost use Rattle.sigma.specs.Laws.{Measured, TableOf, Fitting};
+ghost use Rattle.sigma.specs.Runs.{aboveIn, rowSigma, RunFits, RunOf, RowFits, AllFits};
 ghost use Rattle.sigma.specs.Fill.{fill};
 
 const MAX_SIDE: u32 = 16_384;
@@ -152,8 +154,8 @@ fn wide(x: u32) -> usize
 }
 
 // Where a group's grid starts in the grids slice; for the count of groups, the length of that slice.
-fn grid_start(table: &[u32], groups: usize, group: usize) -> usize
-    requires { ⌜ (length (now table) ≡ 3 * groups) × (groups ≤ 256) × (group ≤ groups) × (someBelow groups (badGrid (now table)) ≡ false) ⌝ }
+fn grid_start(table: &[u32], group: usize) -> usize
+    requires { ⌜ (3 * group ≤ length (now table)) × (group ≤ 256) × (someBelow group (badGrid (now table)) ≡ false) ⌝ }
     ensures { λ r. ⌜ r ≡ gridStart (now (table .entry)) group ⌝ }
 {
     let mut start = 0;
@@ -262,7 +264,7 @@ fn wrong_grids(faulty: bool, table: &[u32], groups: usize, grids: &[f32]) -> boo
     if faulty {
         return false;
     }
-    grids.len() != grid_start(table, groups, groups)
+    grids.len() != grid_start(table, groups)
 }
 
 // The number for a frame and a filter region whose own numbers are in range.
@@ -327,4 +329,217 @@ pub fn check(
         return numbers::WRONG_LENGTH;
     }
     numbers::OUT_OF_RANGE
+}
+
+// What a missing grid gives, from `sigma_for_modular` and the sigma of the block above.
+fn missing(_modular: f32, above: f32) -> f32
+    ensures { λ r. ⌜ r ≡ missing «_modular» above ⌝ }
+{
+    above
+}
+
+// The sigma of the block above index at.
+fn above(sigmas: &[f32], across: usize, modular: f32, at: usize) -> f32
+    requires { ⌜ at < length (now sigmas) ⌝ }
+    ensures { λ r. ⌜ r ≡ aboveIn (now (sigmas .entry)) across modular at ⌝ }
+{
+    if at < across {
+        return modular;
+    }
+    sigmas[at - across]
+}
+
+fn fill_missing(modular: f32, across: u32, sigmas: &mut [f32], at: usize, n: u32)
+    requires { ⌜ (at + n ≤ length (now sigmas)) × (n ≤ across) ⌝ }
+    ensures { λ _. ⌜ now (sigmas .exit) ≡ fill (now (sigmas .entry)) at n (λ (i : ℕ). missing modular (aboveIn (now (sigmas .entry)) across modular (at + i))) ⌝ }
+{
+    let across = across as usize;
+    let end = n as usize;
+    let mut i = 0;
+    while i < end {
+        let v = missing(modular, above(sigmas, across, modular, at + i));
+        sigmas[at + i] = v;
+        i += 1;
+    }
+}
+
+fn fill_cells(grids: &[f32], from: usize, sigmas: &mut [f32], at: usize, n: u32)
+    requires { ⌜ (from + n ≤ length (now grids)) × (at + n ≤ length (now sigmas)) ⌝ }
+    ensures { λ _. ⌜ now (sigmas .exit) ≡ fill (now (sigmas .entry)) at n (λ (i : ℕ). getD (now (grids .entry)) (from + i) nan) ⌝ }
+{
+    let end = n as usize;
+    let mut i = 0;
+    while i < end {
+        sigmas[at + i] = grids[from + i];
+        i += 1;
+    }
+}
+
+// The sigmas of n blocks of one group, from its cell (column, row) on, at index at.
+fn fill_run(
+    table: &[u32],
+    grids: &[f32],
+    group: u32,
+    column: u32,
+    row: u32,
+    modular: f32,
+    across: u32,
+    sigmas: &mut [f32],
+    at: usize,
+    n: u32,
+)
+    requires { ⌜ RunFits (now table) (now grids) group column row n × (at + n ≤ length (now sigmas)) × (n ≤ across) ⌝ }
+    ensures { λ _. ⌜ now (sigmas .exit) ≡ fill (now (sigmas .entry)) at n (λ (i : ℕ). sigmaIn (now (table .entry)) (now (grids .entry)) modular (aboveIn (now (sigmas .entry)) across modular (at + i)) group (column + i) row) ⌝ }
+{
+    let group = group as usize;
+    let entry = ENTRY * group;
+    if table[entry] != PRESENT {
+        fill_missing(modular, across, sigmas, at, n);
+        return;
+    }
+    let width = wide(table[entry + 1]);
+    let start = grid_start(table, group);
+    fill_cells(
+        grids,
+        start + (row as usize * width + column as usize),
+        sigmas,
+        at,
+        n,
+    );
+}
+
+// Blocks of one group in a row: the group, the cell of the first, and their count.
+struct Run {
+    group: u32,
+    column: u32,
+    row: u32,
+    n: u32,
+}
+
+fn smaller(a: u32, b: u32) -> u32
+    requires { ⌜ (0 < a) × (0 < b) ⌝ }
+    ensures { λ r. ⌜ (0 < r) × (r ≤ a) × (r ≤ b) ⌝ }
+{
+    if a < b { a } else { b }
+}
+
+// The run that starts at block (bx, by) and has at most limit blocks.
+fn run_at(frame: Frame, sizes: GroupSizes, bx: u32, by: u32, limit: u32) -> Run
+    requires { ⌜ Sound frame × (sizes ≡ sizesOf frame) × (0 < limit) ⌝ }
+    requires { ⌜ (groupOf bx (frame .«group_size_shift») < sizesOf frame .«groups_per_row») × (groupOf by (frame .«group_size_shift») < sizesOf frame .«groups_per_column») ⌝ }
+    ensures { λ r. ⌜ RunOf frame bx by limit r ⌝ }
+{
+    let column = frame::split_block(bx, frame.group_size_shift);
+    let row = frame::split_block(by, frame.group_size_shift);
+    let group = row.group * sizes.groups_per_row + column.group;
+    let n = smaller(sizes.group_dim - column.inner, limit);
+    Run {
+        group,
+        column: column.inner,
+        row: row.inner,
+        n,
+    }
+}
+
+// The sigmas of a row of blocks, at index o.
+fn fill_row(
+    frame: Frame,
+    sizes: GroupSizes,
+    table: &[u32],
+    grids: &[f32],
+    modular: f32,
+    left: u32,
+    by: u32,
+    across: u32,
+    sigmas: &mut [f32],
+    o: usize,
+)
+    requires { ⌜ RowFits frame sizes (now table) (now grids) left by across × (o + across ≤ length (now sigmas)) ⌝ }
+    ensures { λ _. ⌜ now (sigmas .exit) ≡ fill (now (sigmas .entry)) o across (rowSigma frame (now (table .entry)) (now (grids .entry)) modular (now (sigmas .entry)) across o left by) ⌝ }
+{
+    let mut x = 0;
+    while x < across {
+        let run = run_at(frame, sizes, left + x, by, across - x);
+        fill_run(
+            table,
+            grids,
+            run.group,
+            run.column,
+            run.row,
+            modular,
+            across,
+            sigmas,
+            o + x as usize,
+            run.n,
+        );
+        x += run.n;
+    }
+}
+
+fn fill_rows(
+    frame: Frame,
+    sizes: GroupSizes,
+    blocks: Blocks,
+    table: &[u32],
+    grids: &[f32],
+    modular: f32,
+    sigmas: &mut [f32],
+)
+    requires { ⌜ AllFits frame sizes blocks (now table) (now grids) × (length (now sigmas) ≡ down blocks * across blocks) ⌝ }
+    ensures { λ _. ⌜ now (sigmas .exit) ≡ blockSigmas frame blocks (now (table .entry)) (now (grids .entry)) modular ⌝ }
+{
+    let across = blocks_along(blocks.width);
+    let down = blocks_along(blocks.height);
+    let mut y = 0;
+    let mut o = 0;
+    while y < down {
+        let by = blocks.top + y;
+        fill_row(
+            frame,
+            sizes,
+            table,
+            grids,
+            modular,
+            blocks.left,
+            by,
+            across,
+            sigmas,
+            o,
+        );
+        o += across as usize;
+        y += 1;
+    }
+}
+
+// The sigma of each block of the filter region, row of blocks after row, or the number that the inputs are refused with.
+pub fn block_sigmas(
+    on: bool,
+    frame: Frame,
+    blocks: Blocks,
+    table: &[u32],
+    grids: &[f32],
+    sigma_for_modular: f32,
+    sigmas: &mut [f32],
+) -> u32
+    ensures { λ r. ⌜ _≡_ {A = SigmasOutcome} (record { number = r; sigmas = now (sigmas .exit) }) (sigmasOutcome on frame blocks (now (table .entry)) (now (grids .entry)) «sigma_for_modular» (now (sigmas .entry))) ⌝ }
+{
+    let number = check(on, frame, blocks, table, grids, sigmas.len());
+    if number != numbers::ACCEPTED {
+        return number;
+    }
+    if !on {
+        return number;
+    }
+    let answer = frame::group_sizes(frame);
+    let sizes = answer.sizes;
+    fill_rows(
+        frame,
+        sizes,
+        blocks,
+        table,
+        grids,
+        sigma_for_modular,
+        sigmas,
+    );
+    number
 }

@@ -10,10 +10,10 @@ use Rattle.sigma.proofs.grid_start.Statement.{statement}
 use Rattle.sigma.proofs.grid_start.Tie as tie
 
 abbrev Inv-loop : tie.InvT-loop
-Inv-loop table groups group start₀ g₀ start g = (g ≤ group) × (start ≡ gridStart table g)
+Inv-loop table group start₀ g₀ start g = (g ≤ group) × (start ≡ gridStart table g)
 
 abbrev μ-loop : tie.MeasureT-loop
-μ-loop table groups group start₀ g₀ start g = group - g
+μ-loop table group start₀ g₀ start g = group - g
 
 loop-holds : tie.Need-loop-holds Inv-loop μ-loop
 unfolding gridStart
@@ -21,13 +21,13 @@ loop-holds c = (omega arith, refl)
 
 module _ (c : tie.In-loop Inv-loop μ-loop) where
   good-grid : badGrid (now (c .before .before .before .args .table)) (c .before .loop .g) ≡ false
-  good-grid = let s = c .before .before .before in none-below (s .args .groups) _ (badGrid (now (s .args .table))) (s .pre .3) (omega arith)
+  good-grid = let s = c .before .before .before in none-below (s .args .group) _ (badGrid (now (s .args .table))) (s .pre .2) (omega arith)
 
   start-small : c .before .loop .start + cells (now (c .before .before .before .args .table)) (c .before .loop .g) ≤ 269484032
   start-small =
       let s = c .before .before .before in
       let t = now (s .args .table) in
-      omega (arith, start-le t (s .args .groups) (c .before .loop .g) (s .pre .3) (omega arith), cells-le t (c .before .loop .g) good-grid)
+      omega (arith, start-le t (s .args .group) (c .before .loop .g) (s .pre .2) (omega arith), cells-le t (c .before .loop .g) good-grid)
 
 cells-requires : tie.Need-cells-requires Inv-loop μ-loop
 cells-requires c κs = (omega arith, good-grid c)
