@@ -17,12 +17,12 @@ use Rattle.frame.specs.declared.FrameAnswer.{FrameAnswer}
 use Rattle.frame.specs.Sizes.{groupDim, groupOf, innerOf, sizesOf}
 use Rattle.frame.specs.Laws.{frame-sound, frame-sizes}
 use Rattle.frame.specs.Outcome.{frameOutcome}
-use Rattle.sigma.specs.declared.Blocks.{Blocks}
+use Rattle.groups.specs.declared.Blocks.{Blocks}
 use Rattle.sigma.specs.declared.Run.{Run}
-use Rattle.sigma.specs.Table.{presence, gridWidth, gridHeight, gridStart, badGrid, someBelow}
-use Rattle.sigma.specs.Sigma.{across, down, groupAt, missing, sigmaIn, sigmaOf, aboveAt, sigmaAt, blockSigmas}
-use Rattle.sigma.specs.Outcome.{notHeld, someNotHeld}
-use Rattle.sigma.specs.Laws.{Measured, across-le, TableOf, entry-lt, entries-le, some-fewer, none-below, grid-sides, lacks-not, cells-present, start-ends, Held, held, Accepted}
+use Rattle.groups.specs.Table.{presence, gridWidth, gridHeight, gridStart, badGrid, someBelow}
+use Rattle.groups.specs.Held.{across, down, groupAt, notHeld, someNotHeld}
+use Rattle.sigma.specs.Sigma.{missing, sigmaIn, sigmaOf, aboveAt, sigmaAt, blockSigmas}
+use Rattle.groups.specs.Laws.{Measured, across-le, TableOf, entry-lt, entries-le, some-fewer, none-below, grid-sides, lacks-not, cells-present, start-ends, Held, held, Accepted}
 use Rattle.sigma.specs.Fill.{fill, fill-before, fill-at, fill-then, fill-whole}
 
 -- the sigma a row of blocks before index at, and the one above the top row
@@ -50,7 +50,7 @@ pub record Holds (t : List ℕ) (grids : List Float) (group column row n : ℕ) 
 
 pub record RunFits (t : List ℕ) (grids : List Float) (group column row n : ℕ) : Type 0 where
   pub entry : 3 * group + 3 ≤ length t
-  pub few : group ≤ 255
+  pub short : length t ≤ 768
   pub before : someBelow group (badGrid t) ≡ false
   pub holds : presence t group ≡ 1 → Holds t grids group column row n
 
@@ -107,7 +107,7 @@ module _ (f : Frame) (sizes : GroupSizes) (t : List ℕ) (grids : List Float) (h
   run-fits bx limit r is no-fault =
       record {
         entry = rw (is .group-is) here;
-        few = rw (is .group-is) (omega (arith, here, entries-le f sizes t (h .table)));
+        short = entries-le f sizes t (h .table);
         before = some-fewer groups (r .group) (badGrid t) (h .sides) (rw (is .group-is) (omega (arith, below)));
         holds = present-holds;
       }

@@ -5,21 +5,11 @@ use Prim.Native.Nat.{ℕ, zero, suc, _+_, _*_, _/_, _%_}
 use lib.ListN.{getD}
 use lib.Ieee.{Float, nan}
 use Rattle.frame.specs.declared.Frame.{Frame}
-use Rattle.frame.specs.Sizes.{dividedUp, groupOf, innerOf, sizesOf}
-use Rattle.sigma.specs.declared.Blocks.{Blocks}
-use Rattle.sigma.specs.Table.{present, gridWidth, gridStart}
+use Rattle.frame.specs.Sizes.{innerOf}
+use Rattle.groups.specs.declared.Blocks.{Blocks}
+use Rattle.groups.specs.Table.{present, gridWidth, gridStart}
+use Rattle.groups.specs.Held.{across, down, groupAt}
 use Rattle.sigma.specs.Fill.{tab}
-
--- a block is 8 by 8 samples: blocks across and down the filter region
-abbrev pub across : Blocks → ℕ
-across b = dividedUp (b .width) 8
-
-abbrev pub down : Blocks → ℕ
-down b = dividedUp (b .height) 8
-
--- the number of the group that block (bx, by) lies in, groups being counted row after row
-abbrev pub groupAt : Frame → ℕ → ℕ → ℕ
-groupAt f bx by = groupOf by (f .«group_size_shift») * sizesOf f .«groups_per_row» + groupOf bx (f .«group_size_shift»)
 
 -- What a missing grid gives: the sigma of the block above. Above the top block row that is `sigma_for_modular`.
 abbrev pub missing : Float → Float → Float

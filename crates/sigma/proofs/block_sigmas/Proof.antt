@@ -11,10 +11,11 @@ use lib.Dec.{eqb}
 use lib.ListN.{length}
 use lib.Ieee.{Float}
 use Rattle.frame.specs.declared.Frame.{Frame}
-use Rattle.sigma.specs.declared.Blocks.{Blocks}
+use Rattle.groups.specs.declared.Blocks.{Blocks}
 use Rattle.sigma.specs.Sigma.{blockSigmas}
-use Rattle.sigma.specs.Outcome.{SigmasOutcome, leftIn, sigmaCount}
-use Rattle.sigma.specs.Laws.{Accepted, accepted-fits}
+use Rattle.groups.specs.Outcome.{sigmaCount}
+use Rattle.sigma.specs.Outcome.{SigmasOutcome, leftIn}
+use Rattle.groups.specs.Laws.{Accepted, accepted-fits}
 use Rattle.sigma.specs.Runs.{all-fits}
 use Rattle.sigma.proofs.block_sigmas.Statement.{statement}
 use Rattle.sigma.proofs.block_sigmas.Tie as tie

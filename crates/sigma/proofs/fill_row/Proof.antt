@@ -6,8 +6,8 @@ use native.Mathlib.Omega.{arith}
 use borrow.Author.Needs.{needs}
 use denote.Ref.{now}
 use lib.ListN.{length}
-use Rattle.sigma.specs.Outcome.{notHeld}
-use Rattle.sigma.specs.Laws.{none-below, Held, held}
+use Rattle.groups.specs.Held.{notHeld}
+use Rattle.groups.specs.Laws.{none-below, Held, held}
 use Rattle.sigma.specs.Fill.{fill, fill-end}
 use Rattle.sigma.specs.Runs.{rowSigma, RunOf, run-fits, row-turn}
 use Rattle.sigma.proofs.fill_row.Statement.{statement}

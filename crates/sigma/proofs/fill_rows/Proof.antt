@@ -1,13 +1,14 @@
 -- `sigma::fill_rows` meets its contract. The invariant: y rows are written, and o is where row y goes. Assumes nothing.
 use mathlib.Core.Path.{_≡_, refl, sym, ap, _∙_}
 use Prim.Native.Nat.{ℕ, _+_, _-_, _*_, _<_, _≤_}
+use borrow.Author.Needs.{needs}
 use native.Mathlib.Nat.{suc-mul, mul-le-mul-right, zero-mul}
 use native.Mathlib.Numerals.{add-one}
 use native.Mathlib.Omega.{arith}
 use denote.Ref.{now}
 use lib.ListN.{length}
-use Rattle.sigma.specs.Sigma.{across, down}
-use Rattle.sigma.specs.Laws.{down-le}
+use Rattle.groups.specs.Held.{across, down}
+use Rattle.groups.specs.Laws.{down-le}
 use Rattle.sigma.specs.Fill.{fill}
 use Rattle.sigma.specs.Runs.{flatSigma, AllFits, row-fits, rows-turn, rows-end}
 use Rattle.sigma.proofs.fill_rows.Statement.{statement}
@@ -81,8 +82,8 @@ fill-rows-spec =
     (tie.spec
     Inv-loop
     μ-loop
-    (λ c κs. c .before .before .before .pre .0 .measured-blocks .width-le)
-    (λ c κs. c .before .before .before .before .pre .0 .measured-blocks .height-le)
+    (λ c κs. search needs)
+    (λ c κs. search needs)
     loop-holds
     (λ c. omega (arith, start (c .before) .pre .0 .measured-blocks .top-le, down-le _ (start (c .before) .pre .0 .measured-blocks), y-lt (c .before)))
     fill-row-requires

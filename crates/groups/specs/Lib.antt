@@ -1,0 +1,4 @@
+pub mod Table
+pub mod Held
+pub mod Outcome
+pub mod Laws
