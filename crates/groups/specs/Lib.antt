@@ -2,3 +2,4 @@ pub mod Table
 pub mod Held
 pub mod Outcome
 pub mod Laws
+pub mod Examples
