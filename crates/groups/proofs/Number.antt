@@ -1,0 +1,55 @@
+-- The number of the first check that applies, from what each test says in turn. Assumes nothing.
+use mathlib.Core.Path.{_≡_, sym}
+use mathlib.Core.Bool.{Bool, true, false, not, _&&_}
+use mathlib.Core.List.{List}
+use Prim.Native.Nat.{ℕ}
+use lib.Dec.{eqb}
+use lib.Ieee.{Float}
+use Rattle.numbers.specs.Numbers.{accepted, outOfMeasure, wrongLength, blockNotHeld, outOfRange}
+use Rattle.frame.specs.declared.Frame.{Frame}
+use Rattle.groups.specs.declared.Blocks.{Blocks}
+use Rattle.groups.specs.Table.{badGrid, badPresence}
+use Rattle.groups.specs.Outcome.{badSides, badSettings, badBlocks, tableFits, someGroup, gridsFit, sigmaCount, sigmaNumber}
+use Rattle.groups.specs.Held.{someNotHeld}
+
+module _ (on : Bool) (f : Frame) (b : Blocks) (t : List ℕ) (grids : List Float) (n : ℕ) where
+  pub sides-out : badSides f ≡ true → outOfMeasure ≡ sigmaNumber on f b t grids n
+  sides-out s = rw s
+
+  pub blocks-out : badSides f ≡ false → badBlocks b ≡ true → outOfMeasure ≡ sigmaNumber on f b t grids n
+  blocks-out s k = rw (s, k)
+
+  -- settings out of range: only the count of sigmas is judged
+  module _ (s : badSides f ≡ false) (k : badBlocks b ≡ false) (q : badSettings f ≡ true) where
+    pub count-wrong : eqb n (sigmaCount on b) ≡ false → wrongLength ≡ sigmaNumber on f b t grids n
+    count-wrong c = rw (s, k, q, c)
+
+    pub settings-out : eqb n (sigmaCount on b) ≡ true → outOfRange ≡ sigmaNumber on f b t grids n
+    settings-out c = rw (s, k, q, c)
+
+  module _ (s : badSides f ≡ false) (k : badBlocks b ≡ false) (q : badSettings f ≡ false) where
+    pub table-wrong : tableFits f t ≡ false → wrongLength ≡ sigmaNumber on f b t grids n
+    table-wrong l = rw (s, k, q, l)
+
+    module _ (l : tableFits f t ≡ true) where
+      pub grid-out : someGroup f (badGrid t) ≡ true → outOfMeasure ≡ sigmaNumber on f b t grids n
+      grid-out g = rw (s, k, q, l, g)
+
+      module _ (g : someGroup f (badGrid t) ≡ false) where
+        pub grids-wrong : (not (someGroup f (badPresence t)) && not (gridsFit f t grids)) ≡ true → wrongLength ≡ sigmaNumber on f b t grids n
+        grids-wrong w = rw (s, k, q, l, g, w)
+
+        module _ (w : (not (someGroup f (badPresence t)) && not (gridsFit f t grids)) ≡ false) where
+          pub sigmas-wrong : eqb n (sigmaCount on b) ≡ false → wrongLength ≡ sigmaNumber on f b t grids n
+          sigmas-wrong c = rw (s, k, q, l, g, w, c)
+
+          module _ (c : eqb n (sigmaCount on b) ≡ true) where
+            pub block-out : (on && someNotHeld f b t) ≡ true → blockNotHeld ≡ sigmaNumber on f b t grids n
+            block-out h = rw (s, k, q, l, g, w, c, h)
+
+            module _ (h : (on && someNotHeld f b t) ≡ false) where
+              pub presence-out : someGroup f (badPresence t) ≡ true → outOfRange ≡ sigmaNumber on f b t grids n
+              presence-out p = rw (s, k, q, l, g, w, c, h, p)
+
+              pub none-out : someGroup f (badPresence t) ≡ false → accepted ≡ sigmaNumber on f b t grids n
+              none-out p = rw (s, k, q, l, g, w, c, h, p)

@@ -1,0 +1,12 @@
+-- `groups::wrong_grids` meets its contract. Assumes nothing.
+use mathlib.Core.Path.{_≡_}
+use mathlib.Core.Bool.{true, false}
+use borrow.Author.Needs.{needs}
+use Rattle.groups.proofs.wrong_grids.Statement.{statement}
+use Rattle.groups.proofs.wrong_grids.Tie as tie
+
+returns-2 : tie.Need-returns-2
+returns-2 c = let e : c .before .before .before .before .args .faulty ≡ false = c .before .if1 .left in rw (e, c .cells-before .ensures)
+
+pub wrong-grids-spec : {M : Type 1} → statement M
+wrong-grids-spec = tie.close (tie.spec (λ c. search needs) (λ c κs. search needs) returns-2)

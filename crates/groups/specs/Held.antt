@@ -1,0 +1,31 @@
+-- The blocks of a filter region in the groups of a frame (document 01, "Block sigmas" and number 8).
+use mathlib.Core.Bool.{Bool, _||_}
+use mathlib.Core.List.{List}
+use Prim.Native.Nat.{ℕ, _+_, _*_}
+use lib.Dec.{leb}
+use Rattle.frame.specs.declared.Frame.{Frame}
+use Rattle.frame.specs.Sizes.{dividedUp, groupOf, innerOf, sizesOf}
+use Rattle.groups.specs.declared.Blocks.{Blocks}
+use Rattle.groups.specs.Table.{lacks, someBelow}
+
+-- a block is 8 by 8 samples: blocks across and down the filter region
+abbrev pub across : Blocks → ℕ
+across b = dividedUp (b .width) 8
+
+abbrev pub down : Blocks → ℕ
+down b = dividedUp (b .height) 8
+
+-- the number of the group that block (bx, by) lies in, groups being counted row after row
+abbrev pub groupAt : Frame → ℕ → ℕ → ℕ
+groupAt f bx by = groupOf by (f .«group_size_shift») * sizesOf f .«groups_per_row» + groupOf bx (f .«group_size_shift»)
+
+-- block (bx, by) has a group past the groups per row or column, or a grid that is present and does not hold its cell
+unfoldable pub notHeld : Frame → List ℕ → ℕ → ℕ → Bool
+notHeld f t bx by =
+    leb (sizesOf f .«groups_per_row») (groupOf bx (f .«group_size_shift»))
+    || leb (sizesOf f .«groups_per_column») (groupOf by (f .«group_size_shift»))
+    || lacks t (groupAt f bx by) (innerOf bx (f .«group_size_shift»)) (innerOf by (f .«group_size_shift»))
+
+-- some block of the filter region is not held
+unfoldable pub someNotHeld : Frame → Blocks → List ℕ → Bool
+someNotHeld f b t = someBelow (down b) (λ y. someBelow (across b) (λ x. notHeld f t (b .left + x) (b .top + y)))

@@ -1,0 +1,5 @@
+pub mod Table
+pub mod Held
+pub mod Outcome
+pub mod Laws
+pub mod Examples

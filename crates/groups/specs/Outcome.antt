@@ -1,0 +1,96 @@
+-- Which number the inputs of block sigmas get, and what `grid_start` answers.
+use mathlib.Core.Bool.{Bool, cond, not, _&&_, _||_}
+use mathlib.Core.List.{List, [], _∷_}
+use Prim.Native.Nat.{ℕ, _+_, _*_}
+use lib.Dec.{ltb, eqb}
+use lib.ListN.{length}
+use lib.Ieee.{Float}
+use Rattle.numbers.specs.Numbers.{outOfMeasure, wrongLength, blockNotHeld, outOfRange}
+use Rattle.numbers.specs.Checks.{Check, always, given, firstOf}
+use Rattle.frame.specs.declared.Frame.{Frame}
+use Rattle.frame.specs.Sizes.{sizesOf}
+use Rattle.frame.specs.Outcome.{badSide, badUpsampling}
+use Rattle.groups.specs.declared.Blocks.{Blocks}
+use Rattle.groups.specs.declared.StartAnswer.{StartAnswer}
+use Rattle.groups.specs.Table.{gridStart, badPresence, badGrid, someBelow}
+use Rattle.groups.specs.Held.{across, down, someNotHeld}
+
+-- ---- the numbers that checks need
+
+-- frame sides outside 1 to 16,384
+unfoldable pub badSides : Frame → Bool
+badSides f = badSide (f .width) || badSide (f .height)
+
+-- upsampling none of 1, 2, 4, 8; LF level over 4; group size shift over 3
+unfoldable pub badSettings : Frame → Bool
+badSettings f = badUpsampling (f .upsampling) || ltb 4 (f .«lf_level») || ltb 3 (f .«group_size_shift»)
+
+-- a filter region with a side outside 1 to 16,384, an area over 16,777,216, or a left or top over 1,048,576, which is 131,072 blocks
+unfoldable pub badBlocks : Blocks → Bool
+badBlocks b =
+    badSide (b .width) || badSide (b .height) || ltb 16777216 (b .width * b .height) || ltb 131072 (b .left) || ltb 131072 (b .top)
+
+-- the frame's numbers are in range, so that it has groups
+abbrev pub frameFits : Frame → Bool
+frameFits f = not (badSides f || badSettings f)
+
+-- an entry for each group of the frame
+unfoldable pub tableFits : Frame → List ℕ → Bool
+tableFits f t = eqb (length t) (3 * sizesOf f .«num_groups»)
+
+-- entries are read only where the frame's numbers are in range and the table has its length
+abbrev pub tableRead : Frame → List ℕ → Bool
+tableRead f t = frameFits f && tableFits f t
+
+-- some group of the frame has such an entry
+abbrev pub someGroup : Frame → (ℕ → Bool) → Bool
+someGroup f = someBelow (sizesOf f .«num_groups»)
+
+-- exactly the present grids' cells
+unfoldable pub gridsFit : Frame → List ℕ → List Float → Bool
+gridsFit f t grids = eqb (length grids) (gridStart t (sizesOf f .«num_groups»))
+
+-- one sigma a block with the edge filter on, none with it off
+abbrev pub sigmaCount : Bool → Blocks → ℕ
+sigmaCount on b = cond on (down b * across b) 0
+
+-- ---- the table of checks
+
+-- Document 01, "Eleven numbers", "Measures" and "Block sigmas", ascending. With the edge filter off all is checked but 8.
+-- A group whose presence is out of range counts as not present: its sides are passed over, and so is 8 for its grid.
+abbrev pub sigmaChecks : Bool → Frame → Blocks → List ℕ → List Float → ℕ → List Check
+sigmaChecks on f b t grids sigmas =
+    always outOfMeasure (badSides f)
+    ∷ always outOfMeasure (badBlocks b)
+    ∷ given (tableRead f t) outOfMeasure (someGroup f (badGrid t))
+    ∷ given (frameFits f) wrongLength (not (tableFits f t))
+    ∷ given (tableRead f t && not (someGroup f (badPresence t))) wrongLength (not (gridsFit f t grids))
+    ∷ given (not (badBlocks b)) wrongLength (not (eqb sigmas (sigmaCount on b)))
+    ∷ given (tableRead f t && not (badBlocks b) && on) blockNotHeld (someNotHeld f b t)
+    ∷ always outOfRange (badSettings f)
+    ∷ given (tableRead f t) outOfRange (someGroup f (badPresence t))
+    ∷ []
+
+-- the number of the first check that applies
+abbrev pub sigmaNumber : Bool → Frame → Blocks → List ℕ → List Float → ℕ → ℕ
+sigmaNumber on f b t grids sigmas = firstOf (sigmaChecks on f b t grids sigmas)
+
+-- ---- where a grid starts
+
+-- the table has no entry for some group before this one, or more entries than a frame has groups
+unfoldable pub noEntries : List ℕ → ℕ → Bool
+noEntries t group = ltb 768 (length t) || ltb (length t) (3 * group)
+
+-- a grid before it that is out of measure (4), a table of a wrong length (7)
+abbrev pub startChecks : List ℕ → ℕ → List Check
+startChecks t group =
+    given (not (noEntries t group)) outOfMeasure (someBelow group (badGrid t))
+    ∷ always wrongLength (noEntries t group)
+    ∷ []
+
+-- a refusal has start 0
+abbrev pub startAnswered : ℕ → ℕ → StartAnswer
+startAnswered number start = record { number = number; start = cond (eqb number 0) start 0 }
+
+abbrev pub startOutcome : List ℕ → ℕ → StartAnswer
+startOutcome t group = startAnswered (firstOf (startChecks t group)) (gridStart t group)

@@ -1,0 +1,104 @@
+-- `sigma::fill_row` meets its contract. The invariant: the runs before column x are written. Assumes nothing.
+use mathlib.Core.Path.{_≡_, refl, sym, _∙_}
+use mathlib.Core.Bool.{false}
+use Prim.Native.Nat.{ℕ, _+_, _-_, _<_, _≤_}
+use native.Mathlib.Omega.{arith}
+use borrow.Author.Needs.{needs}
+use denote.Ref.{now}
+use lib.ListN.{length}
+use Rattle.groups.specs.Held.{notHeld}
+use Rattle.groups.specs.Laws.{none-below, Held, held}
+use Rattle.sigma.specs.Fill.{fill, fill-end}
+use Rattle.sigma.specs.Runs.{rowSigma, RunOf, run-fits, row-turn}
+use Rattle.sigma.proofs.fill_row.Statement.{statement}
+use Rattle.sigma.proofs.fill_row.Tie as tie
+
+abbrev Inv-loop : tie.InvT-loop
+Inv-loop frame sizes table grids modular left by across sigmas₀ o x₀ sigmas x =
+    (x ≤ across) × (length sigmas ≡ length sigmas₀) × (sigmas ≡ fill sigmas₀ o x (rowSigma frame table grids modular sigmas₀ across o left by))
+
+abbrev μ-loop : tie.MeasureT-loop
+μ-loop frame sizes table grids modular left by across sigmas₀ o x₀ sigmas x = across - x
+
+loop-holds : tie.Need-loop-holds Inv-loop μ-loop
+unfolding fill
+loop-holds c = (omega arith, refl, refl)
+
+module _ (c : tie.In-loop Inv-loop μ-loop) where
+  abbrev start : tie.Start Inv-loop μ-loop
+  start = c .before .before .before .before .before
+
+  -- each block of the row is held
+  held-at : (i : ℕ) → i < start .args .across → notHeld (start .args .frame) (now (start .args .table)) (start .args .left + i) (start .args .by) ≡ false
+  held-at i l = none-below (start .args .across) i _ (start .pre .0 .held-all) l
+
+  here : Held (start .args .frame) (now (start .args .table)) (start .args .left + c .before .loop .x) (start .args .by)
+  here = held _ _ _ _ (held-at (c .before .loop .x) (c .loop-test .taken))
+
+run-at-requires : tie.Need-run-at-requires Inv-loop μ-loop
+run-at-requires c κs =
+    let t = start c .pre .0 .grids-of .table in
+    ((t .sound, t .sizes-are, omega (arith, c .loop-test .taken)), (here c .in-row, here c .in-column))
+
+module _ (c : tie.After-run-at Inv-loop μ-loop) where
+  abbrev start1 : tie.Start Inv-loop μ-loop
+  start1 = start (c .before)
+
+  abbrev x : ℕ
+  x = c .before .before .loop .x
+
+  run-of : RunOf (start1 .args .frame) (start1 .args .left + x) (start1 .args .by) (start1 .args .across - x) (c .run-at .result)
+  run-of = c .run-at .ensures
+
+  ends : x + c .run-at .result .n ≤ start1 .args .across
+  ends = omega (arith, run-of .within, c .before .loop-test .taken)
+
+  last-held : notHeld (start1 .args .frame) (now (start1 .args .table)) (start1 .args .left + x + (c .run-at .result .n - 1)) (start1 .args .by) ≡ false
+  last-held =
+      let e : start1 .args .left + x + (c .run-at .result .n - 1) ≡ start1 .args .left + (x + (c .run-at .result .n - 1)) = omega arith in
+      rw e (held-at (c .before) (x + (c .run-at .result .n - 1)) (omega (arith, ends, run-of .some)))
+
+  room : start1 .args .o + x + c .run-at .result .n ≤ length (c .before .before .loop .sigmas)
+  room = omega (arith, ends, start1 .pre .1, c .before .before .loop .inv .1)
+
+fill-run-requires : tie.Need-fill-run-requires Inv-loop μ-loop
+fill-run-requires c κs =
+    let d = c .before in
+    let s = start1 d in (
+      run-fits (s .args .frame) (s .args .sizes) (now (s .args .table)) (now (s .args .grids)) (s .pre .0 .grids-of) (s .args .by) (s .args .left + x d) _ _ (run-of d) (last-held d),
+      room d,
+      omega (arith, ends d),
+    )
+
+loop-again : tie.Need-loop-again Inv-loop μ-loop
+loop-again c =
+    let e = c .before .before .before in
+    let d = e .before .before in
+    let s = start1 d in
+    let inv = d .before .before .loop .inv in (
+      ends d,
+      e .fill-run .kept .1 .1 .1 .1 .1 .1 .1 .0 ∙ inv .1,
+      row-turn (s .args .frame) (now (s .args .table)) (now (s .args .grids)) (s .args .modular) (now (s .args .sigmas)) (s .args .across) (s .args .o) (s .args .left) (s .args .by) _ _ (x d) _ _ (inv .2) (run-of d) (omega (arith, d .before .loop-test .taken)) (e .fill-run .ensures),
+    )
+
+returns : tie.Need-returns Inv-loop μ-loop
+returns c = let inv = c .before .loop .inv in fill-end _ _ _ _ _ _ (inv .2) (inv .0) (c .loop-test .left)
+
+pub fill-row-spec : {M : Type 1} → statement M
+fill-row-spec =
+    tie.close
+    (tie.spec
+    Inv-loop
+    μ-loop
+    loop-holds
+    (λ c. omega (arith, start c .pre .0 .left-le, start c .pre .0 .n-le, c .loop-test .taken))
+    (λ c. omega (arith, c .loop-test .taken))
+    run-at-requires
+    (λ c. omega (arith, start1 (c .before) .fits .across, ends (c .before)))
+    (λ c. omega (arith, room (c .before)))
+    fill-run-requires
+    (λ c. omega (arith, start1 (c .before .before .before .before .before) .fits .across, ends (c .before .before .before .before .before)))
+    (λ c. let d = c .before .before .before .before .before in omega (arith, run-of d .some, ends d))
+    loop-again
+    (λ c. c .before .loop .inv .1)
+    returns)

@@ -1,0 +1,56 @@
+-- The sigmas of some blocks, computed. Assumes nothing.
+use mathlib.Core.Path.{_≡_, refl}
+use mathlib.Core.Bool.{true}
+use mathlib.Core.List.{List, [], _∷_}
+use Prim.Native.Nat.{ℕ}
+use lib.ListN.{getD, replicate}
+use lib.Ieee.{Float, nan}
+use Rattle.frame.specs.declared.Frame.{Frame}
+use Rattle.frame.specs.Sizes.{sizesOf}
+use Rattle.groups.specs.declared.Blocks.{Blocks}
+use Rattle.groups.specs.Table.{badGrid, cells, gridStart, lacks, someBelow}
+use Rattle.groups.specs.Held.{notHeld, someNotHeld}
+use Rattle.groups.specs.Outcome.{badSides, badSettings, badBlocks, tableFits, gridsFit, sigmaNumber}
+use Rattle.sigma.specs.Sigma.{sigmaIn, sigmaOf, aboveAt, sigmaAt, blockSigmas}
+use Rattle.sigma.specs.Fill.{tab}
+
+-- one group across and two down, of 128 blocks a side; the upper one has a grid of one column, the lower none
+abbrev frame : Frame
+frame = record { width = 8; height = 1040; upsampling = 1; «lf_level» = 0; «group_size_shift» = 0 }
+
+abbrev table : List ℕ
+table = 1 ∷ 1 ∷ 128 ∷ 0 ∷ 0 ∷ 0 ∷ []
+
+abbrev blocks : ℕ → ℕ → Blocks
+blocks top height = record { left = 0; top = top; width = 8; height = height }
+
+-- document 01: group row 0 has grids, row 1 none, and block row 128 repeats row 127
+repeated : (grids : List Float) (modular : Float) → (sigmaAt frame (blocks 0 1040) table grids modular 0 127 ≡ getD grids 127 nan) × (sigmaAt frame (blocks 0 1040) table grids modular 0 128 ≡ getD grids 127 nan) × (sigmaAt frame (blocks 0 1040) table grids modular 0 129 ≡ getD grids 127 nan)
+unfolding sizesOf gridStart cells sigmaIn sigmaOf aboveAt sigmaAt
+repeated grids modular = (refl, refl, refl)
+
+-- the list for the filter region of block rows 127 to 129
+listed : (grids : List Float) (modular : Float) → blockSigmas frame (blocks 127 24) table grids modular ≡ getD grids 127 nan ∷ getD grids 127 nan ∷ getD grids 127 nan ∷ []
+unfolding sizesOf gridStart cells sigmaIn sigmaOf aboveAt sigmaAt blockSigmas tab
+listed grids modular = refl
+
+-- a filter region that starts at block row 128 has no block above, and starts from `sigma_for_modular`
+started : (grids : List Float) (modular : Float) → blockSigmas frame (blocks 128 16) table grids modular ≡ modular ∷ modular ∷ []
+unfolding sizesOf gridStart cells sigmaIn sigmaOf aboveAt sigmaAt blockSigmas tab
+started grids modular = refl
+
+-- these inputs are accepted
+fits : sigmaNumber true frame (blocks 127 24) table (replicate 128 nan) 3 ≡ 0
+unfolding sizesOf badSides badSettings badBlocks tableFits gridsFit gridStart cells someBelow badGrid someNotHeld notHeld lacks
+fits = refl
+
+-- four groups with grids of 128 by 128 cells, and the four blocks where they meet: one cell of each grid, grids in group order
+corner : (grids : List Float) (modular : Float)
+    → blockSigmas (record { width = 1040; height = 1040; upsampling = 1; «lf_level» = 0; «group_size_shift» = 0 })
+    (record { left = 127; top = 127; width = 16; height = 16 })
+    (1 ∷ 128 ∷ 128 ∷ 1 ∷ 128 ∷ 128 ∷ 1 ∷ 128 ∷ 128 ∷ 1 ∷ 128 ∷ 128 ∷ [])
+    grids
+    modular
+    ≡ getD grids 16383 nan ∷ getD grids 32640 nan ∷ getD grids 32895 nan ∷ getD grids 49152 nan ∷ []
+unfolding sizesOf gridStart cells sigmaIn sigmaOf aboveAt sigmaAt blockSigmas tab
+corner grids modular = refl

@@ -1,0 +1,6 @@
+pub mod Sigma
+pub mod Outcome
+pub mod Fill
+pub mod Runs
+pub mod Laws
+pub mod Examples

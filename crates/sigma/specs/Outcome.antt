@@ -1,0 +1,26 @@
+-- What `block_sigmas` answers, and what it leaves in the sigmas.
+use mathlib.Core.Bool.{Bool, cond, _&&_}
+use mathlib.Core.List.{List}
+use Prim.Native.Nat.{ℕ}
+use lib.Dec.{eqb}
+use lib.ListN.{length}
+use lib.Ieee.{Float}
+use Rattle.frame.specs.declared.Frame.{Frame}
+use Rattle.groups.specs.declared.Blocks.{Blocks}
+use Rattle.groups.specs.Outcome.{sigmaNumber}
+use Rattle.sigma.specs.Sigma.{blockSigmas}
+
+pub record SigmasOutcome : Type 0 where
+  pub number : ℕ
+  pub sigmas : List Float
+
+-- accepted, with the edge filter on, the sigmas are the filter region's; else they are as lent
+abbrev pub leftIn : ℕ → Bool → List Float → List Float → List Float
+leftIn number on defined lent = cond (eqb number 0 && on) defined lent
+
+abbrev pub sigmasOutcome : Bool → Frame → Blocks → List ℕ → List Float → Float → List Float → SigmasOutcome
+sigmasOutcome on f b t grids modular lent =
+    record {
+      number = sigmaNumber on f b t grids (length lent);
+      sigmas = leftIn (sigmaNumber on f b t grids (length lent)) on (blockSigmas f b t grids modular) lent;
+    }

@@ -1,0 +1,40 @@
+-- The sigma of each block of a filter region (document 01, "Block sigmas").
+use mathlib.Core.Bool.{cond}
+use mathlib.Core.List.{List}
+use Prim.Native.Nat.{ℕ, zero, suc, _+_, _*_, _/_, _%_}
+use lib.ListN.{getD}
+use lib.Ieee.{Float, nan}
+use Rattle.frame.specs.declared.Frame.{Frame}
+use Rattle.frame.specs.Sizes.{innerOf}
+use Rattle.groups.specs.declared.Blocks.{Blocks}
+use Rattle.groups.specs.Table.{present, gridWidth, gridStart}
+use Rattle.groups.specs.Held.{across, down, groupAt}
+use Rattle.sigma.specs.Fill.{tab}
+
+-- What a missing grid gives: the sigma of the block above. Above the top block row that is `sigma_for_modular`.
+abbrev pub missing : Float → Float → Float
+missing modular above = above
+
+-- the sigma of a cell of a group: from the group's grid, or what a missing grid gives
+unfoldable pub sigmaIn : List ℕ → List Float → Float → Float → ℕ → ℕ → ℕ → Float
+sigmaIn t grids modular above group column row =
+    cond (present t group) (getD grids (gridStart t group + (row * gridWidth t group + column)) nan) (missing modular above)
+
+-- the sigma of block (bx, by) of the frame
+unfoldable pub sigmaOf : Frame → List ℕ → List Float → Float → Float → ℕ → ℕ → Float
+sigmaOf f t grids modular above bx by =
+    sigmaIn t grids modular above (groupAt f bx by) (innerOf bx (f .«group_size_shift»)) (innerOf by (f .«group_size_shift»))
+
+module _ (f : Frame) (b : Blocks) (t : List ℕ) (grids : List Float) (modular : Float) where
+  -- the sigma above block row y of the filter region, at its block column x
+  unfoldable pub aboveAt : ℕ → ℕ → Float
+  aboveAt x zero = modular
+  aboveAt x (suc y) = sigmaOf f t grids modular (aboveAt x y) (b .left + x) (b .top + y)
+
+  -- the sigma at block column x and block row y of the filter region
+  unfoldable pub sigmaAt : ℕ → ℕ → Float
+  sigmaAt x y = sigmaOf f t grids modular (aboveAt x y) (b .left + x) (b .top + y)
+
+  -- all sigmas of the filter region, row of blocks after row
+  unfoldable pub blockSigmas : List Float
+  blockSigmas = tab (down b * across b) (λ i. sigmaAt (i % across b) (i / across b))

@@ -1,0 +1,226 @@
+// The sigma of each block of a filter region, from the frame's groups and their grids (document 01, "Block sigmas").
+use frame::Frame;
+use frame::GroupSizes;
+use groups::Blocks;
+ghost use mathlib.Core.Path.{_≡_};
+ghost use Prim.Native.Nat.{ℕ, _+_, _*_, _<_, _≤_};
+ghost use lib.ListN.{length, getD};
+ghost use lib.Ieee.{nan};
+ghost use Rattle.frame.specs.Sizes.{groupOf, sizesOf};
+ghost use Rattle.frame.specs.Laws.{Sound};
+ghost use Rattle.groups.specs.Held.{across, down};
+ghost use Rattle.sigma.specs.Sigma.{missing, sigmaIn, blockSigmas};
+ghost use Rattle.sigma.specs.Outcome.{SigmasOutcome, sigmasOutcome};
+ghost use Rattle.sigma.specs.Runs.{aboveIn, rowSigma, RunFits, RunOf, RowFits, AllFits};
+ghost use Rattle.sigma.specs.Fill.{fill};
+
+const PRESENT: u32 = 1;
+// Presence, grid width, grid height.
+const ENTRY: usize = 3;
+
+// What a missing grid gives, from `sigma_for_modular` and the sigma of the block above.
+fn missing(_modular: f32, above: f32) -> f32
+    ensures { λ r. ⌜ r ≡ missing «_modular» above ⌝ }
+{
+    above
+}
+
+// The sigma of the block above index at.
+fn above(sigmas: &[f32], across: usize, modular: f32, at: usize) -> f32
+    requires { ⌜ at < length (now sigmas) ⌝ }
+    ensures { λ r. ⌜ r ≡ aboveIn (now (sigmas .entry)) across modular at ⌝ }
+{
+    if at < across {
+        return modular;
+    }
+    sigmas[at - across]
+}
+
+fn fill_missing(modular: f32, across: u32, sigmas: &mut [f32], at: usize, n: u32)
+    requires { ⌜ (at + n ≤ length (now sigmas)) × (n ≤ across) ⌝ }
+    ensures { λ _. ⌜ now (sigmas .exit) ≡ fill (now (sigmas .entry)) at n (λ (i : ℕ). missing modular (aboveIn (now (sigmas .entry)) across modular (at + i))) ⌝ }
+{
+    let across = across as usize;
+    let end = n as usize;
+    let mut i = 0;
+    while i < end {
+        let v = missing(modular, above(sigmas, across, modular, at + i));
+        sigmas[at + i] = v;
+        i += 1;
+    }
+}
+
+fn fill_cells(grids: &[f32], from: usize, sigmas: &mut [f32], at: usize, n: u32)
+    requires { ⌜ (from + n ≤ length (now grids)) × (at + n ≤ length (now sigmas)) ⌝ }
+    ensures { λ _. ⌜ now (sigmas .exit) ≡ fill (now (sigmas .entry)) at n (λ (i : ℕ). getD (now (grids .entry)) (from + i) nan) ⌝ }
+{
+    let end = n as usize;
+    let mut i = 0;
+    while i < end {
+        sigmas[at + i] = grids[from + i];
+        i += 1;
+    }
+}
+
+// The sigmas of n blocks of one group, from its cell (column, row) on, at index at.
+fn fill_run(
+    table: &[u32],
+    grids: &[f32],
+    group: u32,
+    column: u32,
+    row: u32,
+    modular: f32,
+    across: u32,
+    sigmas: &mut [f32],
+    at: usize,
+    n: u32,
+)
+    requires { ⌜ RunFits (now table) (now grids) group column row n × (at + n ≤ length (now sigmas)) × (n ≤ across) ⌝ }
+    ensures { λ _. ⌜ now (sigmas .exit) ≡ fill (now (sigmas .entry)) at n (λ (i : ℕ). sigmaIn (now (table .entry)) (now (grids .entry)) modular (aboveIn (now (sigmas .entry)) across modular (at + i)) group (column + i) row) ⌝ }
+{
+    let entry = ENTRY * group as usize;
+    if table[entry] != PRESENT {
+        fill_missing(modular, across, sigmas, at, n);
+        return;
+    }
+    let width = table[entry + 1] as usize;
+    let answer = groups::grid_start(table, group);
+    let from = answer.start + (row as usize * width + column as usize);
+    fill_cells(grids, from, sigmas, at, n);
+}
+
+// Blocks of one group in a row: the group, the cell of the first, and their count.
+struct Run {
+    group: u32,
+    column: u32,
+    row: u32,
+    n: u32,
+}
+
+fn smaller(a: u32, b: u32) -> u32
+    requires { ⌜ (0 < a) × (0 < b) ⌝ }
+    ensures { λ r. ⌜ (0 < r) × (r ≤ a) × (r ≤ b) ⌝ }
+{
+    if a < b { a } else { b }
+}
+
+// The run that starts at block (bx, by) and has at most limit blocks.
+fn run_at(frame: Frame, sizes: GroupSizes, bx: u32, by: u32, limit: u32) -> Run
+    requires { ⌜ Sound frame × (sizes ≡ sizesOf frame) × (0 < limit) ⌝ }
+    requires { ⌜ (groupOf bx (frame .«group_size_shift») < sizesOf frame .«groups_per_row») × (groupOf by (frame .«group_size_shift») < sizesOf frame .«groups_per_column») ⌝ }
+    ensures { λ r. ⌜ RunOf frame bx by limit r ⌝ }
+{
+    let column = frame::split_block(bx, frame.group_size_shift);
+    let row = frame::split_block(by, frame.group_size_shift);
+    let group = row.group * sizes.groups_per_row + column.group;
+    let n = smaller(sizes.group_dim - column.inner, limit);
+    Run {
+        group,
+        column: column.inner,
+        row: row.inner,
+        n,
+    }
+}
+
+// The sigmas of a row of blocks, at index o.
+fn fill_row(
+    frame: Frame,
+    sizes: GroupSizes,
+    table: &[u32],
+    grids: &[f32],
+    modular: f32,
+    left: u32,
+    by: u32,
+    across: u32,
+    sigmas: &mut [f32],
+    o: usize,
+)
+    requires { ⌜ RowFits frame sizes (now table) (now grids) left by across × (o + across ≤ length (now sigmas)) ⌝ }
+    ensures { λ _. ⌜ now (sigmas .exit) ≡ fill (now (sigmas .entry)) o across (rowSigma frame (now (table .entry)) (now (grids .entry)) modular (now (sigmas .entry)) across o left by) ⌝ }
+{
+    let mut x = 0;
+    while x < across {
+        let run = run_at(frame, sizes, left + x, by, across - x);
+        fill_run(
+            table,
+            grids,
+            run.group,
+            run.column,
+            run.row,
+            modular,
+            across,
+            sigmas,
+            o + x as usize,
+            run.n,
+        );
+        x += run.n;
+    }
+}
+
+fn fill_rows(
+    frame: Frame,
+    sizes: GroupSizes,
+    blocks: Blocks,
+    table: &[u32],
+    grids: &[f32],
+    modular: f32,
+    sigmas: &mut [f32],
+)
+    requires { ⌜ AllFits frame sizes blocks (now table) (now grids) × (length (now sigmas) ≡ down blocks * across blocks) ⌝ }
+    ensures { λ _. ⌜ now (sigmas .exit) ≡ blockSigmas frame blocks (now (table .entry)) (now (grids .entry)) modular ⌝ }
+{
+    let across = groups::blocks_along(blocks.width);
+    let down = groups::blocks_along(blocks.height);
+    let mut y = 0;
+    let mut o = 0;
+    while y < down {
+        let by = blocks.top + y;
+        fill_row(
+            frame,
+            sizes,
+            table,
+            grids,
+            modular,
+            blocks.left,
+            by,
+            across,
+            sigmas,
+            o,
+        );
+        o += across as usize;
+        y += 1;
+    }
+}
+
+// The sigma of each block of the filter region, row of blocks after row, or the number that the inputs are refused with.
+pub fn block_sigmas(
+    on: bool,
+    frame: Frame,
+    blocks: Blocks,
+    table: &[u32],
+    grids: &[f32],
+    sigma_for_modular: f32,
+    sigmas: &mut [f32],
+) -> u32
+    ensures { λ r. ⌜ _≡_ {A = SigmasOutcome} (record { number = r; sigmas = now (sigmas .exit) }) (sigmasOutcome on frame blocks (now (table .entry)) (now (grids .entry)) «sigma_for_modular» (now (sigmas .entry))) ⌝ }
+{
+    let number = groups::check(on, frame, blocks, table, grids, sigmas.len());
+    if number != numbers::ACCEPTED {
+        return number;
+    }
+    if !on {
+        return number;
+    }
+    let answer = frame::group_sizes(frame);
+    let sizes = answer.sizes;
+    fill_rows(
+        frame,
+        sizes,
+        blocks,
+        table,
+        grids,
+        sigma_for_modular,
+        sigmas,
+    );
+    number
+}
