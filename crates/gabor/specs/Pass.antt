@@ -1,17 +1,17 @@
 -- What the loops over rows and planes leave is the pass over the filter region. Assumes nothing.
-use mathlib.Core.Path.{_≡_, refl, sym, ap, _∙_}
-use mathlib.Core.List.{List, []}
-use Prim.Native.Nat.{ℕ, zero, suc, _+_, _-_, _*_, _<_, _≤_}
+use mathlib.Core.Path.{_≡_, sym, ap, _∙_}
+use mathlib.Core.List.{List}
+use Prim.Native.Nat.{ℕ, _+_, _-_, _*_, _<_, _≤_}
 use native.Mathlib.Nat.{suc-mul, mul-le-mul, mul-le-mul-right, add-mul}
 use native.Mathlib.Omega.{arith}
 use lib.ListN.{length, getD}
-use lib.IntN.{ℤ, pos, negsuc, _+ℤ_, natAbs}
+use lib.IntN.{ℤ, pos, _+ℤ_}
 use lib.Ieee.{Float, nan}
 use Rattle.mirror.specs.Mirror.{mirror}
 use Rattle.planes.specs.declared.Layout.{Layout}
 use Rattle.planes.specs.Picture.{Picture, around}
 use Rattle.planes.specs.Sets.{of}
-use Rattle.planes.specs.Rect.{rowsFill, planesFill, planes-turn, rows-cong}
+use Rattle.planes.specs.Rect.{planesFill, planes-turn, rows-cong}
 use Rattle.planes.specs.Band.{inner, passed, copiedOutside, filterRow}
 use Rattle.planes.specs.Stored.{LayoutFits, BandFits, passed-over, fits-copied}
 use Rattle.gabor_kernel.specs.Ends.{stands}

@@ -1,12 +1,12 @@
 -- Apart from the order of rounding the formulas are the standard's mirrored kernel, the only row excepted; and `fold` is the mirror. Assumes nothing.
-use mathlib.Core.Path.{_≡_, refl, sym, ap, _∙_}
-use Prim.Native.Nat.{ℕ, zero, suc, _+_, _-_, _*_, _<_, _≤_}
-use native.Mathlib.Decide.{decLt, ℕ-discrete}
+use mathlib.Core.Path.{_≡_, refl, ap}
+use Prim.Native.Nat.{ℕ, _+_, _-_, _<_}
+use native.Mathlib.Decide.{ℕ-discrete}
 use native.Mathlib.Omega.{arith}
 use borrow.Author.Tests.{le-ltb}
 use lib.IntN.{ℤ, pos, negsuc, _+ℤ_}
 use Rattle.mirror.specs.Mirror.{mirror}
-use Rattle.gabor_kernel.specs.Ends.{End, only, first, last, inner, stands, stands-only, stands-first, stands-last, stands-inner, before-first, before-other, after-last, after-other, itself}
+use Rattle.gabor_kernel.specs.Ends.{only, first, last, inner, stands, stands-only, stands-first, stands-last, stands-inner, before-first, before-other, after-last, after-other, itself}
 use Rattle.gabor_kernel.specs.Formula.{formula}
 use Rattle.gabor_kernel.specs.Mirrored.{fold, expand, KernelMirrored, SingleRowDiffers, AloneCopied, FoldMirrors}
 

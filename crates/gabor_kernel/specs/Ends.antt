@@ -1,10 +1,9 @@
 -- Where a place stands among n places in a line, and where its mirrored neighbours stand. Assumes nothing.
-use mathlib.Core.Path.{_≡_, refl, sym, ap, _∙_}
+use mathlib.Core.Path.{_≡_, _∙_}
 use mathlib.Core.Bool.{cond}
-use Prim.Native.Nat.{ℕ, zero, suc, _+_, _-_, _*_, _<_, _≤_}
-use native.Mathlib.Decide.{ℕ-discrete}
+use Prim.Native.Nat.{ℕ, _+_, _-_, _<_, _≤_}
 use native.Mathlib.Omega.{arith}
-use borrow.Author.Tests.{eq-eqb, ne-eqb, le-ltb, lt-ltb}
+use borrow.Author.Tests.{eq-eqb, ne-eqb, le-ltb}
 use lib.Dec.{eqb}
 use lib.IntN.{ℤ, pos, negsuc, _+ℤ_}
 use Rattle.mirror.specs.Mirror.{mirror, mirror-in, mirror-under, mirror-over}

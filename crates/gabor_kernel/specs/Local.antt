@@ -1,15 +1,15 @@
 -- The filter reads its sample and the eight neighbours alone. Assumes nothing.
 use mathlib.Core.Path.{_≡_, refl}
-use mathlib.Core.Bool.{Bool, true, false, cond, _&&_}
-use Prim.Native.Nat.{ℕ, _≤_}
+use mathlib.Core.Bool.{Bool, true, _&&_}
+use Prim.Native.Nat.{_≤_}
 use native.Mathlib.Omega.{arith}
 use lib.Dec.{T, leb, leb→le}
-use lib.IntN.{ℤ, pos, negsuc, natAbs}
+use lib.IntN.{ℤ, pos, natAbs}
 use lib.Ieee.{Float}
 use lib.Ieee.Fits.{and-l, and-r}
 use Rattle.gabor_kernel.specs.Ends.{End, only, first, last, inner}
 use Rattle.gabor_kernel.specs.Formula.{Formula, one, two, three, w0, w1, sample, _⊞_, _⊠_, value, formula}
-use Rattle.gabor_kernel.specs.Gabor.{alone, scaled}
+use Rattle.gabor_kernel.specs.Gabor.{scaled}
 
 -- two samples that see the same within one column and one row
 abbrev pub Alike : (ℤ → ℤ → Float) → (ℤ → ℤ → Float) → Type 0

@@ -1,13 +1,13 @@
 -- The formulas beside the standard's mirrored 3 × 3 kernel, in exact arithmetic: each read with its coefficient.
 use mathlib.Core.Path.{_≡_}
-use mathlib.Core.Bool.{Bool, true, false, cond, _&&_}
+use mathlib.Core.Bool.{Bool, false, cond, _&&_}
 use mathlib.Core.List.{List, [], _∷_, _++_, map}
-use Prim.Native.Nat.{ℕ, zero, suc, _+_, _*_, _<_}
+use Prim.Native.Nat.{ℕ, suc, _+_, _<_}
 use lib.Dec.{eqb}
 use lib.IntN.{ℤ, pos, negsuc, _+ℤ_}
 use Rattle.mirror.specs.Mirror.{mirror}
 use Rattle.gabor_kernel.specs.Ends.{End, only, first, last, inner, stands}
-use Rattle.gabor_kernel.specs.Formula.{Formula, one, two, three, w0, w1, sample, _⊞_, _⊠_, centre, up, down, left, right, formula}
+use Rattle.gabor_kernel.specs.Formula.{Formula, one, two, three, w0, w1, sample, _⊞_, _⊠_, up, down, left, right, formula}
 
 -- ---- the standard's kernel (ISO/IEC 18181-1, Gabor-like filter): the centre weighs 1, the side neighbours w0, the diagonal ones w1, each mirrored
 

@@ -1,20 +1,20 @@
 -- An accepted layout fits: the filter region lies inside the image region. Assumes nothing.
 use mathlib.Core.Path.{_≡_, refl, sym, ap, _∙_}
-use mathlib.Core.Bool.{Bool, true, false, false≢true, cond, _&&_, not}
-use mathlib.Core.List.{List, [], _∷_, _++_}
+use mathlib.Core.Bool.{Bool, true, false, cond, _&&_, not}
+use mathlib.Core.List.{List}
 use Prim.Native.Nat.{ℕ, _+_, _-_, _*_, _<_, _≤_}
 use native.Mathlib.Omega.{arith}
 use borrow.Author.Tests.{le-leb, ne-eqb}
-use lib.Dec.{T, eqb, leb}
+use lib.Dec.{T, eqb}
 use lib.ListN.{length}
 use lib.IntN.{ℤ, pos, natAbs, _+ℤ_, _-ℤ_}
 use lib.Ieee.{Float}
 use lib.Ieee.Fits.{and-l, and-r}
 use lib.Signed.{leZ}
 use Rattle.numbers.specs.Numbers.{outOfMeasure, notInside, wrongLength, outOfRange}
-use Rattle.numbers.specs.Checks.{Check, firstOf}
+use Rattle.numbers.specs.Checks.{firstOf}
 use Rattle.interval.specs.Interval.{covers}
-use Rattle.interval.specs.Order.{le-to, sum-is, difference-is, size-is, one-side, ahead}
+use Rattle.interval.specs.Order.{le-to, sum-is, difference-is, size-is, ahead}
 use Rattle.region.specs.declared.Region.{Region}
 use Rattle.region.specs.Regions.{columns, rows, inside}
 use Rattle.region.specs.Measures.{pictured, pictured-measured, pictured-width, pictured-height, measured-width, measured-height}

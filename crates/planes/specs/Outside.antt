@@ -4,7 +4,6 @@ use mathlib.Core.Bool.{Bool, true, false, cond, _&&_}
 use mathlib.Core.List.{List}
 use Prim.Native.Nat.{ℕ, zero, suc, _+_, _-_, _*_, _<_, _≤_}
 use native.Mathlib.Nat.{suc-mul, add-mul}
-use native.Mathlib.Decide.{decLt, decLe}
 use native.Mathlib.Omega.{arith}
 use borrow.Author.Tests.{lt-ltb, le-ltb, le-leb, lt-leb}
 use lib.Dec.{leb, ltb}
@@ -13,7 +12,7 @@ use lib.Ieee.{Float, nan}
 use Rattle.planes.specs.declared.Layout.{Layout}
 use Rattle.planes.specs.Picture.{Picture}
 use Rattle.planes.specs.Sets.{of}
-use Rattle.planes.specs.Fill.{fill, length-fill, fill-before, fill-after, fill-cong, fill-then, fill-same}
+use Rattle.planes.specs.Fill.{fill, length-fill, fill-after, fill-cong, fill-then, fill-same}
 use Rattle.planes.specs.Rect.{rowsFill, planesFill, planes-turn, planes-later, rows-cong, inRect}
 use Rattle.planes.specs.Band.{inFilter}
 

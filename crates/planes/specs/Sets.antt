@@ -1,8 +1,8 @@
 -- A set of planes as a list, plane after plane and row after row without gaps (document 01, "Measures"), and as a picture. Assumes nothing.
 use mathlib.Core.Path.{_≡_, refl, sym, ap, _∙_}
 use mathlib.Core.List.{List, [], _∷_}
-use Prim.Native.Nat.{ℕ, zero, suc, _+_, _-_, _*_, _/_, _%_, _<_, _≤_, zero-le, suc-le-suc}
-use native.Mathlib.Nat.{le-of-suc-le-suc, mod-lt, div-lt-iff-lt-mul, mul-assoc, div-add-mod'}
+use Prim.Native.Nat.{ℕ, zero, suc, _+_, _-_, _*_, _/_, _%_, _<_}
+use native.Mathlib.Nat.{le-of-suc-le-suc, mod-lt, div-lt-iff-lt-mul, div-add-mod'}
 use native.Mathlib.Omega.{arith}
 use lib.Arith.{digits-lt, digits-div, digits-mod}
 use lib.ListN.{length, getD}

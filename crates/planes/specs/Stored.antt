@@ -1,8 +1,8 @@
 -- What loops over planes and rows leave is what `passed` says: the samples outside the filter region are copied, then the pass writes its rectangle. Assumes nothing.
-use mathlib.Core.Path.{_≡_, refl, sym, ap, _∙_}
+use mathlib.Core.Path.{_≡_, refl, sym, _∙_}
 use mathlib.Core.Bool.{Bool, true, false, false≢true, cond, _&&_}
 use mathlib.Core.List.{List}
-use Prim.Native.Nat.{ℕ, zero, suc, _+_, _-_, _*_, _<_, _≤_, min}
+use Prim.Native.Nat.{ℕ, _+_, _-_, _*_, _<_, _≤_, min}
 use native.Mathlib.Omega.{arith}
 use borrow.Author.Tests.{leb-true, eqb-true, le-leb, eq-eqb}
 use lib.Dec.{T, eqb, leb, ltb, leb→le, le→leb, ltb→lt, lt→ltb}
@@ -11,10 +11,10 @@ use lib.Ieee.{Float}
 use lib.Ieee.Fits.{and-l, and-r, and-i}
 use Rattle.planes.specs.declared.Layout.{Layout}
 use Rattle.planes.specs.Picture.{Picture}
-use Rattle.planes.specs.Sets.{of, setOf, sets-ext, of-setOf, length-setOf}
+use Rattle.planes.specs.Sets.{of, sets-ext, of-setOf, length-setOf}
 use Rattle.planes.specs.Rect.{planesFill, planes-at, length-planesFill, inRect}
 use Rattle.planes.specs.Outside.{planesOutside}
-use Rattle.planes.specs.Band.{resultLeft, resultTop, resultWidth, resultHeight, inFilter, written, inner, passed, layoutFits, setFits, rowsFit, bandFits, filterRow, copiedOutside}
+use Rattle.planes.specs.Band.{resultHeight, inFilter, written, inner, passed, layoutFits, setFits, rowsFit, filterRow, copiedOutside}
 
 -- ---- facts behind the tests
 

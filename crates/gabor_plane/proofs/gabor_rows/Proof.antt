@@ -1,6 +1,6 @@
 -- `gabor_plane::gabor_rows` meets its contract. The invariant: i rows of n are written, and o is where the next one starts. Assumes nothing.
 use mathlib.Core.Path.{_≡_, refl, _∙_}
-use Prim.Native.Nat.{ℕ, suc, _+_, _-_, _*_, _≤_, _<_}
+use Prim.Native.Nat.{ℕ, _+_, _-_, _*_, _≤_, _<_}
 use native.Mathlib.Nat.{add-mul}
 use native.Mathlib.Omega.{arith}
 use denote.Ref.{now}

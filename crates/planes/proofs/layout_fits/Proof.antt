@@ -1,5 +1,5 @@
 -- `planes::layout_fits` meets its contract. Assumes nothing.
-use mathlib.Core.Path.{_≡_, refl, sym, _∙_}
+use mathlib.Core.Path.{_≡_, sym, _∙_}
 use mathlib.Core.Bool.{Bool, true, false}
 use Prim.Native.Nat.{_+_, _≤_, _<_}
 use lib.Dec.{leb}

@@ -1,6 +1,6 @@
 -- `gabor::pass::gabor_band` meets its contract: what lies outside the filter region is copied, then its rows are filtered. Assumes nothing.
-use mathlib.Core.Path.{_≡_, _∙_}
-use Prim.Native.Nat.{_+_, _-_, _≤_}
+use mathlib.Core.Path.{_∙_}
+use Prim.Native.Nat.{_-_}
 use native.Mathlib.Omega.{arith}
 use borrow.Author.Needs.{needs}
 use Rattle.planes.specs.Stored.{FilterRows, filter-rows}

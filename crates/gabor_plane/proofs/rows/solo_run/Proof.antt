@@ -1,6 +1,6 @@
 -- `gabor_plane::rows::solo_run` meets its contract. The invariant: j is at most n, and `dst` has its first j samples. Assumes nothing.
-use mathlib.Core.Path.{_≡_, refl, _∙_}
-use Prim.Native.Nat.{_+_, _-_, _≤_}
+use mathlib.Core.Path.{_≡_, refl}
+use Prim.Native.Nat.{_-_, _≤_}
 use native.Mathlib.Omega.{arith}
 use lib.ListN.{length, length-set}
 use Rattle.planes.specs.Fill.{fill, fill-turn, fill-end}
