@@ -90,13 +90,13 @@ fn gabor(width: u32, height: u32) {
         },
         || {
             let mut target = target.borrow_mut();
-            for channel in 0..3 {
+            for (channel, &weights) in weights.iter().enumerate() {
                 let planes = channel * plane..(channel + 1) * plane;
                 oracle::gabor_plane(
                     &black_box(&source)[planes.clone()],
                     &mut target[planes],
                     width as usize,
-                    weights[channel],
+                    weights,
                 );
             }
         },
