@@ -3,12 +3,12 @@ use mathlib.Core.Path.{_≡_, refl, sym, ap, _∙_}
 use mathlib.Core.Bool.{Bool, true, false, false≢true, cond, not, _&&_, _||_}
 use mathlib.Core.List.{List, [], _∷_}
 use mathlib.Core.Logic.{⊎-elim}
-use Prim.Native.Nat.{ℕ, zero, suc, _+_, _-_, _*_, _/_, _%_, _<_, _≤_}
-use native.Mathlib.Nat.{mod-lt, div-add-mod', suc-mul, mul-le-mul, mul-le-mul-right, mul-comm, eq-or-lt-of-le, le-of-suc-le-suc, mul-add-div-right, mul-add-mod-self-right, div-eq-of-lt, mod-eq-of-lt}
+use Prim.Native.Nat.{ℕ, zero, suc, _+_, _*_, _<_, _≤_}
+use native.Mathlib.Nat.{suc-mul, mul-le-mul, mul-comm, eq-or-lt-of-le, le-of-suc-le-suc}
 use native.Mathlib.Numerals.{add-one}
 use native.Mathlib.Decide.{ℕ-discrete}
 use native.Mathlib.Omega.{arith}
-use borrow.Author.Tests.{le-ltb, ltb-false, leb-false, eq-eqb, ne-eqb, eqb-true, eqb-false, not-false}
+use borrow.Author.Tests.{le-ltb, ltb-false, leb-false, eq-eqb, ne-eqb, eqb-true, not-false}
 use lib.Dec.{ltb, leb, eqb}
 use lib.Arith.{digits-lt}
 use lib.ListN.{length}
@@ -16,13 +16,13 @@ use lib.Ieee.{Float}
 use Rattle.frame.specs.declared.Frame.{Frame}
 use Rattle.frame.specs.declared.GroupSizes.{GroupSizes}
 use Rattle.frame.specs.declared.SplitAnswer.{SplitAnswer}
-use Rattle.frame.specs.Sizes.{groupDim, groupOf, innerOf, sizesOf}
-use Rattle.frame.specs.Laws.{Sound, frame-sound, Bounded, sizes-bounded, group-dim-ge, split-accepted}
+use Rattle.frame.specs.Sizes.{groupOf, innerOf, sizesOf}
+use Rattle.frame.specs.Laws.{Sound, frame-sound, Bounded, sizes-bounded, split-accepted}
 use Rattle.frame.specs.Outcome.{badSide, badUpsampling, frameChecks, splitOutcome}
 use Rattle.numbers.specs.Numbers.{accepted, outOfMeasure, wrongLength, blockNotHeld, outOfRange}
 use Rattle.numbers.specs.Checks.{always, firstOf}
 use Rattle.groups.specs.declared.Blocks.{Blocks}
-use Rattle.groups.specs.Table.{presence, present, gridWidth, gridHeight, badPresence, badGridSide, badGrid, cells, lacks, gridStart, someBelow}
+use Rattle.groups.specs.Table.{presence, gridWidth, gridHeight, badPresence, badGridSide, badGrid, cells, lacks, gridStart, someBelow}
 use Rattle.groups.specs.Held.{across, down, groupAt, notHeld, someNotHeld}
 use Rattle.groups.specs.Outcome.{badSides, badSettings, badBlocks, frameFits, tableFits, tableRead, someGroup, gridsFit, sigmaCount, sigmaNumber, noEntries, startOutcome}
 

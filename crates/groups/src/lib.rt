@@ -254,10 +254,10 @@ fn touched_not_held(
     requires { ⌜ TableOf frame sizes (now table) × Measured blocks ⌝ }
     ensures { λ r. ⌜ r ≡ (on && someNotHeld frame blocks (now (table .entry))) ⌝ }
 {
-    if !on {
-        return false;
+    if on {
+        return some_not_held(frame, sizes, blocks, table);
     }
-    some_not_held(frame, sizes, blocks, table)
+    false
 }
 
 // Whether the grids slice has a wrong length, which faulty presences leave open.
@@ -291,8 +291,8 @@ fn check_table(
     if some_bad_grid(table, groups) {
         return numbers::OUT_OF_MEASURE;
     }
-    let faulty = some_bad_presence(table, groups);
-    if wrong_grids(faulty, table, groups, grids) {
+    let bad_presence = some_bad_presence(table, groups);
+    if wrong_grids(bad_presence, table, groups, grids) {
         return numbers::WRONG_LENGTH;
     }
     if sigmas_len != sigma_count(on, blocks) {
@@ -301,7 +301,7 @@ fn check_table(
     if touched_not_held(on, frame, sizes, blocks, table) {
         return numbers::BLOCK_NOT_HELD;
     }
-    if faulty {
+    if bad_presence {
         return numbers::OUT_OF_RANGE;
     }
     numbers::ACCEPTED

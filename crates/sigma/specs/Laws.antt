@@ -1,7 +1,7 @@
 -- What the block sigmas are, for callers: their list, a present grid's cell, and a missing grid. Assumes nothing.
-use mathlib.Core.Path.{_≡_, refl, ap, _∙_}
+use mathlib.Core.Path.{_≡_, _∙_}
 use mathlib.Core.List.{List}
-use Prim.Native.Nat.{ℕ, zero, suc, _+_, _*_, _/_, _%_, _<_}
+use Prim.Native.Nat.{ℕ, suc, _+_, _*_, _<_}
 use borrow.Author.Tests.{eq-eqb, ne-eqb}
 use lib.Arith.{digits-lt, digits-div, digits-mod}
 use lib.ListN.{length, getD}

@@ -1,10 +1,7 @@
 -- `groups::bad_grid` meets its contract. Assumes nothing.
-use mathlib.Core.Path.{_≡_, sym, _∙_}
-use mathlib.Core.Bool.{true, false}
 use borrow.Author.Needs.{needs}
 use borrow.Author.Tests.{eq-eqb, ne-eqb}
-use native.Mathlib.Omega.{arith}
-use Rattle.groups.specs.Table.{presence, gridWidth, gridHeight, badGridSide, badGrid}
+use Rattle.groups.specs.Table.{presence, badGrid}
 use Rattle.groups.proofs.bad_grid.Statement.{statement}
 use Rattle.groups.proofs.bad_grid.Tie as tie
 

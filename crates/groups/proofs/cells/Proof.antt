@@ -1,5 +1,5 @@
 -- `groups::cells` meets its contract. Assumes nothing.
-use mathlib.Core.Path.{_≡_, sym, _∙_}
+use mathlib.Core.Path.{_≡_, sym}
 use Prim.Native.Nat.{_*_}
 use borrow.Author.Needs.{needs}
 use native.Mathlib.Nat.{mul-le-mul}

@@ -1,7 +1,7 @@
 -- `groups::cells_before` meets its contract. The invariant: start is where grid g starts. Assumes nothing.
 use mathlib.Core.Path.{_≡_, refl, _∙_, ap}
 use mathlib.Core.Bool.{false}
-use Prim.Native.Nat.{ℕ, _+_, _-_, _≤_}
+use Prim.Native.Nat.{_+_, _-_, _≤_}
 use denote.Ref.{now}
 use native.Mathlib.Omega.{arith}
 use Rattle.groups.specs.Table.{gridStart, badGrid, cells}

@@ -1,11 +1,10 @@
 -- `groups::check` meets its contract: each return has the number of the first check that applies. Assumes nothing.
 use mathlib.Core.Path.{_≡_, sym, ap, _∙_}
-use mathlib.Core.Bool.{Bool, true, false, cond}
+use mathlib.Core.Bool.{true, false, cond}
 use mathlib.Core.List.{List}
 use Prim.Native.Nat.{ℕ}
 use borrow.Author.Needs.{needs}
 use borrow.Author.Tests.{eq-eqb, ne-eqb}
-use native.Mathlib.Omega.{arith}
 use denote.Ref.{now}
 use lib.Ieee.{Float}
 use Rattle.numbers.specs.Numbers.{accepted, outOfMeasure, outOfRange}
@@ -14,7 +13,7 @@ use Rattle.frame.specs.declared.FrameAnswer.{FrameAnswer}
 use Rattle.frame.specs.Laws.{frame-sizes}
 use Rattle.groups.specs.declared.Blocks.{Blocks}
 use Rattle.groups.specs.Outcome.{badSides, badSettings, badBlocks}
-use Rattle.groups.specs.Laws.{frame-is, sides-bad, sides-fit, settings-bad, settings-fit, Fitting, measured}
+use Rattle.groups.specs.Laws.{frame-is, sides-bad, sides-fit, settings-bad, settings-fit, measured}
 use Rattle.groups.proofs.Number as number
 use Rattle.groups.proofs.check.Statement.{statement}
 use Rattle.groups.proofs.check.Tie as tie

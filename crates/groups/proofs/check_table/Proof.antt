@@ -16,9 +16,8 @@ use Rattle.frame.specs.Sizes.{sizesOf}
 use Rattle.frame.specs.Laws.{sizes-bounded}
 use Rattle.groups.specs.declared.Blocks.{Blocks}
 use Rattle.groups.specs.Table.{someBelow, badGrid, badPresence, gridStart}
-use Rattle.groups.specs.Outcome.{tableFits, someGroup, gridsFit, sigmaCount, sigmaNumber}
-use Rattle.groups.specs.Held.{someNotHeld}
-use Rattle.groups.specs.Laws.{Fitting, TableOf, Measured, measured, fitting-sound}
+use Rattle.groups.specs.Outcome.{tableFits, someGroup, gridsFit, sigmaCount}
+use Rattle.groups.specs.Laws.{TableOf, Measured, measured, fitting-sound}
 use Rattle.groups.proofs.Number as number
 use Rattle.groups.proofs.check_table.Statement.{statement}
 use Rattle.groups.proofs.check_table.Tie as tie

@@ -1,6 +1,6 @@
 -- `groups::grid_start` meets its contract. Assumes nothing.
-use mathlib.Core.Path.{_≡_, refl, sym, _∙_}
-use mathlib.Core.Bool.{Bool, true, false, _||_}
+use mathlib.Core.Path.{_≡_, sym, _∙_}
+use mathlib.Core.Bool.{true, false}
 use mathlib.Core.List.{List}
 use Prim.Native.Nat.{ℕ, _*_, _<_, _≤_}
 use borrow.Author.Needs.{needs}
@@ -8,7 +8,7 @@ use borrow.Author.Tests.{lt-ltb, le-ltb}
 use native.Mathlib.Omega.{arith}
 use denote.Ref.{now}
 use lib.ListN.{length}
-use Rattle.groups.specs.Table.{gridStart, badGrid, someBelow}
+use Rattle.groups.specs.Table.{badGrid, someBelow}
 use Rattle.groups.specs.Outcome.{noEntries, startOutcome}
 use Rattle.groups.specs.declared.StartAnswer.{StartAnswer}
 use Rattle.groups.specs.Laws.{start-accepted}

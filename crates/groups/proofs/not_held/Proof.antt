@@ -1,18 +1,16 @@
 -- `groups::not_held` meets its contract. Assumes nothing.
-use mathlib.Core.Path.{_≡_, sym, ap, _∙_}
-use mathlib.Core.Bool.{Bool, true, false, _||_}
+use mathlib.Core.Path.{_≡_, _∙_}
+use mathlib.Core.Bool.{true}
 use mathlib.Core.List.{List}
 use Prim.Native.Nat.{ℕ, _+_, _*_, _<_, _≤_}
 use borrow.Author.Needs.{needs}
 use borrow.Author.Tests.{le-leb, lt-leb}
-use native.Mathlib.Nat.{mul-le-mul}
 use native.Mathlib.Omega.{arith}
 use lib.ListN.{length}
 use denote.Ref.{now}
 use Rattle.frame.specs.declared.Frame.{Frame}
 use Rattle.frame.specs.declared.GroupSizes.{GroupSizes}
 use Rattle.frame.specs.declared.SplitAnswer.{SplitAnswer}
-use Rattle.frame.specs.Sizes.{sizesOf, groupOf, innerOf}
 use Rattle.frame.specs.Outcome.{splitOutcome}
 use Rattle.groups.specs.Table.{lacks}
 use Rattle.groups.specs.Held.{notHeld}

@@ -1,12 +1,12 @@
 -- `groups::sigma_count` meets its contract. Assumes nothing.
-use mathlib.Core.Path.{_≡_, sym, _∙_}
+use mathlib.Core.Path.{_≡_}
 use mathlib.Core.Bool.{true, false}
 use Prim.Native.Nat.{_*_, _≤_}
 use borrow.Author.Tests.{not-true, not-false}
 use borrow.Author.Needs.{needs}
 use native.Mathlib.Omega.{arith}
 use Rattle.groups.specs.Held.{across, down}
-use Rattle.groups.specs.Laws.{Measured, count-le}
+use Rattle.groups.specs.Laws.{count-le}
 use Rattle.groups.proofs.sigma_count.Statement.{statement}
 use Rattle.groups.proofs.sigma_count.Tie as tie
 

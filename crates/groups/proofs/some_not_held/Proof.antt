@@ -1,11 +1,10 @@
 -- `groups::some_not_held` meets its contract. The invariant: each block above row y is held. Assumes nothing.
-use mathlib.Core.Path.{_≡_, refl, sym, ap, _∙_}
-use mathlib.Core.Bool.{Bool, true, false}
+use mathlib.Core.Path.{_≡_, refl, sym, _∙_}
+use mathlib.Core.Bool.{false}
 use Prim.Native.Nat.{ℕ, _+_, _-_, _≤_}
 use borrow.Author.Needs.{needs}
 use native.Mathlib.Omega.{arith}
 use Rattle.groups.specs.Table.{someBelow}
-use Rattle.groups.specs.Held.{across}
 use Rattle.groups.specs.Held.{notHeld, someNotHeld}
 use Rattle.groups.specs.Laws.{across-le, some-found, some-turn, some-end}
 use Rattle.groups.proofs.some_not_held.Statement.{statement}

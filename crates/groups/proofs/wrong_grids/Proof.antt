@@ -1,6 +1,6 @@
 -- `groups::wrong_grids` meets its contract. Assumes nothing.
 use mathlib.Core.Path.{_≡_}
-use mathlib.Core.Bool.{true, false}
+use mathlib.Core.Bool.{false}
 use borrow.Author.Needs.{needs}
 use Rattle.groups.proofs.wrong_grids.Statement.{statement}
 use Rattle.groups.proofs.wrong_grids.Tie as tie

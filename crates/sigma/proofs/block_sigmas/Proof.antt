@@ -1,17 +1,13 @@
 -- `sigma::block_sigmas` meets its contract. Assumes nothing.
 use mathlib.Core.Path.{_≡_, sym, ap, _∙_}
-use mathlib.Core.Bool.{Bool, true, false, cond, _&&_}
+use mathlib.Core.Bool.{Bool, true, false}
 use mathlib.Core.List.{List}
 use Prim.Native.Nat.{ℕ}
 use borrow.Author.Needs.{needs}
 use borrow.Author.Tests.{eq-eqb, ne-eqb, not-true, not-false}
-use native.Mathlib.Omega.{arith}
 use denote.Ref.{now}
-use lib.Dec.{eqb}
 use lib.ListN.{length}
 use lib.Ieee.{Float}
-use Rattle.frame.specs.declared.Frame.{Frame}
-use Rattle.groups.specs.declared.Blocks.{Blocks}
 use Rattle.sigma.specs.Sigma.{blockSigmas}
 use Rattle.groups.specs.Outcome.{sigmaCount}
 use Rattle.sigma.specs.Outcome.{SigmasOutcome, leftIn}

@@ -1,11 +1,10 @@
 -- `sigma::fill_missing` meets its contract. The invariant: the first i sigmas are written, and what they repeat is as it was. Assumes nothing.
-use mathlib.Core.Path.{_≡_, refl, ap, _∙_}
-use Prim.Native.Nat.{ℕ, _+_, _-_, _<_, _≤_}
+use mathlib.Core.Path.{_≡_, refl, _∙_}
+use Prim.Native.Nat.{ℕ, _+_, _-_, _≤_}
 use native.Mathlib.Omega.{arith}
 use borrow.Author.Needs.{needs}
 use denote.Ref.{now}
 use lib.ListN.{length, length-set}
-use lib.Ieee.{Float}
 use Rattle.sigma.specs.Sigma.{missing}
 use Rattle.sigma.specs.Fill.{fill, fill-turn, fill-end}
 use Rattle.sigma.specs.Runs.{aboveIn, above-same}

@@ -1,10 +1,9 @@
 -- `sigma::fill_run` meets its contract. Assumes nothing.
 use mathlib.Core.Path.{_≡_, ap, _∙_}
-use Prim.Native.Nat.{ℕ, _+_, _*_, _≤_}
+use Prim.Native.Nat.{_+_, _*_, _≤_}
 use borrow.Author.Needs.{needs}
 use native.Mathlib.Omega.{arith}
 use denote.Ref.{now}
-use lib.ListN.{length}
 use Rattle.groups.specs.declared.StartAnswer.{StartAnswer}
 use Rattle.groups.specs.Table.{gridStart, gridWidth}
 use Rattle.sigma.specs.Fill.{fill-cong}

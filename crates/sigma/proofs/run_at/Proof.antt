@@ -1,5 +1,5 @@
 -- `sigma::run_at` meets its contract. Assumes nothing.
-use mathlib.Core.Path.{_≡_, sym, ap, _∙_}
+use mathlib.Core.Path.{_≡_, ap}
 use Prim.Native.Nat.{ℕ, _+_, _*_, _<_, _≤_}
 use borrow.Author.Needs.{needs}
 use native.Mathlib.Nat.{mul-le-mul}
@@ -10,7 +10,6 @@ use Rattle.frame.specs.Sizes.{sizesOf, groupOf, innerOf, groupDim}
 use Rattle.frame.specs.Laws.{Bounded, sizes-bounded, inner-lt}
 use Rattle.groups.specs.Held.{groupAt}
 use Rattle.groups.specs.Laws.{split-group, split-inner}
-use Rattle.sigma.specs.Runs.{RunOf}
 use Rattle.sigma.proofs.run_at.Statement.{statement}
 use Rattle.sigma.proofs.run_at.Tie as tie
 
