@@ -8,7 +8,8 @@ use Rattle.mirror.specs.Mirror.{mirror}
 use Rattle.planes.specs.Samples.{bits, b0, b1, b2, b3, b4}
 use Rattle.planes.specs.Picture.{around}
 use Rattle.planes.specs.Sets.{of, setOf, tab}
-use Rattle.weights.specs.Steps.{kernel, dists, along, magnitude, numbered, scaled, apart, distance, positive, weightBy, copied, standardLimit, weightAt, blend, divisor, epf, border, multiplier, EpfPass, epfPass}
+use Rattle.rounding.specs.Magnitude.{magnitude}
+use Rattle.weights.specs.Steps.{kernel, dists, along, numbered, scaled, apart, distance, positive, weightBy, copied, standardLimit, weightAt, blend, divisor, epf, border, multiplier, EpfPass, epfPass}
 
 -- ---- border multiplier
 

@@ -1,12 +1,13 @@
 -- One sample of an edge-preserving step (document 01, "Edge-preserving steps"; ISO/IEC 18181-1, the edge-preserving filter), and a step over a picture.
 -- Everything is over the step, a reader of samples, the channels with their scales and the copying limit. Each operation is rounded once. Definitions only.
-use mathlib.Core.Bool.{Bool, false, cond, _||_}
+use mathlib.Core.Bool.{Bool, cond, _||_}
 use mathlib.Core.List.{List, [], _∷_}
 use Prim.Native.Nat.{ℕ, zero, suc, _+_, _-_, _/_, _%_}
 use lib.Dec.{eqb}
 use lib.ListN.{take}
 use lib.IntN.{ℤ, pos, negsuc, _+ℤ_}
-use lib.Ieee.{Float, nan, inf, fin, lt}
+use lib.Ieee.{Float, lt}
+use Rattle.rounding.specs.Magnitude.{magnitude}
 use Rattle.planes.specs.Samples.{_⊕_, _⊖_, _⊗_, _⊘_, bits, b0, b1}
 use Rattle.planes.specs.Picture.{Picture, Around, around}
 
@@ -36,12 +37,6 @@ reach step = 3 - step
 unfoldable pub along : {A B : Type 0} → (B → A → B) → B → List A → B
 along f b [] = b
 along f b (a ∷ l) = along f (f b a) l
-
--- |x|
-unfoldable pub magnitude : Float → Float
-magnitude nan = nan
-magnitude (inf s) = inf false
-magnitude (fin s m e) = fin false m e
 
 -- ---- the distance to a neighbour
 
