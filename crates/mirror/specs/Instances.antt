@@ -9,7 +9,7 @@ pub instances : (mirror (negsuc 0) 1 ≡ 0) × (mirror (negsuc 2) 2 ≡ 1) × (m
 unfolding mirror
 instances = (refl, refl, refl, refl)
 
--- several bounces: -11 of 3, which goes by 10, 5, 0; 1048576 of 5; -1048576 of 7
+-- several bounces: -11 of 3, by way of 10, -5 and 4; 1048576 of 5; -1048576 of 7
 bounces : (mirror (negsuc 10) 3 ≡ 1) × (mirror (pos 1048576) 5 ≡ 3) × (mirror (negsuc 1048575) 7 ≡ 3)
 unfolding mirror
 bounces = (refl, refl, refl)

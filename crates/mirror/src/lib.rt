@@ -1,6 +1,5 @@
 // The place of an offset in a row of samples, mirrored at both edges (document 01, "Mirror").
 ghost use mathlib.Core.Path.{_≡_};
-ghost use Prim.Native.Nat.{ℕ};
 ghost use lib.Signed.{mag};
 ghost use lib.IntN.{pos, subℕ};
 ghost use Rattle.numbers.specs.Numbers.{outOfRange};

@@ -4,7 +4,7 @@ use mathlib.Core.Bool.{Bool, true, false, false≢true, cond, _&&_}
 use mathlib.Core.List.{List}
 use Prim.Native.Nat.{ℕ, zero, suc, _+_, _-_, _*_, _<_, _≤_, min}
 use native.Mathlib.Omega.{arith}
-use borrow.Author.Tests.{leb-true, eqb-true}
+use borrow.Author.Tests.{leb-true, eqb-true, le-leb, eq-eqb}
 use lib.Dec.{T, eqb, leb, ltb, leb→le, le→leb, ltb→lt, lt→ltb}
 use lib.ListN.{length}
 use lib.Ieee.{Float}
@@ -288,3 +288,30 @@ module _ (l : Layout) (n from to : ℕ) (src dst : List Float) where
       → passed n l from to (inner l dst) src dst ≡ copiedOutside l n from to src dst
   unfolding copiedOutside
   all-fit p q r = rw (p, q, r)
+
+-- ---- for callers
+
+pub fits-copied : (l : Layout) (n from to : ℕ) (src dst : List Float) → BandFits l n from to src dst → copiedOutside l n from to src dst ≡ passed n l from to (inner l dst) src dst
+fits-copied l n from to src dst f =
+    let sides : layoutFits l ≡ true =
+    rw (le-leb (l .image .width) 16384 (f .layout .wide), le-leb (l .image .height) 16384 (f .layout .high), le-leb (l .left + l .width) (l .image .width) (f .layout .across), le-leb (l .top + l .height) (l .image .height) (f .layout .down)) in
+    sym (all-fit l n from to src dst
+    (rw (sides, le-leb n 3 (f .planes), eq-eqb (length src) (n * l .image .height * l .image .width) (f .source)))
+    (rw (sides, le-leb n 3 (f .planes), eq-eqb (length dst) (n * l .image .height * l .image .width) (f .target)))
+    (rw (le-leb from to (f .order), le-leb to (resultHeight l) (f .rows))))
+
+-- the filter region's rows of a band
+pub record FilterRows (l : Layout) (from to : ℕ) : Type 0 where
+  pub order : filterRow l from ≤ filterRow l to
+  pub end : filterRow l to ≤ l .height
+
+pub filter-rows : (l : Layout) (from to : ℕ) → from ≤ to → to ≤ resultHeight l → FilterRows l from to
+filter-rows l from to p q = record { order = go (l .full); end = last (l .full) q }
+  where
+    go : (b : Bool) → cond b (min (from - l .top) (l .height)) from ≤ cond b (min (to - l .top) (l .height)) to
+    go true = omega arith
+    go false = p
+
+    last : (b : Bool) → to ≤ cond b (l .image .height) (l .height) → cond b (min (to - l .top) (l .height)) to ≤ l .height
+    last true h = omega arith
+    last false h = h

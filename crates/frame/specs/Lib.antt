@@ -1,0 +1,4 @@
+pub mod Sizes
+pub mod Outcome
+pub mod Laws
+pub mod Examples

@@ -1,0 +1,55 @@
+-- What `group_sizes` and `split_block` answer: the tables of their checks, and the outcome for every input.
+use mathlib.Core.Bool.{Bool, cond, not, _||_}
+use mathlib.Core.List.{List, [], _∷_}
+use Prim.Native.Nat.{ℕ}
+use lib.Dec.{ltb, eqb}
+use Rattle.numbers.specs.Numbers.{outOfMeasure, outOfRange}
+use Rattle.numbers.specs.Checks.{Check, always, firstOf}
+use Rattle.frame.specs.declared.Frame.{Frame}
+use Rattle.frame.specs.declared.GroupSizes.{GroupSizes}
+use Rattle.frame.specs.declared.FrameAnswer.{FrameAnswer}
+use Rattle.frame.specs.declared.SplitAnswer.{SplitAnswer}
+use Rattle.frame.specs.Sizes.{sizesOf, groupOf, innerOf}
+
+-- a side outside 1 to 16,384
+abbrev pub badSide : ℕ → Bool
+badSide side = ltb side 1 || ltb 16384 side
+
+-- an upsampling that is none of 1, 2, 4 and 8
+abbrev pub badUpsampling : ℕ → Bool
+badUpsampling u = not (eqb u 1 || eqb u 2 || eqb u 4 || eqb u 8)
+
+-- Document 01, "Measures" (4: frame sides 1 to 16,384) and "Block sigmas" (9: upsampling 1, 2, 4, 8; LF level 0 to 4; group size shift 0 to 3).
+abbrev pub frameChecks : Frame → List Check
+frameChecks f =
+    always outOfMeasure (badSide (f .width))
+    ∷ always outOfMeasure (badSide (f .height))
+    ∷ always outOfRange (badUpsampling (f .upsampling))
+    ∷ always outOfRange (ltb 4 (f .«lf_level»))
+    ∷ always outOfRange (ltb 3 (f .«group_size_shift»))
+    ∷ []
+
+-- the sizes of a refusal
+abbrev pub noSizes : GroupSizes
+noSizes =
+    record { «sample_width» = 0; «sample_height» = 0; «group_dim» = 0; «group_shift» = 0; «groups_per_row» = 0; «groups_per_column» = 0; «num_groups» = 0 }
+
+-- a refusal has no sizes
+abbrev pub answered : ℕ → GroupSizes → FrameAnswer
+answered number sizes = record { number = number; sizes = cond (eqb number 0) sizes noSizes }
+
+-- the number of the first check that applies, and the frame's sizes where none does
+abbrev pub frameOutcome : Frame → FrameAnswer
+frameOutcome f = answered (firstOf (frameChecks f)) (sizesOf f)
+
+-- Document 01, "Block sigmas": group size shift 0 to 3, else 9.
+abbrev pub splitChecks : ℕ → List Check
+splitChecks shift = always outOfRange (ltb 3 shift) ∷ []
+
+-- a refusal has group 0 and inner cell 0
+abbrev pub splitAnswered : ℕ → ℕ → ℕ → SplitAnswer
+splitAnswered number group inner = record { number = number; group = cond (eqb number 0) group 0; inner = cond (eqb number 0) inner 0 }
+
+-- the group of a block, and its cell in that group
+abbrev pub splitOutcome : ℕ → ℕ → SplitAnswer
+splitOutcome block shift = splitAnswered (firstOf (splitChecks shift)) (groupOf block shift) (innerOf block shift)

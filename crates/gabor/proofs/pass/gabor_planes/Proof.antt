@@ -1,0 +1,58 @@
+-- `gabor::pass::gabor_planes` meets its contract. The invariant: c planes of n are written. Assumes nothing.
+use mathlib.Core.Path.{_≡_, refl, _∙_}
+use Prim.Native.Nat.{ℕ, _+_, _-_, _*_, _≤_, _<_}
+use native.Mathlib.Omega.{arith}
+use borrow.Author.Needs.{needs}
+use lib.ListN.{length}
+use Rattle.planes.specs.Rect.{planesFill, planes-end}
+use Rattle.gabor.specs.Pass.{passRows, plane-next, PlaneRoom, plane-room}
+use Rattle.gabor.proofs.pass.gabor_planes.Statement.{statement}
+use Rattle.gabor.proofs.pass.gabor_planes.Tie as tie
+
+abbrev Inv-loop : tie.InvT-loop
+Inv-loop src dst₀ l n from rows weights c₀ dst c =
+    (c ≤ n) × (length dst ≡ length dst₀)
+    × (dst ≡ planesFill (l .image .width) (l .image .height) (l .left) (l .width) (l .top + from) rows (passRows weights l src from) dst₀ c)
+
+abbrev μ-loop : tie.MeasureT-loop
+μ-loop src dst₀ l n from rows weights c₀ dst c = n - c
+
+loop-holds : tie.Need-loop-holds Inv-loop μ-loop
+unfolding planesFill
+loop-holds c = (omega arith, refl, refl)
+
+-- in a turn
+turn : (c : tie.In-loop Inv-loop μ-loop) → let s = c .before .before .before .before in PlaneRoom (s .args .l) (s .args .n) (c .before .loop .c)
+turn c = let s = c .before .before .before .before in plane-room (s .args .l) (s .args .n) (c .before .loop .c) (s .pre .0) (s .pre .1 .0) (c .loop-test .taken) (s .pre .1 .1)
+
+loop-again : tie.Need-loop-again Inv-loop μ-loop
+loop-again c =
+    let called = c .before .before in
+    let at-loop = called .before .before .before .before .before .before .before .before in
+    let inv = at-loop .loop .inv in (
+      omega arith,
+      called .gabor-rows .kept .1 .0 ∙ inv .1,
+      plane-next _ _ _ _ _ _ _ _ _ _ (inv .2) refl (called .gabor-rows .ensures),
+    )
+
+pub gabor-planes-spec : {M : Type 1} → statement M
+gabor-planes-spec =
+    tie.close
+    (tie.spec
+    Inv-loop
+    μ-loop
+    loop-holds
+    (λ c. omega (arith, c .before .before .before .before .pre .1 .0))
+    (λ c. omega (arith, c .before .before .before .before .pre .1 .0))
+    (λ c. omega (arith, turn (c .before .before) .rows))
+    (λ c. let s = c .before .before .before .before .before .before .before in omega (arith, turn (c .before .before .before) .rows, s .pre .0 .down, s .pre .0 .high))
+    (λ c. omega (arith, turn (c .before .before .before .before) .start))
+    (λ c. let s = c .before .before .before .before .before .before .before .before .before in omega (arith, turn (c .before .before .before .before .before) .start, s .pre .0 .across, s .pre .0 .wide))
+    (λ c. search needs)
+    (λ c. search needs)
+    (λ c κs. let s = c .before .before .before .before .before .before .before .before .before .before in let k = c .before .before .before .before .before .before in (rw (s .pre .1 .2) (turn k .region), (omega (arith, s .pre .1 .2, s .pre .1 .3), s .pre .1 .4)))
+    (λ c. omega arith)
+    (λ c. omega arith)
+    loop-again
+    (λ c. c .before .loop .inv .1)
+    (λ c. let inv = c .before .loop .inv in planes-end _ _ _ _ _ _ _ _ _ _ _ (inv .2) (inv .0) (c .loop-test .left)))

@@ -1,0 +1,87 @@
+-- `gabor::pass::gabor_rows` meets its contract. The invariant: i rows of n are written, and o is where the next one starts. Assumes nothing.
+use mathlib.Core.Path.{_≡_, refl, _∙_}
+use Prim.Native.Nat.{ℕ, suc, _+_, _-_, _*_, _≤_, _<_}
+use native.Mathlib.Nat.{suc-mul, mul-le-mul-right, add-mul}
+use native.Mathlib.Omega.{arith}
+use denote.Ref.{now}
+use borrow.Author.Needs.{needs}
+use lib.ListN.{length}
+use Rattle.planes.specs.Rect.{rowsFill, rows-turn, rows-end}
+use Rattle.gabor.specs.Rows.{RegionFits, row-room, row-below}
+use Rattle.gabor.specs.Pass.{regionRows}
+use Rattle.gabor.proofs.pass.gabor_rows.Statement.{statement}
+use Rattle.gabor.proofs.pass.gabor_rows.Tie as tie
+
+abbrev Inv-loop : tie.InvT-loop
+Inv-loop src dst₀ at stride w h from n w0 w1 g i₀ o₀ dst i o =
+    (i ≤ n) × (o ≡ at + from * stride + i * stride) × (length dst ≡ length dst₀) × (dst ≡ rowsFill dst₀ (at + from * stride) stride w i (regionRows src at stride w h w0 w1 g from))
+
+abbrev μ-loop : tie.MeasureT-loop
+μ-loop src dst₀ at stride w h from n w0 w1 g i₀ o₀ dst i o = n - i
+
+loop-holds : tie.Need-loop-holds Inv-loop μ-loop
+unfolding rowsFill
+loop-holds c = (omega arith, omega arith, refl, refl)
+
+-- the first row's start, in numbers of the machine
+first : (from h stride : ℕ) → from ≤ h → from * stride ≤ h * stride
+first from h stride p = mul-le-mul-right stride p
+
+-- row from + i starts at o, ends within both slices, and is followed by no more than the region
+record Here (at stride w h len from i o : ℕ) : Type 0 where
+  pub starts : o ≡ at + (from + i) * stride
+  pub ends : o + w ≤ len
+  pub next : o + stride ≤ len + stride
+
+here : (at stride w h len from i o : ℕ) → RegionFits at stride w h len → from + i < h → o ≡ at + from * stride + i * stride → Here at stride w h len from i o
+here at stride w h len from i o f p e =
+    let s : o ≡ at + (from + i) * stride = omega (arith, add-mul from i stride) in
+    record {
+      starts = s;
+      ends = omega (arith, row-room at stride w h len (from + i) f p);
+      next = omega (arith, row-room at stride w h len (from + i) f p);
+    }
+
+module _ (c : tie.In-loop Inv-loop μ-loop) where
+  turn : let s = c .before .before .before .before .before in
+      Here (s .args .at) (s .args .stride) (s .args .w) (s .args .h) (length (now (s .args .src))) (s .args .from) (c .before .loop .i) (c .before .loop .o)
+  turn =
+      let s = c .before .before .before .before .before in
+      here (s .args .at) (s .args .stride) (s .args .w) (s .args .h) (length (now (s .args .src))) (s .args .from) (c .before .loop .i) (c .before .loop .o)
+      (s .pre .0) (omega (arith, s .pre .1 .1, c .loop-test .taken)) (c .before .loop .inv .1)
+
+loop-again : tie.Need-loop-again Inv-loop μ-loop
+unfolding regionRows
+loop-again c =
+    let called = c .before .before in
+    let at-loop = called .before .before .before in
+    let inv = at-loop .loop .inv in (
+      omega arith,
+      omega (arith, row-below (at-loop .loop .i) (at-loop .before .before .before .before .args .stride)),
+      called .region-row .kept .1 .0 ∙ inv .2,
+      rows-turn _ _ _ _ _ _ _ _ _ (inv .3) (inv .1) (called .region-row .ensures),
+    )
+
+returns : tie.Need-returns Inv-loop μ-loop
+returns c =
+    let inv = c .before .loop .inv in
+    rw (c .before .before .global-weight .ensures) at (rows-end _ _ _ _ _ _ _ _ (inv .3) (inv .0) (c .loop-test .left))
+
+pub gabor-rows-spec : {M : Type 1} → statement M
+gabor-rows-spec =
+    tie.close
+    (tie.spec
+    Inv-loop
+    μ-loop
+    (λ c κs. search needs)
+    (λ c. let s = c .before .before .before in omega (arith, s .pre .0 .ends, s .pre .0 .short, first (s .args .from) (s .args .h) (s .args .stride) (omega (arith, s .pre .1 .1))))
+    (λ c. let s = c .before .before .before in omega (arith, s .pre .0 .ends, s .pre .0 .short, first (s .args .from) (s .args .h) (s .args .stride) (omega (arith, s .pre .1 .1))))
+    loop-holds
+    (λ c. omega (arith, c .before .before .before .before .before .before .pre .1 .1))
+    (λ c κs. let s = c .before .before .before .before .before .before in let t = turn (c .before) in (s .pre .0, (omega arith, t .starts, omega (arith, t .ends))))
+    (λ c. let s = c .before .before .before .before .before .before .before .before .before in let t = turn (c .before .before .before .before) in omega (arith, t .next, s .pre .0 .short))
+    (λ c. omega arith)
+    (λ c. omega arith)
+    loop-again
+    (λ c. c .before .loop .inv .2)
+    returns)

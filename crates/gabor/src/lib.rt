@@ -1,0 +1,51 @@
+// The Gabor-like pass of the restoration filters over rows of a filter region that lies anywhere in an image region.
+mod pass;
+mod reads;
+mod rows;
+
+use layout::layout_of;
+use numbers::ACCEPTED;
+use numbers::OUT_OF_RANGE;
+use numbers::WRONG_LENGTH;
+use pass::gabor_band;
+use planes::rows_fit;
+use planes::set_fits;
+use region::Region;
+ghost use mathlib.Core.Path.{_≡_};
+ghost use Rattle.layout.specs.Outcome.{PassOutcome};
+ghost use Rattle.gabor.specs.Outcome.{gaborOutcome};
+
+const PLANES: usize = 3;
+
+// Rows `from` up to `to` of the result, which is the full planes (`preserve_outside`) or the filter region alone: reads `src` and writes `dst`,
+// sets of three planes. Weights are of the side neighbours and of the diagonal ones, a pair a channel; any floats are taken.
+pub fn gabor_pass(
+    image: Region,
+    filter: Region,
+    preserve_outside: bool,
+    weights: [[f32; 2]; 3],
+    from: u32,
+    to: u32,
+    src: &[f32],
+    dst: &mut [f32],
+) -> u32
+    ensures { λ r. ⌜ _≡_ {A = PassOutcome} (record { number = r; target = now (dst .exit) }) (gaborOutcome image filter «preserve_outside» weights from to (now (src .entry)) (now (dst .entry))) ⌝ }
+{
+    let answer = layout_of(image, filter, preserve_outside);
+    let number = answer.number;
+    if number != ACCEPTED {
+        return number;
+    }
+    let l = answer.layout;
+    if !set_fits(l, PLANES, src.len()) {
+        return WRONG_LENGTH;
+    }
+    if !set_fits(l, PLANES, dst.len()) {
+        return WRONG_LENGTH;
+    }
+    if !rows_fit(l, from as usize, to as usize) {
+        return OUT_OF_RANGE;
+    }
+    gabor_band(src, dst, l, weights, PLANES, from as usize, to as usize);
+    ACCEPTED
+}

@@ -1,0 +1,97 @@
+-- The filter's sixteen formulas, one for each place of a column among the columns and of a row among the rows, in the order of sums of the Rust:
+-- `run_gabor_row_generic` for a row with rows on both sides, `gabor_row_edge` for the first, the last and the only row.
+use lib.IntN.{ℤ, pos, negsuc}
+use lib.Ieee.{Float}
+use Rattle.planes.specs.Samples.{_⊕_, _⊗_, b1, b2, b3}
+use Rattle.gabor_kernel.specs.Ends.{End, only, first, last, inner}
+
+infixl 60 _⊞_
+infixl 70 _⊠_
+-- constants, the weights of the side neighbours (w0) and of the diagonal ones (w1), the sample so many columns to the right and so many rows down,
+-- sums and products
+pub data Formula : Type 0 where
+  one two three w0 w1 : Formula
+  sample : ℤ → ℤ → Formula
+  _⊞_ _⊠_ : Formula → Formula → Formula
+
+-- the value in binary32: each node is rounded once, in the tree's order
+unfoldable pub value : Float → Float → (ℤ → ℤ → Float) → Formula → Float
+value a b v one = b1
+value a b v two = b2
+value a b v three = b3
+value a b v w0 = a
+value a b v w1 = b
+value a b v (sample dx dy) = v dx dy
+value a b v (f ⊞ g) = value a b v f ⊕ value a b v g
+value a b v (f ⊠ g) = value a b v f ⊗ value a b v g
+
+abbrev pub centre : Formula
+centre = sample (pos 0) (pos 0)
+
+abbrev pub up : ℤ
+up = negsuc 0
+
+abbrev pub down : ℤ
+down = pos 1
+
+abbrev pub left : ℤ
+left = negsuc 0
+
+abbrev pub right : ℤ
+right = pos 1
+
+-- ---- a row with rows on both sides
+
+-- the columns on either side being l and r
+abbrev pub around9 : ℤ → ℤ → Formula
+around9 l r =
+    centre
+    ⊞ (sample (pos 0) up ⊞ sample l (pos 0) ⊞ sample r (pos 0) ⊞ sample (pos 0) down) ⊠ w0
+    ⊞ (sample l up ⊞ sample r up ⊞ sample l down ⊞ sample r down) ⊠ w1
+
+abbrev pub innerRow : End → Formula
+innerRow only = centre ⊞ (sample (pos 0) up ⊞ two ⊠ centre ⊞ sample (pos 0) down) ⊠ w0 ⊞ two ⊠ (sample (pos 0) up ⊞ sample (pos 0) down) ⊠ w1
+innerRow first = around9 right (pos 0)
+innerRow last = around9 left (pos 0)
+innerRow inner = around9 left right
+
+-- ---- the first or the last of several rows: a is the way to the row beside it
+
+abbrev pub edgeEnd : ℤ → ℤ → Formula
+edgeEnd a l = centre ⊠ (one ⊞ two ⊠ w0 ⊞ w1) ⊞ (sample (pos 0) a ⊞ sample l (pos 0)) ⊠ (w0 ⊞ w1) ⊞ sample l a ⊠ w1
+
+abbrev pub edgeRow : ℤ → End → Formula
+edgeRow a only = centre ⊠ (one ⊞ three ⊠ w0 ⊞ two ⊠ w1) ⊞ sample (pos 0) a ⊠ (w0 ⊞ two ⊠ w1)
+edgeRow a first = edgeEnd a right
+edgeRow a last = edgeEnd a left
+edgeRow a inner =
+    centre
+    ⊞ (sample (pos 0) a ⊞ sample left (pos 0) ⊞ centre ⊞ sample right (pos 0)) ⊠ w0
+    ⊞ (sample left a ⊞ sample right a ⊞ sample left (pos 0) ⊞ sample right (pos 0)) ⊠ w1
+
+-- ---- the only row
+
+-- the weight of its centre, (1 + 2) + w0; the standard's mirrored kernel has 1 + 2 w0
+abbrev pub soloCentre : Formula
+soloCentre = one ⊞ two ⊞ w0
+
+-- the weight of a neighbour
+abbrev pub soloSide : Formula
+soloSide = w0 ⊞ two ⊠ w1
+
+abbrev pub soloEnd : ℤ → Formula
+soloEnd l = centre ⊠ (soloCentre ⊞ soloSide) ⊞ sample l (pos 0) ⊠ soloSide
+
+abbrev pub soloRow : End → Formula
+soloRow only = centre
+soloRow first = soloEnd right
+soloRow last = soloEnd left
+soloRow inner = centre ⊠ soloCentre ⊞ (sample left (pos 0) ⊞ sample right (pos 0)) ⊠ soloSide
+
+-- ---- by the column's place and the row's
+
+unfoldable pub formula : End → End → Formula
+formula col only = soloRow col
+formula col first = edgeRow down col
+formula col last = edgeRow up col
+formula col inner = innerRow col

@@ -1,0 +1,7 @@
+pub mod Ends
+pub mod Formula
+pub mod Gabor
+pub mod Nine
+pub mod Mirrored
+pub mod Local
+pub mod Instances

@@ -1,0 +1,63 @@
+-- The filter reads its sample and the eight neighbours alone. Assumes nothing.
+use mathlib.Core.Path.{_≡_, refl}
+use mathlib.Core.Bool.{Bool, true, false, cond, _&&_}
+use Prim.Native.Nat.{ℕ, _≤_}
+use native.Mathlib.Omega.{arith}
+use lib.Dec.{T, leb, leb→le}
+use lib.IntN.{ℤ, pos, negsuc, natAbs}
+use lib.Ieee.{Float}
+use lib.Ieee.Fits.{and-l, and-r}
+use Rattle.gabor_kernel.specs.Ends.{End, only, first, last, inner}
+use Rattle.gabor_kernel.specs.Formula.{Formula, one, two, three, w0, w1, sample, _⊞_, _⊠_, value, formula}
+use Rattle.gabor_kernel.specs.Gabor.{alone, scaled}
+
+-- two samples that see the same within one column and one row
+abbrev pub Alike : (ℤ → ℤ → Float) → (ℤ → ℤ → Float) → Type 0
+Alike u v = (dx dy : ℤ) → natAbs dx ≤ 1 → natAbs dy ≤ 1 → u dx dy ≡ v dx dy
+
+-- each read of a formula is so near
+unfoldable pub near : Formula → Bool
+near one = true
+near two = true
+near three = true
+near w0 = true
+near w1 = true
+near (sample dx dy) = leb (natAbs dx) 1 && leb (natAbs dy) 1
+near (f ⊞ g) = near f && near g
+near (f ⊠ g) = near f && near g
+
+pub formulas-near : (col row : End) → T (near (formula col row))
+unfolding near formula
+formulas-near only only = tt
+formulas-near only first = tt
+formulas-near only last = tt
+formulas-near only inner = tt
+formulas-near first only = tt
+formulas-near first first = tt
+formulas-near first last = tt
+formulas-near first inner = tt
+formulas-near last only = tt
+formulas-near last first = tt
+formulas-near last last = tt
+formulas-near last inner = tt
+formulas-near inner only = tt
+formulas-near inner first = tt
+formulas-near inner last = tt
+formulas-near inner inner = tt
+
+module _ (a b : Float) (u v : ℤ → ℤ → Float) (alike : Alike u v) where
+  value-same : (f : Formula) → T (near f) → value a b u f ≡ value a b v f
+  unfolding near value
+  value-same one t = refl
+  value-same two t = refl
+  value-same three t = refl
+  value-same w0 t = refl
+  value-same w1 t = refl
+  value-same (sample dx dy) t =
+      alike dx dy (leb→le (natAbs dx) 1 (and-l (leb (natAbs dx) 1) (leb (natAbs dy) 1) t)) (leb→le (natAbs dy) 1 (and-r (leb (natAbs dx) 1) (leb (natAbs dy) 1) t))
+  value-same (f ⊞ g) t = rw (value-same f (and-l (near f) (near g) t), value-same g (and-r (near f) (near g) t))
+  value-same (f ⊠ g) t = rw (value-same f (and-l (near f) (near g) t), value-same g (and-r (near f) (near g) t))
+
+  pub scaled-same : (g : Float) (col row : End) → scaled g a b u col row ≡ scaled g a b v col row
+  unfolding scaled
+  scaled-same g col row = rw (alike (pos 0) (pos 0) (omega arith) (omega arith), value-same (formula col row) (formulas-near col row))

@@ -1,0 +1,135 @@
+-- The formulas beside the standard's mirrored 3 × 3 kernel, in exact arithmetic: each read with its coefficient.
+use mathlib.Core.Path.{_≡_}
+use mathlib.Core.Bool.{Bool, true, false, cond, _&&_}
+use mathlib.Core.List.{List, [], _∷_, _++_, map}
+use Prim.Native.Nat.{ℕ, zero, suc, _+_, _*_, _<_}
+use lib.Dec.{eqb}
+use lib.IntN.{ℤ, pos, negsuc, _+ℤ_}
+use Rattle.mirror.specs.Mirror.{mirror}
+use Rattle.gabor_kernel.specs.Ends.{End, only, first, last, inner, stands}
+use Rattle.gabor_kernel.specs.Formula.{Formula, one, two, three, w0, w1, sample, _⊞_, _⊠_, centre, up, down, left, right, formula}
+
+-- ---- the standard's kernel (ISO/IEC 18181-1, Gabor-like filter): the centre weighs 1, the side neighbours w0, the diagonal ones w1, each mirrored
+
+-- where the mirrored neighbour at offset −1, 0 or 1 stands, counted from the sample
+unfoldable pub fold : End → ℤ → ℤ
+fold only d = pos 0
+fold first (pos n) = pos n
+fold first (negsuc n) = pos 0
+fold last (pos n) = pos 0
+fold last (negsuc n) = negsuc n
+fold inner d = d
+
+abbrev pub mirroredKernel : End → End → Formula
+mirroredKernel col row =
+    at (pos 0) (pos 0)
+    ⊞ (at (pos 0) up ⊞ at left (pos 0) ⊞ at right (pos 0) ⊞ at (pos 0) down) ⊠ w0
+    ⊞ (at left up ⊞ at right up ⊞ at left down ⊞ at right down) ⊠ w1
+  where
+    at : ℤ → ℤ → Formula
+    at dx dy = sample (fold col dx) (fold row dy)
+
+-- `fold` is the mirror: place x of n and an offset of −1, 0 or 1
+abbrev pub FoldMirrors : Type 0
+FoldMirrors = (n x : ℕ) → x < n → (pos x +ℤ fold (stands n x) (negsuc 0) ≡ pos (mirror (pos x +ℤ negsuc 0) n))
+    × (pos x +ℤ fold (stands n x) (pos 0) ≡ pos (mirror (pos x +ℤ pos 0) n))
+    × (pos x +ℤ fold (stands n x) (pos 1) ≡ pos (mirror (pos x +ℤ pos 1) n))
+
+-- ---- exact expansion
+
+-- a product: so many factors w0, so many w1, and samples
+pub record Term : Type 0 where
+  pub sides : ℕ
+  pub diagonals : ℕ
+  pub reads : List (ℤ × ℤ)
+
+abbrev pub constant : Term
+constant = record { sides = 0; diagonals = 0; reads = [] }
+
+abbrev pub times : Term → Term → Term
+times s t = record { sides = s .sides + t .sides; diagonals = s .diagonals + t .diagonals; reads = s .reads ++ t .reads }
+
+abbrev pub products : List Term → List Term → List Term
+products [] ts = []
+products (s ∷ ss) ts = map (times s) ts ++ products ss ts
+
+-- the sum of these products is the formula, multiplied out
+unfoldable pub expand : Formula → List Term
+expand one = constant ∷ []
+expand two = constant ∷ constant ∷ []
+expand three = constant ∷ constant ∷ constant ∷ []
+expand w0 = record { sides = 1; diagonals = 0; reads = [] } ∷ []
+expand w1 = record { sides = 0; diagonals = 1; reads = [] } ∷ []
+expand (sample dx dy) = record { sides = 0; diagonals = 0; reads = (dx, dy) ∷ [] } ∷ []
+expand (f ⊞ g) = expand f ++ expand g
+expand (f ⊠ g) = products (expand f) (expand g)
+
+-- ---- coefficients
+
+abbrev pub same : ℤ → ℤ → Bool
+same (pos m) (pos n) = eqb m n
+same (pos m) (negsuc n) = false
+same (negsuc m) (pos n) = false
+same (negsuc m) (negsuc n) = eqb m n
+
+abbrev pub reads-only : List (ℤ × ℤ) → ℤ → ℤ → Bool
+reads-only [] dx dy = false
+reads-only (o ∷ []) dx dy = same (o .0) dx && same (o .1) dy
+reads-only (o ∷ p ∷ os) dx dy = false
+
+-- how often w0 to the power i times w1 to the power j times the sample at (dx, dy) stands among the terms
+abbrev pub count : List Term → ℕ → ℕ → ℤ → ℤ → ℕ
+count [] i j dx dy = 0
+count (t ∷ ts) i j dx dy = cond ((eqb (t .sides) i && eqb (t .diagonals) j) && reads-only (t .reads) dx dy) 1 0 + count ts i j dx dy
+
+-- (a, b, c) for a + b w0 + c w1
+abbrev pub Coefficient : Type 0
+Coefficient = ℕ × ℕ × ℕ
+
+abbrev pub coefficient : Formula → ℤ → ℤ → Coefficient
+coefficient f dx dy = (count (expand f) 0 0 dx dy, count (expand f) 1 0 dx dy, count (expand f) 0 1 dx dy)
+
+-- of the nine samples, row by row
+abbrev pub coefficients : Formula → List Coefficient
+coefficients f =
+    coefficient f left up ∷ coefficient f (pos 0) up ∷ coefficient f right up
+    ∷ coefficient f left (pos 0) ∷ coefficient f (pos 0) (pos 0) ∷ coefficient f right (pos 0)
+    ∷ coefficient f left down ∷ coefficient f (pos 0) down ∷ coefficient f right down ∷ []
+
+-- the number of terms that these coefficients stand for
+abbrev pub counted : List Coefficient → ℕ
+counted [] = 0
+counted (c ∷ cs) = c .0 + c .1 + c .2 + counted cs
+
+-- no other term is there
+abbrev pub Linear : Formula → Type 0
+Linear f = counted (coefficients f) ≡ number (expand f)
+  where
+    number : List Term → ℕ
+    number [] = 0
+    number (t ∷ ts) = suc (number ts)
+
+-- ---- the statements, proved in proofs/Mirrored.antt
+
+-- a row other than the only one: the formula has the coefficients of the mirrored kernel, and no other term
+abbrev pub IsMirrored : End → End → Type 0
+IsMirrored col row = (coefficients (formula col row) ≡ coefficients (mirroredKernel col row)) × Linear (formula col row)
+
+abbrev pub KernelMirrored : Type 0
+KernelMirrored = (col : End) → IsMirrored col first × IsMirrored col last × IsMirrored col inner
+
+-- the only row: the coefficients of the sample to the left, of the sample itself and of the one to the right, ours and then the mirrored kernel's.
+-- The centre has 3 + w0 for 1 + 2 w0 (at an end each plus w0 + 2 w1); the neighbours agree.
+abbrev pub middle3 : Formula → List Coefficient
+middle3 f = coefficient f left (pos 0) ∷ coefficient f (pos 0) (pos 0) ∷ coefficient f right (pos 0) ∷ []
+
+abbrev pub SingleRowDiffers : Type 0
+SingleRowDiffers =
+    (middle3 (formula inner only) ≡ (0, 1, 2) ∷ (3, 1, 0) ∷ (0, 1, 2) ∷ []) × (middle3 (mirroredKernel inner only) ≡ (0, 1, 2) ∷ (1, 2, 0) ∷ (0, 1, 2) ∷ [])
+    × (middle3 (formula first only) ≡ (0, 0, 0) ∷ (3, 2, 2) ∷ (0, 1, 2) ∷ []) × (middle3 (mirroredKernel first only) ≡ (0, 0, 0) ∷ (1, 3, 2) ∷ (0, 1, 2) ∷ [])
+    × (middle3 (formula last only) ≡ (0, 1, 2) ∷ (3, 2, 2) ∷ (0, 0, 0) ∷ []) × (middle3 (mirroredKernel last only) ≡ (0, 1, 2) ∷ (1, 3, 2) ∷ (0, 0, 0) ∷ [])
+    × Linear (formula inner only) × Linear (formula first only) × Linear (formula last only)
+
+-- one sample alone: the mirrored kernel gives it the whole sum 1 + 4 w0 + 4 w1, by which it is divided, so that it is copied
+abbrev pub AloneCopied : Type 0
+AloneCopied = middle3 (mirroredKernel only only) ≡ (0, 0, 0) ∷ (1, 4, 4) ∷ (0, 0, 0) ∷ []

@@ -1,0 +1,43 @@
+-- `Region::intersection` meets its contract. Assumes nothing.
+use mathlib.Core.Path.{_≡_, refl, sym, ap, _∙_}
+use mathlib.Core.Bool.{true, false}
+use Prim.Native.Nat.{ℕ}
+use native.Mathlib.Omega.{arith}
+use borrow.Author.Needs.{needs}
+use Rattle.interval.proofs.Flags.{not-true, not-false, yes}
+use Rattle.region.specs.Answers.{regionAnswer, pair-first, pair-second, pair-holds}
+use Rattle.region.specs.Regions.{intersected}
+use Rattle.region.specs.Measures.{measured}
+use Rattle.region.proofs.Region.intersection.Statement.{statement}
+use Rattle.region.proofs.Region.intersection.Tie as tie
+
+returns : tie.Need-returns
+unfolding regionAnswer
+returns c =
+    let s = c .before .before .before .args in
+    let m = sym (c .before .before .measured .ensures) ∙ not-true (c .before .if1 .taken) in
+    c .refused .ensures ∙ ap (λ (n : ℕ). regionAnswer n (intersected (s .self) (s .rhs))) (sym (pair-first (s .self) (s .rhs) m))
+
+returns-2 : tie.Need-returns-2
+unfolding regionAnswer
+returns-2 c =
+    let s = c .before .before .before .before .before .args in
+    let m = sym (c .before .before .before .before .measured .ensures) ∙ not-false (c .before .before .before .if1 .left) in
+    let k = sym (c .before .before .measured2 .ensures) ∙ not-true (c .before .if2 .taken) in
+    c .refused2 .ensures ∙ ap (λ (n : ℕ). regionAnswer n (intersected (s .self) (s .rhs))) (sym (pair-second (s .self) (s .rhs) m k))
+
+both : (c : tie.Else2) → (measured (c .before .before .before .before .args .self) ≡ true) × (measured (c .before .before .before .before .args .rhs) ≡ true)
+both c =
+    (sym (c .before .before .before .measured .ensures) ∙ not-false (c .before .before .if1 .left), sym (c .before .measured2 .ensures) ∙ not-false (c .if2 .left))
+
+common-requires : tie.Need-common-requires
+common-requires c κs = (yes (both c .0), yes (both c .1))
+
+returns-3 : tie.Need-returns-3
+returns-3 c =
+    let k = both (c .before) in
+    let s = c .before .before .before .before .before .args in
+    c .common .ensures ∙ ap (λ (i : ℕ). regionAnswer i (intersected (s .self) (s .rhs))) (sym (pair-holds (s .self) (s .rhs) (k .0) (k .1)))
+
+pub intersection-spec : {M : Type 1} → statement M
+intersection-spec = tie.close (tie.spec (λ c κs. search needs) (λ c κs. search needs) returns (λ c κs. search needs) (λ c κs. search needs) returns-2 common-requires returns-3)

@@ -1,0 +1,211 @@
+//! Document 01's rules for these functions, on numbers that are wide enough for anything.
+//!
+//! They say which number is given. Where none is, the original's answer is what is compared, and
+//! it must be the rule's as well.
+
+#[cfg(feature = "gabor")]
+pub mod gabor;
+#[cfg(feature = "header")]
+pub mod header;
+
+/// A side, left or top outside the measures, given or resulting.
+pub const OUT_OF_MEASURE: u32 = 4;
+/// A setting out of range.
+pub const SETTING: u32 = 9;
+
+const LARGEST_SIDE: i128 = 16_384;
+const FARTHEST: i128 = 1_048_576;
+const LARGEST_FACTOR: i128 = 16;
+const LARGEST_ALIGNMENT: i128 = 8_192;
+
+/// A result, or the number of the refusal.
+pub type Ruled<T> = Result<T, u32>;
+
+#[derive(Debug, Clone, Copy, PartialEq, Eq)]
+pub struct Region {
+    pub left: i128,
+    pub top: i128,
+    pub width: i128,
+    pub height: i128,
+}
+
+impl Region {
+    const ZERO: Self = Self {
+        left: 0,
+        top: 0,
+        width: 0,
+        height: 0,
+    };
+
+    /// Sides of 0 pass here, and there is no limit to the area.
+    fn measured(self) -> Ruled<Self> {
+        let side = |length| (0..=LARGEST_SIDE).contains(&length);
+        let corner = |place: i128| place.abs() <= FARTHEST;
+        let fits = corner(self.left) && corner(self.top) && side(self.width) && side(self.height);
+        fits.then_some(self).ok_or(OUT_OF_MEASURE)
+    }
+
+    fn right(self) -> i128 {
+        self.left + self.width
+    }
+
+    fn bottom(self) -> i128 {
+        self.top + self.height
+    }
+
+    fn empty(self) -> bool {
+        self.width == 0 || self.height == 0
+    }
+}
+
+pub fn is_empty(r: Region) -> Ruled<bool> {
+    Ok(r.measured()?.empty())
+}
+
+pub fn right(r: Region) -> Ruled<i128> {
+    Ok(r.measured()?.right())
+}
+
+pub fn bottom(r: Region) -> Ruled<i128> {
+    Ok(r.measured()?.bottom())
+}
+
+pub fn contains(r: Region, target: Region) -> Ruled<bool> {
+    r.measured()?;
+    target.measured()?;
+    Ok(target.empty()
+        || r.left <= target.left
+            && r.top <= target.top
+            && target.right() <= r.right()
+            && target.bottom() <= r.bottom())
+}
+
+pub fn translate(r: Region, x: i128, y: i128) -> Ruled<Region> {
+    r.measured()?;
+    Region {
+        left: r.left + x,
+        top: r.top + y,
+        ..r
+    }
+    .measured()
+}
+
+/// The meet of the intervals in each direction; the zero region where either meet is empty.
+pub fn intersection(a: Region, b: Region) -> Ruled<Region> {
+    a.measured()?;
+    b.measured()?;
+    let left = a.left.max(b.left);
+    let top = a.top.max(b.top);
+    let width = a.right().min(b.right()) - left;
+    let height = a.bottom().min(b.bottom()) - top;
+    if width <= 0 || height <= 0 {
+        return Ok(Region::ZERO);
+    }
+    Region {
+        left,
+        top,
+        width,
+        height,
+    }
+    .measured()
+}
+
+pub fn pad(r: Region, size: i128) -> Ruled<Region> {
+    r.measured()?;
+    Region {
+        left: r.left - size,
+        top: r.top - size,
+        width: r.width + 2 * size,
+        height: r.height + 2 * size,
+    }
+    .measured()
+}
+
+/// Cells of 2^factor samples from the one that has the first sample on, as many as are needed.
+pub fn downsample(r: Region, factor: i128) -> Ruled<Region> {
+    r.measured()?;
+    if factor > LARGEST_FACTOR {
+        return Err(SETTING);
+    }
+    let cell = 1 << factor;
+    let (left, width) = cells(r.left, r.right(), cell);
+    let (top, height) = cells(r.top, r.bottom(), cell);
+    Region {
+        left,
+        top,
+        width,
+        height,
+    }
+    .measured()
+}
+
+pub fn container_aligned(r: Region, grid_dim: i128) -> Ruled<Region> {
+    r.measured()?;
+    let sound = (1..=LARGEST_ALIGNMENT).contains(&grid_dim) && grid_dim.count_ones() == 1;
+    if !sound {
+        return Err(SETTING);
+    }
+    let (left, width) = cells(r.left, r.right(), grid_dim);
+    let (top, height) = cells(r.top, r.bottom(), grid_dim);
+    Region {
+        left: left * grid_dim,
+        top: top * grid_dim,
+        width: width * grid_dim,
+        height: height * grid_dim,
+    }
+    .measured()
+}
+
+/// The first cell and the count of cells: floor of the start, ceiling of the end.
+fn cells(start: i128, end: i128, cell: i128) -> (i128, i128) {
+    let first = start.div_euclid(cell);
+    let past = -(-end).div_euclid(cell);
+    (first, past - first)
+}
+
+pub fn mirror(offset: i128, len: i128) -> Ruled<i128> {
+    if !(1..=LARGEST_SIDE).contains(&len) || offset.abs() > FARTHEST {
+        return Err(SETTING);
+    }
+    let m = offset.rem_euclid(2 * len);
+    Ok(if m < len { m } else { 2 * len - 1 - m })
+}
+
+/// Sample sides, group dimension, group shift, groups per row and column and in all.
+pub fn group_sizes(
+    width: i128,
+    height: i128,
+    upsampling: i128,
+    lf_level: i128,
+    group_size_shift: i128,
+) -> Ruled<[i128; 7]> {
+    let side = |length| (1..=LARGEST_SIDE).contains(&length);
+    if !side(width) || !side(height) {
+        return Err(OUT_OF_MEASURE);
+    }
+    if ![1, 2, 4, 8].contains(&upsampling) || lf_level > 4 || group_size_shift > 3 {
+        return Err(SETTING);
+    }
+    let ceil = |length: i128, part: i128| (length + part - 1) / part;
+    let samples = |length| ceil(ceil(length, upsampling), 8i128.pow(lf_level as u32));
+    let group_dim = 128 << group_size_shift;
+    let groups = |length| ceil(samples(length), 8 * group_dim);
+    Ok([
+        samples(width),
+        samples(height),
+        group_dim,
+        7 + group_size_shift,
+        groups(width),
+        groups(height),
+        groups(width) * groups(height),
+    ])
+}
+
+/// The group and the inner cell of a block column or row.
+pub fn split_block(block: i128, group_size_shift: i128) -> Ruled<[i128; 2]> {
+    if group_size_shift > 3 {
+        return Err(SETTING);
+    }
+    let group_dim = 128 << group_size_shift;
+    Ok([block / group_dim, block % group_dim])
+}

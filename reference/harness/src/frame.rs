@@ -1,0 +1,100 @@
+//! Group sizes: inputs are the frame's sides, upsampling, LF level and group size shift. The split
+//! of a block: its column or row and the group size shift.
+
+use crate::{
+    boundary, expected,
+    kinds::{BLOCK, FRAME_SIDE, GROUP_SIZE_SHIFT, LF_LEVEL, UPSAMPLING},
+    subject::{Answer, Subject},
+};
+
+pub const GROUP_SIZES: Subject = Subject {
+    name: "group_sizes",
+    inputs: &[
+        &FRAME_SIDE,
+        &FRAME_SIDE,
+        &UPSAMPLING,
+        &LF_LEVEL,
+        &GROUP_SIZE_SHIFT,
+    ],
+    outputs: 7,
+    ours: |c| {
+        let answer = boundary::loupe_group_sizes(boundary::Frame {
+            width: c[0] as u32,
+            height: c[1] as u32,
+            upsampling: c[2] as u32,
+            lf_level: c[3] as u32,
+            group_size_shift: c[4] as u32,
+        });
+        let sizes = answer.sizes;
+        let fields = [
+            sizes.sample_width,
+            sizes.sample_height,
+            sizes.group_dim,
+            sizes.group_shift,
+            sizes.groups_per_row,
+            sizes.groups_per_column,
+            sizes.num_groups,
+        ];
+        Answer::new(answer.number, &fields.map(i128::from))
+    },
+    rule: |c| match expected::group_sizes(c[0], c[1], c[2], c[3], c[4]) {
+        Ok(sizes) => Answer::new(0, &sizes),
+        Err(number) => Answer::refused(number),
+    },
+    rust: |c| {
+        let sizes = oracle::group_sizes(oracle::Frame {
+            width: c[0] as u32,
+            height: c[1] as u32,
+            upsampling: c[2] as u32,
+            lf_level: c[3] as u32,
+            group_size_shift: c[4] as u32,
+        });
+        let fields = [
+            sizes.sample_width,
+            sizes.sample_height,
+            sizes.group_dim,
+            sizes.group_shift,
+            sizes.groups_per_row,
+            sizes.groups_per_column,
+            sizes.num_groups,
+        ];
+        Answer::new(0, &fields.map(i128::from))
+    },
+    near: &[
+        ("near zero", &[(0, 20), (0, 20), (0, 9), (0, 5), (0, 4)]),
+        (
+            "every width",
+            &[(1, 16_384), (9, 9), (1, 8), (0, 4), (0, 3)],
+        ),
+        (
+            "every height",
+            &[(9, 9), (1, 16_384), (1, 8), (0, 4), (0, 3)],
+        ),
+    ],
+    named: &[
+        &[1_024, 1_025, 1, 0, 0],
+        &[16_384, 16_384, 1, 0, 0],
+        &[16_384, 1, 8, 4, 3],
+        &[16_385, 1, 3, 5, 4],
+    ],
+};
+
+pub const SPLIT_BLOCK: Subject = Subject {
+    name: "split_block",
+    inputs: &[&BLOCK, &GROUP_SIZE_SHIFT],
+    outputs: 2,
+    ours: |c| {
+        let answer = boundary::loupe_split_block(c[0] as u32, c[1] as u32);
+        Answer::new(answer.number, &[answer.group.into(), answer.inner.into()])
+    },
+    rule: |c| match expected::split_block(c[0], c[1]) {
+        Ok(parts) => Answer::new(0, &parts),
+        Err(number) => Answer::refused(number),
+    },
+    rust: |c| {
+        let (group, inner) = oracle::split_block(c[0] as u32, c[1] as u32);
+        Answer::new(0, &[group.into(), inner.into()])
+    },
+    near: &[("near zero", &[(0, 5_000), (0, 5)])],
+    named: &[&[127, 0], &[128, 0], &[128, 1], &[131_071, 3]],
+};

@@ -1,0 +1,364 @@
+//! Reading filter headers: all halves, all short headers, and built ones, whole and cut short.
+
+use crate::{
+    boundary::{self, EdgePreservingFilter, Gabor},
+    expected::{Ruled, header as expected},
+    random::Random,
+    report::{Report, Row},
+};
+
+/// Whole random headers for each reader, before `--scale`.
+const WHOLE: u64 = 350_000;
+/// Random headers that are cut short at every length.
+const CUT: u64 = 10_000;
+/// Random headers of which every half is replaced in turn.
+const REPLACED: u64 = 300;
+
+/// Halves of every kind: zeros, subnormals, ones that make a kernel vanish, infinities, NaN.
+const HALVES: [u32; 16] = [
+    0x0000, 0x8000, 0x0001, 0x8001, 0x03FF, 0x83FF, 0x0400, 0x3400, 0x3C00, 0xB000, 0xB400, 0x7BFF,
+    0x7C00, 0xFC00, 0x7C01, 0xFE00,
+];
+
+/// A number, the fields in order with floats by their bits, and the next bit place.
+#[derive(Debug, PartialEq)]
+struct Reading {
+    number: u32,
+    fields: Vec<u32>,
+    next: usize,
+}
+
+/// A slice, a bit place and whether the encoding is Modular.
+type Case<'a> = (&'a [u8], usize, bool);
+
+struct Reader {
+    name: &'static str,
+    fields: usize,
+    ours: fn(Case) -> Reading,
+    rule: fn(Case) -> Ruled<expected::Read>,
+    rust: fn(Case) -> Result<expected::Read, oracle::Error>,
+}
+
+const READERS: [Reader; 4] = [
+    Reader {
+        name: "read half",
+        fields: 1,
+        ours: |(bytes, place, _)| {
+            // SAFETY: a whole slice is lent.
+            let a = unsafe { boundary::loupe_read_half(bytes.as_ptr(), bytes.len(), place) };
+            given(a.number, vec![a.value.to_bits()], a.next)
+        },
+        rule: |(bytes, place, _)| expected::half(bytes, place),
+        rust: |(bytes, place, _)| {
+            let (value, next) = oracle::read_half(bytes, place)?;
+            Ok((vec![value.to_bits()], next))
+        },
+    },
+    Reader {
+        name: "read gabor",
+        fields: 7,
+        ours: |(bytes, place, _)| {
+            // SAFETY: a whole slice is lent.
+            let a = unsafe { boundary::loupe_read_gabor(bytes.as_ptr(), bytes.len(), place) };
+            given(a.number, gabor_fields(&a.gabor), a.next)
+        },
+        rule: |(bytes, place, _)| expected::gabor(bytes, place),
+        rust: |(bytes, place, _)| {
+            let (weights, next) = oracle::parse_gabor(bytes, place)?;
+            Ok((gabor_of_rust(weights), next))
+        },
+    },
+    Reader {
+        name: "read epf",
+        fields: 18,
+        ours: |(bytes, place, modular)| {
+            let (first, len) = (bytes.as_ptr(), bytes.len());
+            // SAFETY: a whole slice is lent.
+            let a = unsafe { boundary::loupe_read_epf(first, len, place, modular) };
+            given(a.number, epf_fields(&a.epf), a.next)
+        },
+        rule: |(bytes, place, modular)| expected::epf(bytes, place, modular),
+        rust: |(bytes, place, modular)| {
+            let (edge, next) = oracle::parse_epf(bytes, place, modular)?;
+            Ok((epf_of_rust(edge), next))
+        },
+    },
+    Reader {
+        name: "read filters",
+        fields: 25,
+        ours: |(bytes, place, modular)| {
+            let (first, len) = (bytes.as_ptr(), bytes.len());
+            // SAFETY: a whole slice is lent.
+            let a = unsafe { boundary::loupe_read_filters(first, len, place, modular) };
+            let fields = [gabor_fields(&a.gabor), epf_fields(&a.epf)].concat();
+            given(a.number, fields, a.next)
+        },
+        rule: |(bytes, place, modular)| expected::filters(bytes, place, modular),
+        rust: |(bytes, place, modular)| {
+            let (weights, edge, next) = oracle::parse_filters(bytes, place, modular)?;
+            Ok(([gabor_of_rust(weights), epf_of_rust(edge)].concat(), next))
+        },
+    },
+];
+
+fn given(number: u32, fields: Vec<u32>, next: usize) -> Reading {
+    Reading {
+        number,
+        fields,
+        next,
+    }
+}
+
+fn gabor_fields(gabor: &Gabor) -> Vec<u32> {
+    let weights = gabor.weights.as_flattened().iter().map(|w| w.to_bits());
+    [gabor.enabled.into()].into_iter().chain(weights).collect()
+}
+
+fn epf_fields(epf: &EdgePreservingFilter) -> Vec<u32> {
+    let sigma = [
+        epf.sigma.quant_mul,
+        epf.sigma.pass0_sigma_scale,
+        epf.sigma.pass2_sigma_scale,
+        epf.sigma.border_sad_mul,
+        epf.sigma_for_modular,
+    ];
+    let floats = epf.sharp_lut.into_iter().chain(epf.channel_scale);
+    [epf.enabled.into(), epf.iters]
+        .into_iter()
+        .chain(floats.chain(sigma).map(f32::to_bits))
+        .collect()
+}
+
+fn gabor_of_rust(weights: Option<oracle::Weights>) -> Vec<u32> {
+    let enabled = weights.is_some();
+    let weights = weights.unwrap_or_default();
+    gabor_fields(&Gabor { enabled, weights })
+}
+
+fn epf_of_rust(edge: Option<oracle::Edge>) -> Vec<u32> {
+    edge.map_or_else(
+        || vec![0; 18],
+        |edge| {
+            epf_fields(&EdgePreservingFilter {
+                enabled: true,
+                iters: edge.iters,
+                sharp_lut: edge.sharp_lut,
+                channel_scale: edge.channel_scale,
+                sigma: boundary::EpfSigma {
+                    quant_mul: edge.sigma.quant_mul,
+                    pass0_sigma_scale: edge.sigma.pass0_sigma_scale,
+                    pass2_sigma_scale: edge.sigma.pass2_sigma_scale,
+                    border_sad_mul: edge.sigma.border_sad_mul,
+                },
+                sigma_for_modular: edge.sigma_for_modular,
+            })
+        },
+    )
+}
+
+impl Reader {
+    fn check(&self, case: Case, row: &mut Row) {
+        let rule = match (self.rule)(case) {
+            Ok((fields, next)) => given(0, fields, next),
+            Err(number) => given(number, vec![0; self.fields], 0),
+        };
+        row.count(rule.number);
+        let ours = (self.ours)(case);
+        if ours != rule {
+            row.differs(&case, &ours, &rule);
+        } else if rule.number != 7 {
+            // The original takes slices of any length; else its refusals are these.
+            let rust = match (self.rust)(case) {
+                Ok((fields, next)) => given(0, fields, next),
+                Err(error) => given(number_of(error), vec![0; self.fields], 0),
+            };
+            if rust != rule {
+                row.differs(&case, &rust, &rule);
+            }
+        }
+    }
+}
+
+fn number_of(error: oracle::Error) -> u32 {
+    match error {
+        oracle::Error::BitsRunOut => 1,
+        oracle::Error::HalfNotFinite => 2,
+        oracle::Error::ValidationFailed(_) => 3,
+        other => panic!("the header readers do not give {other:?}"),
+    }
+}
+
+pub fn compare(scale: u64, report: &mut Report) {
+    all_halves(report);
+    for reader in &READERS {
+        short_headers(reader, report);
+        long_slices(reader, report);
+        built_headers(reader, scale, report);
+    }
+}
+
+fn all_halves(report: &mut Report) {
+    let mut row = Row::new(READERS[0].name, "every half");
+    for half in 0..=0xFFFF {
+        for place in 0..8 {
+            let bytes = pack(place, &[(half, 16)], 0xFF);
+            READERS[0].check((&bytes, place, false), &mut row);
+        }
+    }
+    report.add(row);
+}
+
+/// All headers of 16 bits at several places, and all slices of one byte or none at all places.
+fn short_headers(reader: &Reader, report: &mut Report) {
+    let mut row = Row::new(reader.name, "up to 16 bits");
+    for header in 0..=0xFFFF {
+        for place in [0, 1, 3, 7, 8, 13, 16] {
+            let bytes = pack(place, &[(header, 16)], 0xFF);
+            for modular in [false, true] {
+                reader.check((&bytes, place, modular), &mut row);
+            }
+        }
+    }
+    let far = [
+        64,
+        usize::MAX / 8,
+        usize::MAX - 16,
+        usize::MAX - 1,
+        usize::MAX,
+    ];
+    for place in (0..=17).chain(far) {
+        for byte in 0..=255 {
+            for bytes in [&[][..], &[byte], &[byte, byte]] {
+                for modular in [false, true] {
+                    reader.check((bytes, place, modular), &mut row);
+                }
+            }
+        }
+    }
+    report.add(row);
+}
+
+/// Headers at the end of the longest slice and of one that is a byte too long.
+fn long_slices(reader: &Reader, report: &mut Report) {
+    let mut row = Row::new(reader.name, "64 KiB");
+    let mut random = Random::for_name("64 KiB");
+    let mut bytes: Vec<u8> = (0..65_537).map(|_| random.next() as u8).collect();
+    for start in (65_480..65_537).chain([0]) {
+        let header = pack(0, &header(&mut random, false), 0);
+        let end = (start + header.len()).min(bytes.len());
+        bytes[start..end].copy_from_slice(&header[..end - start]);
+        for place in 8 * start..8 * start + 8 {
+            for len in [65_535, 65_536, 65_537] {
+                reader.check((&bytes[..len], place, false), &mut row);
+            }
+        }
+    }
+    report.add(row);
+}
+
+fn built_headers(reader: &Reader, scale: u64, report: &mut Report) {
+    let mut random = Random::for_name(reader.name);
+    let mut row = Row::new(reader.name, "random");
+    for _ in 0..WHOLE * scale {
+        let (place, modular) = place_and_encoding(&mut random);
+        let bytes = pack(place, &header(&mut random, modular), random.next() as u8);
+        reader.check((&bytes, place, modular), &mut row);
+    }
+    report.add(row);
+    let mut row = Row::new(reader.name, "cut short");
+    for _ in 0..CUT * scale {
+        let (place, modular) = place_and_encoding(&mut random);
+        let bytes = pack(place, &header(&mut random, modular), 0);
+        for len in 0..=bytes.len() {
+            reader.check((&bytes[..len], place, modular), &mut row);
+        }
+    }
+    report.add(row);
+    let mut row = Row::new(reader.name, "other halves");
+    for _ in 0..REPLACED * scale {
+        let (place, modular) = place_and_encoding(&mut random);
+        let mut fields = header(&mut random, modular);
+        for at in 0..fields.len() {
+            for half in HALVES {
+                let (kept, width) = fields[at];
+                if width == 16 {
+                    fields[at].0 = half;
+                    reader.check((&pack(place, &fields, 0), place, modular), &mut row);
+                    fields[at].0 = kept;
+                }
+            }
+        }
+    }
+    report.add(row);
+}
+
+fn place_and_encoding(random: &mut Random) -> (usize, bool) {
+    (random.within(0, 20) as usize, random.once_in(2))
+}
+
+/// A value and its width in bits.
+type Field = (u32, u32);
+
+/// Both bundles with all their halves, or the edge filter's alone, or random bits.
+fn header(random: &mut Random, modular: bool) -> Vec<Field> {
+    let mut fields = Vec::new();
+    match random.within(0, 9) {
+        0 => return (0..12).map(|_| (random.next() as u32, 32)).collect(),
+        1..=5 => {
+            let on = mostly(random, &mut fields);
+            if on && mostly(random, &mut fields) {
+                halves(random, 6, &mut fields);
+            }
+        }
+        _ => {}
+    }
+    fields.push((random.within(0, 3) as u32, 2));
+    if !modular && mostly(random, &mut fields) {
+        halves(random, 8, &mut fields);
+    }
+    if mostly(random, &mut fields) {
+        halves(random, 3, &mut fields);
+        fields.push((random.next() as u32, 32));
+    }
+    if mostly(random, &mut fields) {
+        halves(random, if modular { 3 } else { 4 }, &mut fields);
+    }
+    if modular {
+        halves(random, 1, &mut fields);
+    }
+    fields
+}
+
+/// A bit that is more often 1.
+fn mostly(random: &mut Random, fields: &mut Vec<Field>) -> bool {
+    let bit = random.within(0, 3) > 0;
+    fields.push((bit.into(), 1));
+    bit
+}
+
+/// Halves, most of them finite.
+fn halves(random: &mut Random, count: usize, fields: &mut Vec<Field>) {
+    for _ in 0..count {
+        let half = match random.within(0, 49) {
+            0 => random.next() as u32 & 0xFFFF,
+            1..=9 => random.one_of(&HALVES[..12]),
+            _ => random.within(0, 0x7BFF) as u32 | (random.next() as u32 & 0x8000),
+        };
+        fields.push((half, 16));
+    }
+}
+
+/// The fields from a place on; the bits around them are those of `rest`.
+fn pack(place: usize, fields: &[Field], rest: u8) -> Vec<u8> {
+    let length: usize = fields.iter().map(|&(_, width)| width as usize).sum();
+    let mut bytes = vec![rest; (place + length).div_ceil(8)];
+    let mut p = place;
+    for &(value, width) in fields {
+        for bit in 0..width {
+            bytes[p / 8] &= !(1 << (p % 8));
+            bytes[p / 8] |= ((value >> bit & 1) as u8) << (p % 8);
+            p += 1;
+        }
+    }
+    bytes
+}

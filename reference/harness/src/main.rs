@@ -1,0 +1,75 @@
+//! Compares the proved library with the original Rust on the same inputs.
+//!
+//! `harness [--scale N]` prints a table of what was compared and fails if anything differs;
+//! N multiplies the random cases. `harness record` prints a sample of the original's answers as
+//! Rattle constants.
+
+mod boundary;
+mod expected;
+mod frame;
+#[cfg(feature = "gabor")]
+mod gabor;
+#[cfg(feature = "header")]
+mod header;
+mod kinds;
+mod mirror;
+mod random;
+mod record;
+mod region;
+mod report;
+mod subject;
+
+use std::process::ExitCode;
+
+use report::Report;
+use subject::Subject;
+
+/// Random cases over all subjects, before `--scale`.
+const RANDOM_CASES: u64 = 1_000_000;
+
+fn main() -> ExitCode {
+    let arguments: Vec<String> = std::env::args().skip(1).collect();
+    let arguments: Vec<&str> = arguments.iter().map(String::as_str).collect();
+    match arguments[..] {
+        [] => compare(1),
+        ["--scale", scale] => match scale.parse() {
+            Ok(scale) => compare(scale),
+            Err(_) => usage(),
+        },
+        ["record"] => {
+            record::print(&subjects());
+            ExitCode::SUCCESS
+        }
+        _ => usage(),
+    }
+}
+
+fn usage() -> ExitCode {
+    eprintln!("usage: harness [--scale N] | harness record");
+    ExitCode::from(2)
+}
+
+fn subjects() -> Vec<&'static Subject> {
+    region::SUBJECTS
+        .iter()
+        .chain([&mirror::MIRROR, &frame::GROUP_SIZES, &frame::SPLIT_BLOCK])
+        .collect()
+}
+
+fn compare(scale: u64) -> ExitCode {
+    let subjects = subjects();
+    let random = (RANDOM_CASES * scale).div_ceil(subjects.len() as u64);
+    let mut report = Report::new();
+    for subject in subjects {
+        subject.compare(random, &mut report);
+    }
+    #[cfg(feature = "header")]
+    header::compare(scale, &mut report);
+    #[cfg(feature = "gabor")]
+    gabor::compare(scale, &mut report);
+    if report.finish() {
+        ExitCode::SUCCESS
+    } else {
+        ExitCode::FAILURE
+    }
+}

@@ -1,0 +1,27 @@
+//! Mirror: inputs are the offset and the length.
+
+use crate::{
+    boundary, expected,
+    kinds::{LENGTH, OFFSET},
+    subject::{Answer, Subject},
+};
+
+pub const MIRROR: Subject = Subject {
+    name: "mirror",
+    inputs: &[&OFFSET, &LENGTH],
+    outputs: 1,
+    ours: |c| {
+        let answer = boundary::loupe_mirror(c[0] as isize, c[1] as usize);
+        Answer::new(answer.number, &[answer.place as i128])
+    },
+    rule: |c| match expected::mirror(c[0], c[1]) {
+        Ok(place) => Answer::new(0, &[place]),
+        Err(number) => Answer::refused(number),
+    },
+    rust: |c| Answer::new(0, &[oracle::mirror(c[0] as isize, c[1] as usize) as i128]),
+    near: &[
+        ("near zero", &[(-400, 400), (0, 100)]),
+        ("long", &[(-49_153, 49_153), (16_383, 16_385)]),
+    ],
+    named: &[&[-1, 1], &[-3, 2], &[5, 4], &[7, 3]],
+};

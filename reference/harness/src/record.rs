@@ -1,0 +1,105 @@
+//! A sample of the original's answers as Rattle constants, for a replay with no Rust at hand.
+
+use std::collections::{BTreeMap, BTreeSet};
+
+use crate::{
+    random::Random,
+    subject::{Subject, for_each_in},
+};
+
+/// Rows for each subject.
+const ROWS: usize = 64;
+/// Characters of a row that `rt fmt` leaves on one line.
+const LONGEST_ROW: usize = 60;
+/// About how many cases of each source there are, among which the rows are chosen.
+const CANDIDATES: usize = 2_000;
+
+pub fn print(subjects: &[&Subject]) {
+    println!("// Answers of the original Rust, and document 01's number where it refuses.");
+    println!(
+        "// Written by `harness record` in reference/. A row: the inputs in order, the number,"
+    );
+    println!("// the result's fields in order.");
+    for subject in subjects {
+        print_subject(subject);
+    }
+}
+
+fn print_subject(subject: &Subject) {
+    let width = subject.inputs.len() + 1 + subject.outputs;
+    let cases = chosen(subject);
+    println!();
+    println!(
+        "pub const {}: [[i64; {width}]; {}] = [",
+        subject.name.to_uppercase(),
+        cases.len()
+    );
+    for case in cases {
+        println!("    {},", row(subject, &case));
+    }
+    println!("];");
+}
+
+fn row(subject: &Subject, case: &[i128]) -> String {
+    let due = subject.due(case);
+    let numbers: Vec<String> = case
+        .iter()
+        .chain([&i128::from(due.number)])
+        .chain(&due.fields[..subject.outputs])
+        .map(i128::to_string)
+        .collect();
+    format!("[{}]", numbers.join(", "))
+}
+
+/// The named cases, then cases taken in turn from each class: number, and whether any field is
+/// other than 0.
+fn chosen(subject: &Subject) -> Vec<Vec<i128>> {
+    let mut chosen: Vec<Vec<i128>> = subject.named.iter().map(|case| case.to_vec()).collect();
+    let mut seen: BTreeSet<Vec<i128>> = chosen.iter().cloned().collect();
+    let mut random = Random::for_name(&format!("record {}", subject.name));
+    let mut classes: BTreeMap<(u32, bool), Vec<Vec<i128>>> = BTreeMap::new();
+    for case in candidates(subject, &mut random) {
+        let fits = case.iter().all(|&n| n.unsigned_abs() <= i64::MAX as u128)
+            && row(subject, &case).len() <= LONGEST_ROW;
+        if fits && seen.insert(case.clone()) {
+            let due = subject.due(&case);
+            let class = (due.number, due.fields.iter().any(|&field| field != 0));
+            classes.entry(class).or_default().push(case);
+        }
+    }
+    while chosen.len() < ROWS {
+        for (class, cases) in &mut classes {
+            // Two results for each case of another class.
+            let times = if *class == (0, true) { 2 } else { 1 };
+            for _ in 0..times.min(cases.len()) {
+                let at = random.within(0, cases.len() as i128 - 1) as usize;
+                chosen.push(cases.swap_remove(at));
+            }
+        }
+    }
+    chosen.truncate(ROWS);
+    chosen
+}
+
+/// Cases near zero, at the limits and drawn.
+fn candidates(subject: &Subject, random: &mut Random) -> Vec<Vec<i128>> {
+    let mut cases = Vec::new();
+    for (_, ranges) in subject.near {
+        thin(&mut cases, random, |visit| for_each_in(ranges, visit));
+    }
+    thin(&mut cases, random, |visit| subject.for_each_limit(visit));
+    cases.extend((0..CANDIDATES).map(|_| subject.draw(random)));
+    cases
+}
+
+/// Adds some cases of a source.
+fn thin(cases: &mut Vec<Vec<i128>>, random: &mut Random, source: impl Fn(&mut dyn FnMut(&[i128]))) {
+    let mut count = 0;
+    source(&mut |_| count += 1);
+    let stride = count / CANDIDATES as i128 + 1;
+    source(&mut |case| {
+        if random.within(1, stride) == 1 {
+            cases.push(case.to_vec());
+        }
+    });
+}

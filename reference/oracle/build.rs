@@ -1,0 +1,111 @@
+//! Writes the modules that are compiled from the original's folder, `LOUPE_RUST_SRC`.
+//!
+//! Files of which only a part is wanted have that part's text taken out of them, into the build's
+//! own folder. The originals are laid out by rustfmt: an item ends at the first line that is its
+//! own indentation and a closing brace.
+
+use std::{
+    env, fs,
+    path::{Path, PathBuf},
+};
+
+/// Items of `image.rs` that the channel exchange needs.
+const CHANNEL_TYPES: [&str; 2] = ["pub enum ImageBuffer {", "pub struct ImageWithRegion {"];
+const BUFFER_METHODS: [&str; 2] = ["    pub fn width(", "    pub fn height("];
+const IMAGE_METHODS: [&str; 6] = [
+    "    pub(crate) fn new(",
+    "    pub(crate) fn alloc_tracker(",
+    "    pub fn buffer_mut(",
+    "    pub fn take_buffer(",
+    "    pub fn regions_and_shifts(",
+    "    pub fn append_channel(",
+];
+const EXCHANGE_METHOD: &str = "    pub fn replace_channel(";
+
+fn main() {
+    println!("cargo:rerun-if-env-changed=LOUPE_RUST_SRC");
+    println!("cargo:rerun-if-changed=build.rs");
+    let folder = env::var("LOUPE_RUST_SRC")
+        .expect("LOUPE_RUST_SRC: the folder that has crates/jxl-frame and crates/jxl-render");
+    let folder = fs::canonicalize(PathBuf::from(folder).join("crates/jxl-render/src"))
+        .expect("LOUPE_RUST_SRC: no crates/jxl-render/src there");
+    println!("cargo:rerun-if-changed={}", folder.display());
+    let out = PathBuf::from(env::var("OUT_DIR").unwrap());
+    write(&out, "modules.rs", whole(&folder));
+    write(
+        &out,
+        "mirror.rs",
+        item(&read(&folder, "util.rs"), "pub(crate) fn mirror("),
+    );
+    write(&out, "channels.rs", channels(&read(&folder, "image.rs")));
+}
+
+/// The files compiled whole, under the names that they use for each other.
+fn whole(folder: &Path) -> String {
+    let region = folder.join("region.rs");
+    let filter = folder.join("filter");
+    format!(
+        "#[path = {region:?}]
+        #[allow(clippy::all, warnings)]
+        mod region;
+
+        #[path = {filter:?}]
+        #[allow(clippy::all, warnings)]
+        mod filter {{
+            pub(crate) mod epf;
+            pub(crate) mod gabor;
+            pub(crate) mod owned;
+            pub(super) mod impls {{
+                pub(crate) mod generic;
+                pub(super) use generic::{{epf_row_handler, gabor_row_handler}};
+            }}
+        }}"
+    )
+}
+
+/// The two types of the channel exchange with the methods that it calls.
+fn channels(image: &str) -> String {
+    let mut text = String::new();
+    for start in CHANNEL_TYPES {
+        text += "#[derive(Debug)]\n";
+        text += &item(image, start);
+    }
+    text += "impl ImageBuffer {\n";
+    for start in BUFFER_METHODS {
+        text += &item(image, start);
+    }
+    text += "}\nimpl ImageWithRegion {\n";
+    for start in IMAGE_METHODS {
+        text += &item(image, start);
+    }
+    text += &item(image, EXCHANGE_METHOD);
+    text += "}\n";
+    text
+}
+
+/// The text of the first item that starts so.
+fn item(text: &str, start: &str) -> String {
+    let indent = &start[..start.len() - start.trim_start().len()];
+    let from = text
+        .lines()
+        .position(|line| line.starts_with(start))
+        .unwrap_or_else(|| panic!("no item starts with {start:?}"));
+    let mut taken = String::new();
+    for line in text.lines().skip(from) {
+        taken += line;
+        taken.push('\n');
+        if line.strip_prefix(indent) == Some("}") {
+            return taken;
+        }
+    }
+    panic!("no end of {start:?}");
+}
+
+fn read(folder: &Path, name: &str) -> String {
+    let file = folder.join(name);
+    fs::read_to_string(&file).unwrap_or_else(|error| panic!("{}: {error}", file.display()))
+}
+
+fn write(out: &Path, name: &str, text: String) {
+    fs::write(out.join(name), text).unwrap();
+}

@@ -1,0 +1,21 @@
+//! Plain functions over the compiled files; nothing here computes what is compared.
+
+mod filters;
+mod headers;
+mod sizes;
+
+pub use filters::*;
+pub use headers::*;
+pub use sizes::*;
+
+use crate::{Region, util};
+
+/// `Region::container_aligned`, which the original keeps to itself.
+pub fn container_aligned(region: Region, grid_dim: u32) -> Region {
+    region.container_aligned(grid_dim)
+}
+
+/// `mirror` of `util.rs`.
+pub fn mirror(offset: isize, len: usize) -> usize {
+    util::mirror(offset, len)
+}

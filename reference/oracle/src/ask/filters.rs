@@ -1,0 +1,100 @@
+use alloc::collections::BTreeMap;
+use core::marker::PhantomData;
+
+use jxl_frame::data::LfGroup;
+use jxl_frame::filter::{EpfParams, EpfSigma};
+use standins::{AlignedGrid, HfMetadata, Tasks, block_on};
+
+use super::{Edge, Frame, Weights, sizes::header};
+use crate::filter::{epf::apply_epf, gabor::apply_gabor_like, owned::FilterImage};
+use crate::{ImageBuffer, ImageWithRegion, Region};
+
+/// Three planes, each row after row without gaps.
+pub type Planes = [Vec<f32>; 3];
+
+/// Block sigmas of a group, row after row.
+#[derive(Debug, Clone)]
+pub struct SigmaGrid {
+    pub width: usize,
+    pub height: usize,
+    pub cells: Vec<f32>,
+}
+
+/// Where a filter works, and what it leaves: the whole image or the filter region's part of it.
+#[derive(Debug, Clone, Copy)]
+pub struct Place {
+    pub image: Region,
+    pub filter: Region,
+    pub preserve_outside: bool,
+}
+
+/// `apply_gabor_like` on planes of the image region. The filter region must lie in it.
+pub fn gabor(place: Place, weights: Weights, planes: Planes) -> Planes {
+    through(place, planes, |input| {
+        block_on(apply_gabor_like(input, weights, &Tasks))
+    })
+}
+
+/// `apply_epf` on planes of the image region, with the group's grids in the frame's order, none
+/// where a grid is missing. The filter region must lie in the image region, its left and top be
+/// multiples of 8 that are not negative, and each block be in its group's grid.
+pub fn epf(
+    place: Place,
+    frame: Frame,
+    grids: &[Option<SigmaGrid>],
+    settings: Edge,
+    planes: Planes,
+) -> Planes {
+    let groups: BTreeMap<u32, LfGroup<i32>> = (0..)
+        .zip(grids)
+        .map(|(index, grid)| (index, group(grid.clone())))
+        .collect();
+    let frame = header(frame);
+    let params = EpfParams {
+        iters: settings.iters,
+        sharp_lut: settings.sharp_lut,
+        channel_scale: settings.channel_scale,
+        sigma: EpfSigma {
+            quant_mul: settings.sigma.quant_mul,
+            pass0_sigma_scale: settings.sigma.pass0_sigma_scale,
+            pass2_sigma_scale: settings.sigma.pass2_sigma_scale,
+            border_sad_mul: settings.sigma.border_sad_mul,
+        },
+        sigma_for_modular: settings.sigma_for_modular,
+    };
+    through(place, planes, |input| {
+        block_on(apply_epf(input, &groups, &frame, &params, &Tasks))
+    })
+}
+
+fn group(grid: Option<SigmaGrid>) -> LfGroup<i32> {
+    LfGroup {
+        hf_meta: grid.map(|grid| HfMetadata {
+            epf_sigma: AlignedGrid::from_cells(grid.width, grid.height, grid.cells),
+        }),
+        samples: PhantomData,
+    }
+}
+
+/// The planes handed to a filter and taken back, by the original's own exchange of channels.
+fn through(
+    place: Place,
+    planes: Planes,
+    filter: impl FnOnce(FilterImage) -> crate::Result<FilterImage>,
+) -> Planes {
+    let (width, height) = (place.image.width as usize, place.image.height as usize);
+    let mut image = ImageWithRegion::new(3, None);
+    for plane in planes {
+        let plane = AlignedGrid::from_cells(width, height, plane);
+        image.append_channel(ImageBuffer::F32(plane), place.image);
+    }
+    let input = FilterImage::take_from(&mut image, place.filter, place.preserve_outside);
+    filter(input)
+        .and_then(|output| output.write_to(&mut image))
+        .expect("inline tasks and plain grids never fail");
+    let mut planes = image.take_buffer().into_iter().map(|buffer| match buffer {
+        ImageBuffer::F32(plane) => plane.into_cells(),
+        _ => unreachable!("the filters leave f32 planes"),
+    });
+    core::array::from_fn(|_| planes.next().unwrap())
+}
