@@ -9,7 +9,7 @@ use Rattle.planes.specs.Samples.{bits, b0, b1, b2, b3, b4}
 use Rattle.planes.specs.Picture.{around}
 use Rattle.planes.specs.Sets.{of, setOf, tab}
 use Rattle.rounding.specs.Magnitude.{magnitude}
-use Rattle.weights.specs.Steps.{kernel, dists, along, numbered, scaled, apart, distance, positive, weightBy, copied, standardLimit, weightAt, blend, divisor, epf, border, multiplier, EpfPass, epfPass}
+use Rattle.weights.specs.Steps.{kernel, dists, along, scaledFrom, scaled, apart, distance, positive, weightBy, copied, standardLimit, weightAt, blend, divisor, epf, border, multiplier, EpfPass, epfPass}
 
 -- ---- border multiplier
 
@@ -69,7 +69,7 @@ abbrev pub NaNSigma : Type 0
 NaNSigma = stepTwo nan 3 1 (b1 ∷ b5 ∷ b2 ∷ []) ≡ b1 ∷ b5 ∷ b2 ∷ []
 
 pub nan-sigma : NaNSigma
-unfolding epfPass around mirror epf copied blend divisor weightAt weightBy positive distance apart along magnitude kernel dists numbered of setOf tab lt add sub mul div ofBits
+unfolding epfPass around mirror epf copied blend divisor weightAt weightBy positive distance apart along magnitude kernel dists scaledFrom of setOf tab lt add sub mul div ofBits
 nan-sigma = refl
 
 -- a NaN sigma filters and does not copy: -0 comes out as +0
@@ -77,5 +77,5 @@ abbrev pub NaNFilters : Type 0
 NaNFilters = stepTwo nan 2 1 (bits 0x8000_0000 ∷ b1 ∷ []) ≡ b0 ∷ b1 ∷ []
 
 pub nan-filters : NaNFilters
-unfolding epfPass around mirror epf copied blend divisor weightAt weightBy positive distance apart along magnitude kernel dists numbered of setOf tab lt add sub mul div ofBits
+unfolding epfPass around mirror epf copied blend divisor weightAt weightBy positive distance apart along magnitude kernel dists scaledFrom of setOf tab lt add sub mul div ofBits
 nan-filters = refl

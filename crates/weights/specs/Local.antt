@@ -8,9 +8,8 @@ use lib.Dec.{T, leb, ltb, leb→le, lt→ltb, ltb→lt}
 use lib.Ieee.{Float}
 use lib.Ieee.Fits.{and-l, and-r, and-i}
 use lib.IntN.{ℤ, pos, _+ℤ_, natAbs}
-use lib.ListN.{take, length}
 use Rattle.planes.specs.Picture.{Around}
-use Rattle.weights.specs.Steps.{Offset, Scaled, kernel, dists, reach, along, numbered, scaled, apart, distance, weightAt, blend, divisor, epf}
+use Rattle.weights.specs.Steps.{Offset, Scaled, kernel, dists, reach, along, scaledFrom, scaled, apart, distance, weightAt, blend, divisor, epf}
 
 -- two readers show the same in channels below n and offsets of at most r
 abbrev pub Alike : ℕ → ℕ → Around → Around → Type 0
@@ -47,14 +46,13 @@ steps-near (suc zero) h = tt
 steps-near (suc (suc zero)) h = tt
 steps-near (suc (suc (suc s))) h = absurd (omega arith)
 
-numbered-below : (m c n : ℕ) (ss : List Float) → c + n ≤ m → T (channelsBelow m (take n (numbered c ss)))
-unfolding numbered channelsBelow
-numbered-below m c zero ss h = tt
-numbered-below m c (suc n) [] h = tt
-numbered-below m c (suc n) (s ∷ ss) h = and-i (ltb c m) (channelsBelow m (take n (numbered (suc c) ss))) (lt→ltb c m (omega arith)) (numbered-below m (suc c) n ss (omega arith))
+from-below : (m c n : ℕ) (ss : List Float) → c + n ≤ m → T (channelsBelow m (scaledFrom c n ss))
+unfolding scaledFrom channelsBelow
+from-below m c zero ss h = tt
+from-below m c (suc n) ss h = and-i (ltb c m) (channelsBelow m (scaledFrom (suc c) n ss)) (lt→ltb c m (omega arith)) (from-below m (suc c) n ss (omega arith))
 
 pub scaled-below : (n : ℕ) (ss : List Float) → T (channelsBelow n (scaled n ss))
-scaled-below n ss = numbered-below n 0 n ss (omega arith)
+scaled-below n ss = from-below n 0 n ss (omega arith)
 
 -- ---- the sample
 

@@ -4,9 +4,9 @@ use mathlib.Core.Bool.{Bool, cond, _||_}
 use mathlib.Core.List.{List, [], _∷_}
 use Prim.Native.Nat.{ℕ, zero, suc, _+_, _-_, _/_, _%_}
 use lib.Dec.{eqb}
-use lib.ListN.{take}
+use lib.ListN.{getD}
 use lib.IntN.{ℤ, pos, negsuc, _+ℤ_}
-use lib.Ieee.{Float, lt}
+use lib.Ieee.{Float, nan, lt}
 use Rattle.rounding.specs.Magnitude.{magnitude}
 use Rattle.planes.specs.Samples.{_⊕_, _⊖_, _⊗_, _⊘_, bits, b0, b1}
 use Rattle.planes.specs.Picture.{Picture, Around, around}
@@ -44,14 +44,14 @@ along f b (a ∷ l) = along f (f b a) l
 abbrev pub Scaled : Type 0
 Scaled = ℕ × Float
 
--- scales by channel, from channel c on
-unfoldable pub numbered : ℕ → List Float → List Scaled
-numbered c [] = []
-numbered c (s ∷ ss) = (c, s) ∷ numbered (suc c) ss
+-- n channels from channel c on, with their scales
+unfoldable pub scaledFrom : ℕ → ℕ → List Float → List Scaled
+scaledFrom c zero ss = []
+scaledFrom c (suc n) ss = (c, getD ss c nan) ∷ scaledFrom (suc c) n ss
 
 -- the first n channels with their scales
 abbrev pub scaled : ℕ → List Float → List Scaled
-scaled n ss = take n (numbered 0 ss)
+scaled n ss = scaledFrom 0 n ss
 
 -- channel c: the sum of |differences| between the sample's surroundings and those of its neighbour at k
 unfoldable pub apart : List Offset → Around → ℕ → Offset → Float
