@@ -189,3 +189,24 @@ module _ (s q h : ℕ) (t : Tap) (e : h ≡ fieldOf s q) where
       go : (s : ℕ) → (s ≡ 0 → ⊥) → isAhead s q ≡ false
       go zero n = absurd (n refl)
       go (suc s) n = ne-eqb (q % 2) 1 l
+
+-- ---- in numbers of the machine
+
+pub kernel-few : (s : ℕ) → (length (kernel s) ≤ 12) × (length (kernel s) % 4 ≡ 0)
+unfolding kernel
+kernel-few zero = (lit≤ tt, refl)
+kernel-few (suc s) = (lit≤ tt, refl)
+
+pub record TapRoom (t : Tap) : Type 0 where
+  pub start : t .start ≤ 4676
+  pub low : 68 ≤ t .place
+  pub high : t .place ≤ 324
+
+pub tap-room : (step q : ℕ) (t : Tap) → q < length (kernel step) → t ≡ tapOf step q → TapRoom t
+tap-room step q t l e = let k = tap-is step q l in rw e (record { start = go k (k .side); low = k .low; high = k .high })
+  where
+    go : (k : TapIs step q (tapOf step q))
+        → ((tapOf step q .place ≡ 196 + shift step (k .field)) × (tapOf step q .start ≡ k .field * 896 + 196)) ⊎ ((tapOf step q .place ≡ 196 - shift step (k .field)) × (tapOf step q .start ≡ k .field * 896 + (196 - shift step (k .field))))
+        → tapOf step q .start ≤ 4676
+    go k (inl s) = omega (arith, s .1, k .among, half-few step)
+    go k (inr s) = omega (arith, s .1, k .among, half-few step)

@@ -32,7 +32,7 @@ pub fn copied(sigma: f32, limit: f32) -> bool
 }
 
 // Whether a row or a column lies at the border of a block.
-fn at_border(p: usize) -> bool
+pub fn at_border(p: usize) -> bool
     ensures { λ r. ⌜ r ≡ border p ⌝ }
 {
     if p % 8 == 0 {
