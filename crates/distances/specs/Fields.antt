@@ -29,7 +29,7 @@ unfolding along
 along-same f g h [] b = refl
 along-same f g h (a ∷ l) b = rw (h b a) (along-same f g h l (g b a))
 
-along-suc : {A B : Type 0} (f : B → A → B) (b : B) (l : List A) (i : ℕ) (d : A) → i < length l → f (along f b (take i l)) (getD l i d) ≡ along f b (take (suc i) l)
+pub along-suc : {A B : Type 0} (f : B → A → B) (b : B) (l : List A) (i : ℕ) (d : A) → i < length l → f (along f b (take i l)) (getD l i d) ≡ along f b (take (suc i) l)
 unfolding along
 along-suc f b [] i d h = absurd (omega arith)
 along-suc f b (a ∷ l) zero d h = refl
