@@ -3,6 +3,7 @@ pub mod Picture
 pub mod Sets
 pub mod Fill
 pub mod Rect
+pub mod Join
 pub mod Band
 pub mod Outside
 pub mod Stored

@@ -1,0 +1,4 @@
+pub mod Runs
+pub mod Seen
+pub mod Taps
+pub mod Fields

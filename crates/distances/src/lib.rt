@@ -1,0 +1,316 @@
+// Distances between the samples of a tile and their neighbours, from windows of 14 rows of 64 columns a plane.
+// A neighbour's distances are those of the opposite neighbour that far before, so a step has a field for each pair.
+use rounding::difference;
+ghost use mathlib.Core.Path.{_≡_};
+ghost use Prim.Native.Nat.{ℕ, _+_, _-_, _*_, _<_, _≤_, min};
+ghost use lib.ListN.{length, getD};
+ghost use lib.Ieee.{nan};
+ghost use Rattle.planes.specs.Samples.{_⊕_, _⊗_, b0};
+ghost use Rattle.planes.specs.Fill.{fill};
+ghost use Rattle.weights.specs.Steps.{kernel, scaled};
+ghost use Rattle.distances.specs.Seen.{nearby as nearbyOf, apartBy};
+ghost use Rattle.distances.specs.Taps.{half as halfOf, shift as shiftOf, fieldOf, tapOf};
+ghost use Rattle.distances.specs.Fields.{distAt, fieldsFill, distancesOf};
+
+// Positions of a window's row and of a plane's window; the place of a sample in its own window.
+const STRIDE: usize = 64;
+
+const PLANE: usize = 896;
+
+const CENTRE: usize = 196;
+
+const PLANES: usize = 3;
+
+const ROWS: usize = 8;
+
+// A neighbour's place in the window of a sample, and where its distances start among the fields.
+pub struct Tap {
+    pub place: usize,
+    pub start: usize,
+}
+
+// How many neighbours a step has.
+pub fn kernel_len(step: usize) -> usize
+    ensures { λ r. ⌜ r ≡ length (kernel step) ⌝ }
+{
+    if step == 0 { 12 } else { 4 }
+}
+
+// How many fields it has.
+fn half(step: usize) -> usize
+    ensures { λ r. ⌜ r ≡ halfOf step ⌝ }
+{
+    if step == 0 { 6 } else { 2 }
+}
+
+// How far apart the places are that field h of step 0 compares.
+fn shift_of_first(h: usize) -> usize
+    ensures { λ r. ⌜ r ≡ shiftOf 0 h ⌝ }
+{
+    if h == 0 {
+        return 1;
+    }
+    if h == 1 {
+        return 2;
+    }
+    if h == 2 {
+        return 63;
+    }
+    if h == 3 {
+        return 64;
+    }
+    if h == 4 { 65 } else { 128 }
+}
+
+// The same of every step.
+fn shift(step: usize, h: usize) -> usize
+    ensures { λ r. ⌜ r ≡ shiftOf step h ⌝ }
+{
+    if step == 0 {
+        return shift_of_first(h);
+    }
+    if h == 0 { 1 } else { 64 }
+}
+
+fn at_most(x: usize, k: usize) -> usize
+    ensures { λ r. ⌜ r ≡ min x k ⌝ }
+{
+    if x < k {
+        return x;
+    }
+    k
+}
+
+fn ahead(step: usize, h: usize) -> Tap
+    requires { ⌜ h < 6 ⌝ }
+    ensures { λ r. ⌜ r ≡ record { place = 196 + shiftOf step h; start = h * 896 + 196 } ⌝ }
+{
+    Tap {
+        place: CENTRE + shift(step, h),
+        start: h * PLANE + CENTRE,
+    }
+}
+
+fn behind(step: usize, h: usize) -> Tap
+    requires { ⌜ h < 6 ⌝ }
+    ensures { λ r. ⌜ r ≡ record { place = 196 - shiftOf step h; start = h * 896 + (196 - shiftOf step h) } ⌝ }
+{
+    let place = CENTRE - shift(step, h);
+    Tap {
+        place,
+        start: h * PLANE + place,
+    }
+}
+
+// The field of neighbour q.
+fn field_of(step: usize, q: usize) -> usize
+    ensures { λ r. ⌜ r ≡ fieldOf step q ⌝ }
+{
+    if step == 0 {
+        if q < 6 {
+            return 5 - q;
+        }
+        return at_most(q - 6, 5);
+    }
+    if q < 2 { 1 } else { 0 }
+}
+
+// Neighbour q, counted in the order of the kernel offsets.
+pub fn neighbour(step: usize, q: usize) -> Tap
+    ensures { λ r. ⌜ r ≡ tapOf step q ⌝ }
+{
+    let h = field_of(step, q);
+    if step == 0 {
+        if q < 6 {
+            return behind(step, h);
+        }
+        return ahead(step, h);
+    }
+    if q % 2 == 1 {
+        return ahead(step, h);
+    }
+    behind(step, h)
+}
+
+// |differences| between the places from position `from` on and those k after them, in plane c.
+fn differences(d: &mut [f32; 896], win: &[f32; 2688], c: usize, k: usize, from: usize, n: usize)
+    requires { ⌜ (c < 3) × (from + n + k ≤ 896) ⌝ }
+    ensures { λ _. ⌜ now (d .exit) ≡ fill (now (d .entry)) from n (λ (i : ℕ). apartBy (now (win .entry)) c k (from + i)) ⌝ }
+{
+    let base = c * PLANE;
+    let mut i = 0;
+    while i < n {
+        let p = from + i;
+        d[from + i] = difference(win[base + (p + k)], win[base + p]);
+        i += 1;
+    }
+}
+
+// The differences that a distance of step 0 or 1 sums at position j, in its order.
+fn nearby(step: usize, d: &[f32; 896], j: usize) -> f32
+    requires { ⌜ (step < 2) × (64 ≤ j) × (j + 64 < 896) ⌝ }
+    ensures { λ r. ⌜ r ≡ nearbyOf step (λ (p : ℕ). getD (now (d .entry)) p nan) j ⌝ }
+{
+    if step == 0 {
+        return 0.0 + d[j - STRIDE] + d[j + 1] + d[j] + d[j - 1] + d[j + STRIDE];
+    }
+    0.0 + d[j - STRIDE] + d[j] + d[j + STRIDE] + d[j - 1] + d[j + 1]
+}
+
+// Adds a channel's scaled sums of differences to n distances.
+fn add_nearby(
+    e: &mut [f32; 5376],
+    at: usize,
+    d: &[f32; 896],
+    scale: f32,
+    step: usize,
+    from: usize,
+    n: usize,
+)
+    requires { ⌜ (step < 2) × (64 ≤ from) × (from + n + 64 ≤ 896) × (at + n ≤ 5376) ⌝ }
+    ensures { λ _. ⌜ now (e .exit) ≡ fill (now (e .entry)) at n (λ (i : ℕ). getD (now (e .entry)) (at + i) nan ⊕ scale ⊗ nearbyOf step (λ (p : ℕ). getD (now (d .entry)) p nan) (from + i)) ⌝ }
+{
+    let mut i = 0;
+    while i < n {
+        e[at + i] = e[at + i] + scale * nearby(step, d, from + i);
+        i += 1;
+    }
+}
+
+// The same of step 2, which compares single samples.
+fn add_single(
+    e: &mut [f32; 5376],
+    at: usize,
+    win: &[f32; 2688],
+    c: usize,
+    k: usize,
+    scale: f32,
+    from: usize,
+    n: usize,
+)
+    requires { ⌜ (c < 3) × (from + n + k ≤ 896) × (at + n ≤ 5376) ⌝ }
+    ensures { λ _. ⌜ now (e .exit) ≡ fill (now (e .entry)) at n (λ (i : ℕ). getD (now (e .entry)) (at + i) nan ⊕ scale ⊗ nearbyOf 2 (apartBy (now (win .entry)) c k) (from + i)) ⌝ }
+{
+    let base = c * PLANE;
+    let mut i = 0;
+    while i < n {
+        let p = from + i;
+        e[at + i] = e[at + i] + scale * (0.0 + difference(win[base + (p + k)], win[base + p]));
+        i += 1;
+    }
+}
+
+// Adds channel c to n distances.
+fn add_channel(
+    e: &mut [f32; 5376],
+    at: usize,
+    d: &mut [f32; 896],
+    win: &[f32; 2688],
+    c: usize,
+    step: usize,
+    k: usize,
+    scale: f32,
+    from: usize,
+    n: usize,
+)
+    requires { ⌜ (length (now d) ≡ 896) × (c < 3) × (64 ≤ from) × (from + n + 64 + k ≤ 896) × (at + n ≤ 5376) ⌝ }
+    ensures { λ _. ⌜ (now (e .exit) ≡ fill (now (e .entry)) at n (λ (i : ℕ). getD (now (e .entry)) (at + i) nan ⊕ scale ⊗ nearbyOf step (apartBy (now (win .entry)) c k) (from + i))) × (length (now (d .exit)) ≡ 896) ⌝ }
+{
+    if 1 < step {
+        add_single(e, at, win, c, k, scale, from, n);
+        return;
+    }
+    differences(d, win, c, k, from - STRIDE, n + 2 * STRIDE);
+    add_nearby(e, at, d, scale, step, from, n);
+}
+
+fn clear(e: &mut [f32; 5376], at: usize, n: usize)
+    requires { ⌜ at + n ≤ 5376 ⌝ }
+    ensures { λ _. ⌜ now (e .exit) ≡ fill (now (e .entry)) at n (λ (i : ℕ). b0) ⌝ }
+{
+    let mut i = 0;
+    while i < n {
+        e[at + i] = 0.0;
+        i += 1;
+    }
+}
+
+// n distances from position `from` on, between places that lie k apart.
+fn field(
+    e: &mut [f32; 5376],
+    at: usize,
+    d: &mut [f32; 896],
+    win: &[f32; 2688],
+    step: usize,
+    k: usize,
+    scales: &[f32; 3],
+    planes: usize,
+    from: usize,
+    n: usize,
+)
+    requires { ⌜ (length (now d) ≡ 896) × (planes ≤ 3) × (64 ≤ from) × (from + n + 64 + k ≤ 896) × (at + n ≤ 5376) ⌝ }
+    ensures { λ _. ⌜ (now (e .exit) ≡ fill (now (e .entry)) at n (λ (i : ℕ). distAt step (scaled planes (now (scales .entry))) (now (win .entry)) k (from + i))) × (length (now (d .exit)) ≡ 896) ⌝ }
+{
+    clear(e, at, n);
+    let mut c = 0;
+    while c < planes {
+        add_channel(e, at, d, win, c, step, k, scales[c], from, n);
+        c += 1;
+    }
+}
+
+fn fields(
+    e: &mut [f32; 5376],
+    win: &[f32; 2688],
+    step: usize,
+    scales: &[f32; 3],
+    planes: usize,
+    rows: usize,
+)
+    requires { ⌜ (planes ≤ 3) × (1 ≤ rows) × (rows ≤ 8) ⌝ }
+    ensures { λ _. ⌜ now (e .exit) ≡ fieldsFill step (scaled planes (now (scales .entry))) (now (win .entry)) rows (now (e .entry)) (halfOf step) ⌝ }
+{
+    let mut d = [0.0; 896];
+    let count = half(step);
+    let mut h = 0;
+    while h < count {
+        let k = shift(step, h);
+        let from = CENTRE - k;
+        field(
+            e,
+            h * PLANE + from,
+            &mut d,
+            win,
+            step,
+            k,
+            scales,
+            planes,
+            from,
+            rows * STRIDE + 188 - from,
+        );
+        h += 1;
+    }
+}
+
+// The fields of a tile of one to eight rows, from windows of at most three planes; nothing for other numbers.
+pub fn distances(
+    e: &mut [f32; 5376],
+    win: &[f32; 2688],
+    step: usize,
+    scales: &[f32; 3],
+    planes: usize,
+    rows: usize,
+)
+    ensures { λ _. ⌜ now (e .exit) ≡ distancesOf step planes (now (scales .entry)) (now (win .entry)) rows (now (e .entry)) ⌝ }
+{
+    if PLANES < planes {
+        return;
+    }
+    if rows < 1 {
+        return;
+    }
+    if ROWS < rows {
+        return;
+    }
+    fields(e, win, step, scales, planes, rows)
+}

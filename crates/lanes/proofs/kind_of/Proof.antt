@@ -1,0 +1,14 @@
+-- `lanes::kind_of` meets its contract. Assumes nothing.
+use mathlib.Core.Path.{_≡_, sym, _∙_}
+use mathlib.Core.Bool.{Bool, true, false}
+use borrow.Author.Needs.{needs}
+use Rattle.weights.specs.Steps.{border}
+use Rattle.lanes.proofs.kind_of.Statement.{statement}
+use Rattle.lanes.proofs.kind_of.Tie as tie
+
+pub kind-of-spec : {M : Type 1} → statement M
+kind-of-spec = tie.close
+    (tie.spec
+    (λ c κs. search needs)
+    (λ c. let e : border (c .before .before .args .row) ≡ true = sym (c .before .at-border .ensures) ∙ c .if1 .taken in rw e)
+    (λ c. let e : border (c .before .before .args .row) ≡ false = sym (c .before .at-border .ensures) ∙ c .if1 .left in rw e))

@@ -1,0 +1,9 @@
+-- `rounding::difference` meets its contract. Assumes nothing.
+use mathlib.Core.Path.{_≡_}
+use borrow.Author.Needs.{needs}
+use Rattle.rounding.specs.Magnitude.{difference-is}
+use Rattle.rounding.proofs.difference.Statement.{statement}
+use Rattle.rounding.proofs.difference.Tie as tie
+
+pub difference-spec : {M : Type 1} → statement M
+difference-spec = tie.close (tie.spec (λ c κs. search needs) (λ c. rw (c .larger .ensures) (difference-is _ _)))

@@ -1,0 +1,12 @@
+-- `weights::copied` meets its contract. Assumes nothing.
+use mathlib.Core.Path.{_≡_, refl}
+use Rattle.weights.specs.Steps.{copied}
+use Rattle.weights.proofs.copied.Statement.{statement}
+use Rattle.weights.proofs.copied.Tie as tie
+
+returns : tie.Need-returns
+unfolding copied
+returns c = refl
+
+pub copied-spec : {M : Type 1} → statement M
+copied-spec = tie.close (tie.spec returns)

@@ -1,0 +1,13 @@
+-- `weights::weight` meets its contract. Assumes nothing.
+use mathlib.Core.Path.{_≡_}
+use borrow.Author.Needs.{needs}
+use Rattle.weights.specs.Steps.{weightBy}
+use Rattle.weights.proofs.weight.Statement.{statement}
+use Rattle.weights.proofs.weight.Tie as tie
+
+returns : tie.Need-returns
+unfolding weightBy
+returns c = c .positive .ensures
+
+pub weight-spec : {M : Type 1} → statement M
+weight-spec = tie.close (tie.spec (λ c κs. search needs) returns)

@@ -1,0 +1,44 @@
+-- What is stated of weights and divisors (document 01: "with scales and M not negative, a weight lies in 0 to 1 and the divisor in 1 to 5 or 1 to 13").
+-- It holds for every sample, infinities and NaN among them, and for every limit above zero. proofs/Bounds.antt proves these statements.
+use mathlib.Core.Path.{_≡_}
+use mathlib.Core.Bool.{Bool, false, not}
+use mathlib.Core.List.{List, [], _∷_}
+use Prim.Native.Nat.{ℕ, zero, suc}
+use lib.Dec.{T}
+use lib.Ieee.{Float, lt, le}
+use lib.Ieee.Positive.{above}
+use Rattle.planes.specs.Samples.{bits, b0, b1}
+use Rattle.planes.specs.Picture.{Around}
+use Rattle.weights.specs.Steps.{Offset, Scaled, kernel, copied, weightAt, divisor, multiplier}
+
+-- not below zero; NaN is not
+abbrev pub notNegative : Float → Bool
+notNegative x = not (lt x b0)
+
+-- each of the scales is so
+abbrev pub ScalesNotNegative : List Scaled → Type 0
+ScalesNotNegative [] = Unit
+ScalesNotNegative (c ∷ cs) = T (notNegative (c .1)) × ScalesNotNegative cs
+
+-- lo ≤ x ≤ hi in the order of floats
+abbrev pub Between : Float → Float → Float → Type 0
+Between lo hi x = T (le lo x) × T (le x hi)
+
+-- 13 where the kernel has twelve offsets, 5 where it has four
+abbrev pub most : ℕ → Float
+most zero = bits 0x4150_0000
+most (suc step) = bits 0x40a0_0000
+
+-- every weight of a sample that is not copied lies in 0 to 1
+abbrev pub WeightBounds : Type 0
+WeightBounds = (cs : List Scaled) (ks ds : List Offset) (limit sigma m : Float) (v : Around) (k : Offset)
+    → T (above limit) → copied sigma limit ≡ false → T (notNegative m) → ScalesNotNegative cs → Between b0 b1 (weightAt cs ks ds sigma m v k)
+
+-- its divisor lies in 1 to 13 in step 0 and in 1 to 5 in steps 1 and 2
+abbrev pub DivisorBounds : Type 0
+DivisorBounds = (step : ℕ) (cs : List Scaled) (ds : List Offset) (limit sigma m : Float) (v : Around)
+    → T (above limit) → copied sigma limit ≡ false → T (notNegative m) → ScalesNotNegative cs → Between b1 (most step) (divisor cs (kernel step) ds sigma m v)
+
+-- M is not negative where the step's scale and the border multiplier are not
+abbrev pub MultiplierNotNegative : Type 0
+MultiplierNotNegative = (m b : Float) (row col : ℕ) → T (notNegative m) → T (notNegative b) → T (notNegative (multiplier m b row col))

@@ -1,0 +1,4 @@
+pub mod Steps
+pub mod Bounds
+pub mod Local
+pub mod Instances

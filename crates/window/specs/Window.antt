@@ -1,0 +1,230 @@
+-- What a window holds: samples of a filter region, mirrored at its edges. Definitions, and the laws that the loops cite. Assumes nothing.
+use mathlib.Core.Path.{_≡_, refl, sym, ap, _∙_}
+use mathlib.Core.Bool.{Bool, true, false, cond, _&&_}
+use mathlib.Core.List.{List}
+use Prim.Native.Nat.{ℕ, zero, suc, _+_, _-_, _*_, _<_, _≤_}
+use native.Mathlib.Nat.{suc-mul, mul-le-mul, mul-le-mul-right, add-mul}
+use native.Mathlib.Omega.{arith}
+use borrow.Author.Tests.{le-ltb, lt-ltb, le-leb, lt-leb, leb-true, eq-eqb, eqb-true}
+use lib.Dec.{leb, ltb, eqb}
+use lib.ListN.{length, getD}
+use lib.IntN.{ℤ, pos, subℕ}
+use lib.Ieee.{Float, nan}
+use Rattle.mirror.specs.Mirror.{mirror, mirror-in}
+use Rattle.planes.specs.declared.Layout.{Layout}
+use Rattle.planes.specs.Picture.{Picture}
+use Rattle.planes.specs.Sets.{of}
+use Rattle.planes.specs.Fill.{fill, fill-then}
+use Rattle.planes.specs.Rect.{rowsFill, planesFill, planes-turn, rows-cong}
+use Rattle.planes.specs.Band.{inner, layoutFits, setFits}
+use Rattle.planes.specs.Stored.{LayoutFits, layout-fits, and-first, and-second}
+
+-- ---- the samples
+
+-- column j of a window's row that starts four columns left of x, in a row of w samples that starts at index `row`
+unfoldable pub rowSample : List Float → ℕ → ℕ → ℕ → ℕ → Float
+rowSample src row x w j = getD src (row + mirror (subℕ (x + j) 4) w) nan
+
+-- row i of a window that starts three rows above y, in a region of w columns and h rows whose first row starts at index `at`, each next one a stride later
+unfoldable pub planeSample : List Float → ℕ → ℕ → ℕ → ℕ → ℕ → ℕ → ℕ → ℕ → Float
+planeSample src at stride w h x y i j = rowSample src (at + mirror (subℕ (y + i) 3) h * stride) x w j
+
+-- Column j and row i of a window on column x and row y of the filter region: the sample four columns left of x + j and three rows above y + i, mirrored (document 01, "Mirror").
+unfoldable pub windowSample : Layout → List Float → ℕ → ℕ → Picture
+windowSample l src x y = λ c j i. inner l src c (mirror (subℕ (x + j) 4) (l .width)) (mirror (subℕ (y + i) 3) (l .height))
+
+-- n planes of a set of that length, a place in the filter region, and rows and columns of a window of 14 rows and 64 columns
+abbrev pub windowFits : Layout → ℕ → ℕ → ℕ → ℕ → ℕ → ℕ → ℕ → Bool
+windowFits l n len x y top rows cols =
+    setFits l n len && (ltb x (l .width) && (ltb y (l .height) && (leb top 14 && (leb rows (14 - top) && (leb 4 cols && leb cols 64)))))
+
+-- what loading leaves: `rows` rows from row `top` on and `cols` columns of each of n planes, and nothing where they do not fit
+unfoldable pub loaded : Layout → ℕ → List Float → ℕ → ℕ → ℕ → ℕ → ℕ → List Float → List Float
+loaded l n src x y top rows cols win =
+    cond (windowFits l n (length src) x y top rows cols) (planesFill 64 14 0 cols top rows (λ c j i. windowSample l src x y c j (top + i)) win n) win
+
+-- ---- what the functions ask
+
+pub record WindowFits (l : Layout) (n len x y top rows cols : ℕ) : Type 0 where
+  pub layout : LayoutFits l
+  pub planes : n ≤ 3
+  pub source : len ≡ n * l .image .height * l .image .width
+  pub col : x < l .width
+  pub row : y < l .height
+  pub end : top + rows ≤ 14
+  pub least : 4 ≤ cols
+  pub most : cols ≤ 64
+
+-- a row of w samples in a list, and a window's row
+pub record RowFits (at row x w cols len : ℕ) : Type 0 where
+  pub room : row + w ≤ len
+  pub wide : w ≤ 16384
+  pub col : x < w
+  pub target : at + cols ≤ 2688
+  pub least : 4 ≤ cols
+
+-- a region in a list, and rows of a window's plane
+pub record PlaneFits (at start stride w h x y rows cols len : ℕ) : Type 0 where
+  pub ends : start + (h - 1) * stride + w ≤ len
+  pub wide : w ≤ 16384
+  pub high : h ≤ 16384
+  pub col : x < w
+  pub row : y < h
+  pub target : at + rows * 64 ≤ 2688
+  pub least : 4 ≤ cols
+  pub most : cols ≤ 64
+
+-- ---- a row: mirrored left of the region, as it stands inside it, mirrored right of it
+
+module _ (src : List Float) (row x w : ℕ) where
+  sample-later : (m j : ℕ) → rowSample src row (x + m) w j ≡ rowSample src row x w (m + j)
+  unfolding rowSample
+  sample-later m j = let z : x + m + j ≡ x + (m + j) = omega arith in rw z
+
+  sample-inside : (from m j : ℕ) → 4 ≤ x + m → from ≡ row + (x + m - 4) → x + m + j < w + 4 → getD src (from + j) nan ≡ rowSample src row x w (m + j)
+  unfolding rowSample
+  sample-inside from m j p e q =
+      let z : from + j ≡ row + (x + (m + j) - 4) = omega arith in
+      rw (le-ltb (x + (m + j)) 4 (omega arith), mirror-in w (x + (m + j) - 4) (omega arith), z)
+
+  -- what the three loops leave
+  pub row-loaded : (win a b d : List Float) (at low high cols from : ℕ) → low ≤ high → high ≤ cols → 4 ≤ x + low → x + high ≤ w + 4 → from ≡ row + (x + low - 4)
+      → a ≡ fill win at low (rowSample src row x w) → b ≡ fill a (at + low) (high - low) (λ j. getD src (from + j) nan)
+      → d ≡ fill b (at + high) (cols - high) (rowSample src row (x + high) w) → d ≡ fill win at cols (rowSample src row x w)
+  row-loaded win a b d at low high cols from p q r s e ea eb ed =
+      let z : low + (high - low) ≡ high = omega arith in
+      let y : high + (cols - high) ≡ cols = omega arith in
+      let first : b ≡ fill win at high (rowSample src row x w) =
+      eb ∙ rw ea (fill-then win at low (high - low) (rowSample src row x w) _ (rowSample src row x w) (λ i l. refl) (λ i l. sample-inside from low i r e (omega arith)) ∙ rw z) in
+      ed ∙ rw first (fill-then win at high (cols - high) (rowSample src row x w) _ (rowSample src row x w) (λ i l. refl) (λ i l. sample-later high i) ∙ rw y)
+
+-- ---- a plane
+
+-- the row at a mirrored place lies in the list
+pub row-room : (start stride w h len k : ℕ) → start + (h - 1) * stride + w ≤ len → k < h → start + k * stride + w ≤ len
+row-room start stride w h len k r l = let m : k * stride ≤ (h - 1) * stride = mul-le-mul-right stride (omega arith) in omega arith
+
+-- where plane c of the filter region starts
+abbrev pub regionStart : Layout → ℕ → ℕ
+regionStart l c = (c * l .image .height + l .top) * l .image .width + l .left
+
+module _ (l : Layout) (src : List Float) (x y c : ℕ) where
+  index : (u v : ℕ) → regionStart l c + v * l .image .width + u ≡ (c * l .image .height + (l .top + v)) * l .image .width + (l .left + u)
+  index u v =
+      let e : c * l .image .height + (l .top + v) ≡ c * l .image .height + l .top + v = omega arith in
+      rw e (omega (arith, add-mul (c * l .image .height + l .top) v (l .image .width)))
+
+  plane-sample : (i j : ℕ) → planeSample src (regionStart l c) (l .image .width) (l .width) (l .height) x y i j ≡ windowSample l src x y c j i
+  unfolding planeSample rowSample windowSample inner of
+  plane-sample i j = ap (λ (k : ℕ). getD src k nan) (index (mirror (subℕ (x + j) 4) (l .width)) (mirror (subℕ (y + i) 3) (l .height)))
+
+-- a turn of the loop over planes
+pub plane-next : (l : Layout) (src win a b : List Float) (x y top rows cols k at start : ℕ)
+    → a ≡ planesFill 64 14 0 cols top rows (λ c j i. windowSample l src x y c j (top + i)) win k → at ≡ (k * 14 + top) * 64 → start ≡ regionStart l k
+    → b ≡ rowsFill a at 64 cols rows (λ i j. planeSample src start (l .image .width) (l .width) (l .height) x y (top + i) j)
+    → b ≡ planesFill 64 14 0 cols top rows (λ c j i. windowSample l src x y c j (top + i)) win (k + 1)
+plane-next l src win a b x y top rows cols k at start p e f q =
+    let z : at ≡ (k * 14 + top) * 64 + 0 = omega arith in
+    planes-turn 64 14 0 cols top rows (λ c j i. windowSample l src x y c j (top + i)) win a b k p
+    (q ∙ rw (← z, f) (rows-cong a at 64 cols rows _ _ (λ i j r s. plane-sample l src x y k (top + i) j)))
+
+-- plane c, in numbers of the machine
+pub record PlaneRoom (l : Layout) (c x y top rows cols len : ℕ) : Type 0 where
+  pub lines : c * l .image .height ≤ 49152
+  pub start : (c * l .image .height + l .top) * l .image .width ≤ 65536 * 16384
+  pub region : PlaneFits ((c * 14 + top) * 64) (regionStart l c) (l .image .width) (l .width) (l .height) x y rows cols len
+
+pub plane-room : (l : Layout) (n c len x y top rows cols : ℕ) → WindowFits l n len x y top rows cols → c < n → PlaneRoom l c x y top rows cols len
+plane-room l n c len x y top rows cols f p =
+    let few : c ≤ 2 = omega (arith, f .planes) in
+    let g = f .layout in
+    let a : c * l .image .height ≤ 2 * 16384 = mul-le-mul few (g .high) in
+    let b : c * l .image .height + l .top ≤ 65536 = omega (arith, g .down, g .high) in
+    let t : c * l .image .height + l .top + l .height ≤ n * l .image .height = omega (arith, g .down, suc-mul c (l .image .height), mul-le-mul-right (l .image .height) p) in
+    let h : l .height - 1 + 1 ≡ l .height = omega (arith, f .row) in
+    record {
+      lines = omega arith;
+      start = mul-le-mul b (g .wide);
+      region = record {
+        ends = omega (arith, f .source, g .across, add-mul (c * l .image .height + l .top) (l .height) (l .image .width), mul-le-mul-right (l .image .width) t, add-mul (l .height - 1) 1 (l .image .width), ap (λ (k : ℕ). k * l .image .width) h);
+        wide = omega (arith, g .across, g .wide);
+        high = omega (arith, g .down, g .high);
+        col = f .col;
+        row = f .row;
+        target = omega (arith, f .end);
+        least = f .least;
+        most = f .most;
+      };
+    }
+
+-- ---- the tests
+
+off : (a b : Bool) → b ≡ false → (a && b) ≡ false
+off true b e = e
+off false b e = refl
+
+module _ (l : Layout) (n : ℕ) (src : List Float) (x y top rows cols : ℕ) (win : List Float) where
+  abbrev Kept : Type 0
+  Kept = win ≡ loaded l n src x y top rows cols win
+
+  kept : windowFits l n (length src) x y top rows cols ≡ false → Kept
+  unfolding loaded
+  kept e = rw e
+
+  pub no-source : setFits l n (length src) ≡ false → Kept
+  no-source e = kept (rw e)
+
+  pub no-column : l .width ≤ x → Kept
+  no-column h = kept (off (setFits l n (length src)) _ (rw (le-ltb x (l .width) h)))
+
+  pub no-row : l .height ≤ y → Kept
+  no-row h = kept (off (setFits l n (length src)) _ (off (ltb x (l .width)) _ (rw (le-ltb y (l .height) h))))
+
+  pub no-top : 14 < top → Kept
+  no-top h = kept (off (setFits l n (length src)) _ (off (ltb x (l .width)) _ (off (ltb y (l .height)) _ (rw (lt-leb top 14 h)))))
+
+  pub no-rows : 14 - top < rows → Kept
+  no-rows h = kept (off (setFits l n (length src)) _ (off (ltb x (l .width)) _ (off (ltb y (l .height)) _ (off (leb top 14) _ (rw (lt-leb rows (14 - top) h))))))
+
+  pub few-columns : cols < 4 → Kept
+  few-columns h = kept (off (setFits l n (length src)) _ (off (ltb x (l .width)) _ (off (ltb y (l .height)) _ (off (leb top 14) _ (off (leb rows (14 - top)) _ (rw (lt-leb 4 cols h)))))))
+
+  pub many-columns : 64 < cols → Kept
+  many-columns h =
+      kept (off (setFits l n (length src)) _ (off (ltb x (l .width)) _ (off (ltb y (l .height)) _ (off (leb top 14) _ (off (leb rows (14 - top)) _ (off (leb 4 cols) _ (lt-leb cols 64 h)))))))
+
+  -- a set's length and a window's place
+  pub window-fits : setFits l n (length src) ≡ true → x < l .width → y < l .height → top ≤ 14 → rows ≤ 14 - top → 4 ≤ cols → cols ≤ 64 → WindowFits l n (length src) x y top rows cols
+  window-fits e a b t r u v =
+      let size = n * l .image .height * l .image .width in
+      let few = and-second (layoutFits l) (leb n 3 && eqb (length src) size) e in
+      record {
+        layout = layout-fits l (and-first (layoutFits l) (leb n 3 && eqb (length src) size) e);
+        planes = leb-true _ _ (and-first (leb n 3) (eqb (length src) size) few);
+        source = eqb-true _ _ (and-second (leb n 3) (eqb (length src) size) few);
+        col = a;
+        row = b;
+        end = omega arith;
+        least = u;
+        most = v;
+      }
+
+  -- so all is loaded
+  pub window-loaded : WindowFits l n (length src) x y top rows cols → loaded l n src x y top rows cols win ≡ planesFill 64 14 0 cols top rows (λ c j i. windowSample l src x y c j (top + i)) win n
+  unfolding loaded
+  window-loaded f =
+      let g = f .layout in
+      rw (
+        le-leb (l .image .width) 16384 (g .wide),
+        le-leb (l .image .height) 16384 (g .high),
+        le-leb (l .left + l .width) (l .image .width) (g .across),
+        le-leb (l .top + l .height) (l .image .height) (g .down),
+        le-leb n 3 (f .planes),
+        eq-eqb (length src) (n * l .image .height * l .image .width) (f .source),
+        lt-ltb x (l .width) (f .col),
+        lt-ltb y (l .height) (f .row),
+        le-leb top 14 (omega (arith, f .end)),
+        le-leb rows (14 - top) (omega (arith, f .end)),
+        le-leb 4 cols (f .least),
+        le-leb cols 64 (f .most),
+      )
