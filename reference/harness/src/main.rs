@@ -2,7 +2,7 @@
 //!
 //! `harness [--scale N]` prints a table of what was compared and fails if anything differs;
 //! N multiplies the random cases. `harness record` prints a sample of the original's answers as
-//! Rattle constants.
+//! text.
 
 mod boundary;
 mod expected;
