@@ -1,8 +1,8 @@
 //! Compares the proved library with the original Rust on the same inputs.
 //!
 //! `harness [--scale N]` prints a table of what was compared and fails if anything differs;
-//! N multiplies the random cases. `harness bench` prints times beside the original's. `harness record` prints a sample of the original's answers as
-//! Rattle constants.
+//! N multiplies the random cases. `harness bench` prints times beside the original's, and
+//! `harness record` a sample of the original's answers as text.
 
 mod bench;
 mod boundary;

@@ -1,4 +1,4 @@
-//! A sample of the original's answers as Rattle constants, for a replay with no Rust at hand.
+//! A sample of the original's answers as text, for a replay with no Rust at hand.
 
 use std::collections::{BTreeMap, BTreeSet};
 
@@ -9,46 +9,36 @@ use crate::{
 
 /// Rows for each subject.
 const ROWS: usize = 64;
-/// Characters of a row that `rt fmt` leaves on one line.
-const LONGEST_ROW: usize = 60;
 /// About how many cases of each source there are, among which the rows are chosen.
 const CANDIDATES: usize = 2_000;
 
-pub fn print(subjects: &[&Subject]) {
-    println!("// Answers of the original Rust, and document 01's number where it refuses.");
-    println!(
-        "// Written by `harness record` in reference/. A row: the inputs in order, the number,"
-    );
-    println!("// the result's fields in order.");
-    for subject in subjects {
-        print_subject(subject);
-    }
-}
+const HEAD: &str = "\
+# Answers of the original Rust, and document 01's number where it refuses.
+# Made in reference/ by: cargo run --release --offline -p harness -- record
+# A row: the subject, its inputs in order, the number, the result's fields in order.
+";
 
-fn print_subject(subject: &Subject) {
-    let width = subject.inputs.len() + 1 + subject.outputs;
-    let cases = chosen(subject);
-    println!();
-    println!(
-        "pub const {}: [[i64; {width}]; {}] = [",
-        subject.name.to_uppercase(),
-        cases.len()
-    );
-    for case in cases {
-        println!("    {},", row(subject, &case));
+pub fn print(subjects: &[&Subject]) {
+    print!("{HEAD}");
+    for subject in subjects {
+        println!();
+        for case in chosen(subject) {
+            println!("{}", row(subject, &case));
+        }
     }
-    println!("];");
 }
 
 fn row(subject: &Subject, case: &[i128]) -> String {
     let due = subject.due(case);
-    let numbers: Vec<String> = case
+    let mut row = subject.name.to_owned();
+    for number in case
         .iter()
         .chain([&i128::from(due.number)])
         .chain(&due.fields[..subject.outputs])
-        .map(i128::to_string)
-        .collect();
-    format!("[{}]", numbers.join(", "))
+    {
+        row += &format!(" {number}");
+    }
+    row
 }
 
 /// The named cases, then cases taken in turn from each class: number, and whether any field is
@@ -59,8 +49,8 @@ fn chosen(subject: &Subject) -> Vec<Vec<i128>> {
     let mut random = Random::for_name(&format!("record {}", subject.name));
     let mut classes: BTreeMap<(u32, bool), Vec<Vec<i128>>> = BTreeMap::new();
     for case in candidates(subject, &mut random) {
-        let fits = case.iter().all(|&n| n.unsigned_abs() <= i64::MAX as u128)
-            && row(subject, &case).len() <= LONGEST_ROW;
+        // The replay reads numbers of at most this size.
+        let fits = case.iter().all(|&n| n.unsigned_abs() <= i64::MAX as u128);
         if fits && seen.insert(case.clone()) {
             let due = subject.due(&case);
             let class = (due.number, due.fields.iter().any(|&field| field != 0));

@@ -1,0 +1,12 @@
+-- `until` meets its contract, by what `rows` says of an end. Assumes nothing.
+use Rattle.rows.specs.Words.{end-within}
+use Rattle.replay.proofs.list.until.Statement.{statement}
+use Rattle.replay.proofs.list.until.Tie as tie
+
+returns : tie.Need-returns
+returns c =
+    let s = c .before .before in
+    rw (c .end-of .ensures) (end-within (s .args .text .now) (s .args .at) (s .args .byte) (s .pre))
+
+pub until-spec : {M : Type 1} → statement M
+until-spec = tie.close (tie.spec (λ c κs. tt) returns)

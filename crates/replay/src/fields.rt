@@ -1,0 +1,84 @@
+// The numbers of a row at their types. A row's form is a letter for each number: i an i32, u a u32, s an isize, z a usize, b a bool.
+
+fn least(kind: u8) -> i64 {
+    match kind {
+        b'i' => -2_147_483_648,
+        b's' => i64::MIN,
+        _ => 0,
+    }
+}
+
+fn most(kind: u8) -> i64 {
+    match kind {
+        b'i' => 2_147_483_647,
+        b'u' => 4_294_967_295,
+        b's' | b'z' => i64::MAX,
+        b'b' => 1,
+        _ => -1,
+    }
+}
+
+fn has_kind(x: i64, kind: u8) -> bool {
+    if x < least(kind) {
+        return false;
+    }
+    x <= most(kind)
+}
+
+// As many numbers as letters, each in the range of its type.
+pub fn has_form(n: &[i64], form: &[u8]) -> bool {
+    if n.len() != form.len() {
+        return false;
+    }
+    let mut i = 0;
+    while i < form.len() {
+        if !has_kind(at(n, i), form[i]) {
+            return false;
+        }
+        i += 1;
+    }
+    true
+}
+
+// The functions below give 0 for a number that is missing or out of range: a row of the right form has none.
+fn at(n: &[i64], i: usize) -> i64 {
+    if i < n.len() { n[i] } else { 0 }
+}
+
+pub fn i32_at(n: &[i64], i: usize) -> i32 {
+    let x = at(n, i);
+    if x < -2_147_483_648 {
+        return 0;
+    }
+    if 2_147_483_647 < x {
+        return 0;
+    }
+    x as i32
+}
+
+pub fn u32_at(n: &[i64], i: usize) -> u32 {
+    let x = at(n, i);
+    if x < 0 {
+        return 0;
+    }
+    if 4_294_967_295 < x {
+        return 0;
+    }
+    x as u32
+}
+
+pub fn usize_at(n: &[i64], i: usize) -> usize {
+    let x = at(n, i);
+    if x < 0 {
+        return 0;
+    }
+    x as usize
+}
+
+pub fn isize_at(n: &[i64], i: usize) -> isize {
+    at(n, i) as isize
+}
+
+pub fn bool_at(n: &[i64], i: usize) -> bool {
+    at(n, i) == 1
+}

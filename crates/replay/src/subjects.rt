@@ -1,0 +1,38 @@
+// What a row can be about.
+use crate::regions;
+use crate::sizes;
+
+pub enum Subject {
+    IsEmpty,
+    Right,
+    Bottom,
+    Contains,
+    Translate,
+    Intersection,
+    Pad,
+    Downsample,
+    ContainerAligned,
+    Mirror,
+    GroupSizes,
+    SplitBlock,
+}
+
+impl Subject {
+    // A row's numbers are what the proved function is given and what it answers.
+    pub fn agrees(self, n: &[i64]) -> bool {
+        match self {
+            Subject::IsEmpty => regions::is_empty(n),
+            Subject::Right => regions::right(n),
+            Subject::Bottom => regions::bottom(n),
+            Subject::Contains => regions::contains(n),
+            Subject::Translate => regions::translate(n),
+            Subject::Intersection => regions::intersection(n),
+            Subject::Pad => regions::pad(n),
+            Subject::Downsample => regions::downsample(n),
+            Subject::ContainerAligned => regions::container_aligned(n),
+            Subject::Mirror => sizes::mirror(n),
+            Subject::GroupSizes => sizes::group_sizes(n),
+            Subject::SplitBlock => sizes::split_block(n),
+        }
+    }
+}
