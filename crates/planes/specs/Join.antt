@@ -7,6 +7,7 @@ use Prim.Native.Nat.{ℕ, zero, suc, _+_, _-_, _*_, _<_, _≤_}
 use native.Mathlib.Nat.{mul-le-mul-right}
 use native.Mathlib.Decide.{decLt}
 use native.Mathlib.Omega.{arith}
+use borrow.Author.Tests.{le-leb, lt-ltb}
 use lib.Dec.{leb, ltb}
 use lib.ListN.{length}
 use lib.Ieee.{Float}
@@ -21,6 +22,16 @@ unfolding planesFill
 planes-cong w h left n top m u v d zero e = refl
 planes-cong w h left n top m u v d (suc k) e =
     rw (planes-cong w h left n top m u v d k (λ c x i p q r. e c x i (omega arith) q r)) (rows-cong _ ((k * h + top) * w + left) w n m _ _ (λ i x r q. e k x i (omega arith) q r))
+
+-- a sample of the rectangle
+pub rect-at : (w h left n top m : ℕ) (v : Picture) (d : List Float) (k c x i : ℕ) → left + n ≤ w → top + m ≤ h → k * h * w ≤ length d → c < k → x < n → i < m
+    → of w h (planesFill w h left n top m v d k) c (left + x) (top + i) ≡ v c x i
+unfolding inRect
+rect-at w h left n top m v d k c x i fits high room l p q =
+    let a : left + x - left ≡ x = omega arith in
+    let b : top + i - top ≡ i = omega arith in
+    planes-at w h left n top m v fits high d k c (left + x) (top + i) l room (omega arith) (omega arith)
+    ∙ rw (le-leb left (left + x) (omega arith), lt-ltb (left + x) (left + n) (omega arith), le-leb top (top + i) (omega arith), lt-ltb (top + i) (top + m) (omega arith), a, b)
 
 off : (a : Bool) → (a && false) ≡ false
 off true = refl
