@@ -3,7 +3,7 @@ use mathlib.Core.Path.{_≡_, refl, sym, ap, _∙_}
 use mathlib.Core.Bool.{Bool, true, false, cond, _&&_}
 use mathlib.Core.List.{List}
 use Prim.Native.Nat.{ℕ, zero, suc, _+_, _-_, _*_, _/_, _%_, _<_, _≤_, min}
-use native.Mathlib.Nat.{mul-assoc, add-mul}
+use native.Mathlib.Nat.{mul-assoc, add-mul, mul-le-mul}
 use native.Mathlib.Decide.{decLt}
 use native.Mathlib.Omega.{arith}
 use borrow.Author.Tests.{lt-ltb, le-ltb}
@@ -29,7 +29,7 @@ use Rattle.distances.specs.Fields.{fieldsFill, neighbour-at}
 use Rattle.lanes.specs.Lanes.{laneOf, kindOf}
 use Rattle.lanes.specs.Meaning.{lane-means}
 use Rattle.tiles.specs.declared.Step.{Step}
-use Rattle.tiles.specs.Store.{taken, rectStart}
+use Rattle.tiles.specs.Store.{taken, Lies, RectFits, rectStart, plane-room}
 use Rattle.tiles.specs.Slopes.{Sloped, slope-of, multiplier-same}
 
 -- ---- the step over the filter region
@@ -60,7 +60,7 @@ shifted z m r (negsuc b) h l =
     rw (le-ltb m (suc b) k) (offset-same z (suc b) (z + (m - suc b)) m (omega arith), omega arith, omega arith)
 
 module _ (l : Layout) (src win d : List Float) (n step x y rows cols : ℕ) (few : n ≤ 3) (low : step < 3) (high : rows ≤ 8) (wide : cols ≤ 56) (len : length d ≡ 2688)
-  (ew : win ≡ planesFill 64 14 0 (cols + 8) step (rows + 6 - 2 * step) (λ c j i. windowSample l src x y c j (step + i)) d n) where
+    (ew : win ≡ planesFill 64 14 0 (cols + 8) step (rows + 6 - 2 * step) (λ c j i. windowSample l src x y c j (step + i)) d n) where
   held : (c j i : ℕ) → c < n → j < cols + 8 → step ≤ i → i < rows + 6 - step
       → getD win ((c * 14 + i) * 64 + j) nan ≡ inner l src c (mirror (subℕ (x + j) 4) (l .width)) (mirror (subℕ (y + i) 3) (l .height))
   unfolding of windowSample
@@ -159,6 +159,21 @@ pub start-plane : (l : Layout) (x y at plane c : ℕ) → at ≡ (l .top + y) * 
 start-plane l x y at plane c p q =
     rw (p, q) (omega (arith, mul-assoc c (l .image .height) (l .image .width), add-mul (c * l .image .height) (l .top + y) (l .image .width)))
 
+pub record SourceRoom (l : Layout) (n x y at plane rows cols len : ℕ) : Type 0 where
+  pub start : (l .top + y) * l .image .width ≤ 268435456
+  pub size : l .image .height * l .image .width ≤ 268435456
+  pub lies : at ≡ (l .top + y) * l .image .width + (l .left + x) → plane ≡ l .image .height * l .image .width → Lies at (l .image .width) plane n rows cols len
+
+pub source-room : (l : Layout) (n x y at plane rows cols len : ℕ) → RectFits l n x y rows cols len → SourceRoom l n x y at plane rows cols len
+source-room l n x y at plane rows cols len f =
+    let g = f .layout in
+    let t : l .top + y ≤ 16384 = omega (arith, g .down, g .high, f .down) in
+    record {
+      start = mul-le-mul t (g .wide);
+      size = mul-le-mul (g .high) (g .wide);
+      lies = λ p q c r C R. rw (start-plane l x y at plane c p q) (plane-room l n c x y rows cols len f C .rooms r R);
+    }
+
 module _ (l : Layout) (n : ℕ) (limit : Float) (sigmas src : List Float) (sb x y rows cols : ℕ) (o : Picture) where
   -- the first b blocks are told apart; the others are as in o
   unfoldable pub mixed : ℕ → Picture
@@ -207,3 +222,50 @@ module _ (l : Layout) (n : ℕ) (limit : Float) (sigmas src : List Float) (sb x 
       go : (c i r : ℕ) → c < n → i < cols → r < rows → (k : Bool) → copied (getD sigmas (sb + i / 8) nan) limit ≡ k → cond k (inner l src c (x + i) (y + r)) (o c i r) ≡ t c i r
       go c i r C I R true u = p c r i C R I u
       go c i r C I R false u = q c r i C R I u
+
+-- ---- what the functions leave
+
+-- the arrays that a tile is computed in
+pub record Scratch (win e sl out : List Float) : Type 0 where
+  pub windows : length win ≡ 2688
+  pub fields : length e ≡ 5376
+  pub slopes : length sl ≡ 128
+  pub lanes : length out ≡ 1536
+
+-- the tile's rectangle holds some picture, which is the step's wherever the sigma does not say copy
+pub record Filtered (l : Layout) (n : ℕ) (s : Step) (scales : List Float) (top : ℕ) (sigmas src : List Float) (x y rows cols : ℕ) (d a : List Float) : Type 0 where
+  pub lanes : Picture
+  pub stored : a ≡ planesFill (l .image .width) (l .image .height) (l .left + x) cols (l .top + y) rows lanes d n
+  pub right : (c r i : ℕ) → c < n → r < rows → i < cols → copied (getD sigmas (sigmaStart l x y + i / 8) nan) (s .limit) ≡ false
+      → lanes c i r ≡ stepOver n l s scales top sigmas src c (x + i) (y + r)
+
+-- the copied blocks of whatever picture the rectangle holds
+abbrev pub Restored : Layout → ℕ → Float → List Float → List Float → ℕ → ℕ → ℕ → ℕ → ℕ → ℕ → List Float → List Float → Type 0
+Restored l n limit sigmas src sb x y rows cols b d a =
+    (o : Picture) (e : List Float) → length e ≡ n * l .image .height * l .image .width
+    → d ≡ planesFill (l .image .width) (l .image .height) (l .left + x) cols (l .top + y) rows o e n
+    → a ≡ planesFill (l .image .width) (l .image .height) (l .left + x) cols (l .top + y) rows (mixed l n limit sigmas src sb x y rows cols o b) e n
+
+module _ (l : Layout) (n : ℕ) (limit : Float) (sigmas src : List Float) (sb x y rows cols : ℕ) where
+  pub restored-none : (d : List Float) → Restored l n limit sigmas src sb x y rows cols 0 d d
+  restored-none d o e len p = mixed-none l n limit sigmas src sb x y rows cols o e d p
+
+  -- one block more
+  pub restored-next : (d a f : List Float) (b m len : ℕ) → RectFits l n x y rows cols len → b * 8 < cols → m ≡ min (cols - b * 8) 8 → Restored l n limit sigmas src sb x y rows cols b d a
+      → f ≡ cond (copied (getD sigmas (sb + b) nan) limit) (planesFill (l .image .width) (l .image .height) (l .left + (x + b * 8)) m (l .top + y) rows (λ c i r. inner l src c (x + b * 8 + i) (y + r)) a n) a
+      → Restored l n limit sigmas src sb x y rows cols (b + 1) d f
+  restored-next d a f b m len fits some em h ef o e le p = go (copied (getD sigmas (sb + b) nan) limit) refl
+    where
+      go : (k : Bool) → copied (getD sigmas (sb + b) nan) limit ≡ k
+          → f ≡ planesFill (l .image .width) (l .image .height) (l .left + x) cols (l .top + y) rows (mixed l n limit sigmas src sb x y rows cols o (b + 1)) e n
+      go true u = mixed-copied l n limit sigmas src sb x y rows cols o e a f b m (fits .planes) le (omega (arith, fits .layout .across, fits .across)) (omega (arith, fits .layout .down, fits .down)) some em u (h o e le p) (ef ∙ rw u)
+      go false u = (ef ∙ rw u) ∙ mixed-kept l n limit sigmas src sb x y rows cols o e a b u (h o e le p)
+
+  pub part-fits : (b m len : ℕ) → RectFits l n x y rows cols len → b * 8 < cols → m ≡ min (cols - b * 8) 8 → RectFits l n (x + b * 8) y rows m len
+  part-fits b m len f some em = record { layout = f .layout; planes = f .planes; across = omega (arith, f .across); down = f .down; some = f .some; set = f .set }
+
+  pub restored-end : (d a : List Float) (b k : ℕ) → b ≡ k → Restored l n limit sigmas src sb x y rows cols b d a → Restored l n limit sigmas src sb x y rows cols k d a
+  restored-end d a b k e h = rw (← e) h
+
+pub rect-long : {l : Layout} {n x y rows cols a b : ℕ} → a ≡ b → RectFits l n x y rows cols b → RectFits l n x y rows cols a
+rect-long e f = rw e f
