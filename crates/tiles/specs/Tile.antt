@@ -17,16 +17,16 @@ use Rattle.planes.specs.declared.Layout.{Layout}
 use Rattle.planes.specs.Samples.{_⊘_}
 use Rattle.planes.specs.Picture.{Picture, Around, around, around-inside}
 use Rattle.planes.specs.Sets.{of}
-use Rattle.planes.specs.Rect.{planesFill}
+use Rattle.planes.specs.Rect.{planesFill, length-planesFill}
 use Rattle.planes.specs.Join.{planes-cong, rect-at, rect-inside}
 use Rattle.planes.specs.Band.{inner}
-use Rattle.window.specs.Window.{windowSample}
+use Rattle.window.specs.Window.{windowSample, loaded, WindowFits, window-loaded}
 use Rattle.weights.specs.Steps.{Scaled, kernel, dists, reach, scaled, copied, blend, divisor, epf, multiplier, EpfPass, epfPass}
 use Rattle.weights.specs.Local.{Alike, epf-same, steps-near, scaled-below}
 use Rattle.distances.specs.Seen.{flat, seen}
 use Rattle.distances.specs.Taps.{half, tapOf, neighbour}
-use Rattle.distances.specs.Fields.{fieldsFill, neighbour-at}
-use Rattle.lanes.specs.Lanes.{laneOf, kindOf}
+use Rattle.distances.specs.Fields.{fieldsFill, distancesOf, distances-done, length-fields, neighbour-at}
+use Rattle.lanes.specs.Lanes.{laneOf, kindOf, lanesOf, lanes-done}
 use Rattle.lanes.specs.Meaning.{lane-means}
 use Rattle.tiles.specs.declared.Step.{Step}
 use Rattle.tiles.specs.Store.{taken, Lies, RectFits, rectStart, plane-room}
@@ -269,3 +269,78 @@ module _ (l : Layout) (n : ℕ) (limit : Float) (sigmas src : List Float) (sb x 
 
 pub rect-long : {l : Layout} {n x y rows cols a b : ℕ} → a ≡ b → RectFits l n x y rows cols b → RectFits l n x y rows cols a
 rect-long e f = rw e f
+
+-- the lanes' rows lie in their array
+pub lanes-lie : (l : Layout) (n x y rows cols len : ℕ) → TileFits l n x y rows cols → len ≡ 1536 → Lies 0 64 512 n rows cols len
+lanes-lie l n x y rows cols len f e c r C R = omega (arith, f .few, f .rows-in, f .wide)
+
+-- ---- a tile is computed
+
+abbrev pub Computed : Layout → ℕ → Step → List Float → ℕ → List Float → List Float → ℕ → ℕ → ℕ → ℕ → List Float → List Float → List Float → List Float → List Float → List Float → Type 0
+Computed l n s scales top sigmas src x y rows cols d a win e sl out = Filtered l n s scales top sigmas src x y rows cols d a × Scratch win e sl out
+
+module _ (l : Layout) (n : ℕ) (s : Step) (scales : List Float) (top : ℕ) (sigmas src : List Float) (x y rows cols : ℕ) (fits : TileFits l n x y rows cols) (low : s .step < 3)
+    (d : List Float) (room : RectFits l n x y rows cols (length d)) (same : length src ≡ length d) where
+  pub window-fits : WindowFits l n (length src) x y (s .step) (rows + 6 - 2 * s .step) (cols + 8)
+  window-fits = record {
+    layout = room .layout;
+    planes = room .planes;
+    source = same ∙ room .set;
+    col = omega (arith, fits .across, fits .more);
+    row = omega (arith, fits .down, fits .some);
+    end = omega (arith, fits .rows-in);
+    least = omega arith;
+    most = omega (arith, fits .wide);
+  }
+
+  small : rows ≤ 8
+  small = omega (arith, fits .rows-in)
+
+  module _ (w₀ e₀ l₀ o₀ win e sl out : List Float) (z : Scratch w₀ e₀ l₀ o₀) (ew : win ≡ loaded l n src x y (s .step) (rows + 6 - 2 * s .step) (cols + 8) w₀)
+      (ee : e ≡ distancesOf (s .step) n scales win rows e₀) (sloped : Sloped sigmas (sigmaStart l x y) (blocksOf cols) (s .scale) (s .edge) sl) (eo : out ≡ lanesOf (s .step) e sl win n (top + y) rows o₀) where
+    win-is : win ≡ planesFill 64 14 0 (cols + 8) (s .step) (rows + 6 - 2 * s .step) (λ c j i. windowSample l src x y c j (s .step + i)) w₀ n
+    win-is = ew ∙ window-loaded l n src x y (s .step) (rows + 6 - 2 * s .step) (cols + 8) w₀ window-fits
+
+    e-is : e ≡ fieldsFill (s .step) (scaled n scales) win rows e₀ (half (s .step))
+    e-is = ee ∙ distances-done (s .step) n scales win rows e₀ (fits .few) (fits .some) small
+
+    out-is : out ≡ planesFill 64 8 0 56 0 rows (λ c i r. laneOf (s .step) e sl win (kindOf (top + y + r)) c i r) o₀ n
+    out-is = eo ∙ lanes-done (s .step) e sl win n (top + y) rows o₀ (z .lanes) (fits .few) small
+
+    pub scratch-kept : Scratch win e sl out
+    scratch-kept = record {
+      windows = rw win-is (length-planesFill 64 14 0 (cols + 8) (s .step) (rows + 6 - 2 * s .step) _ (omega (arith, fits .wide)) (omega (arith, small)) w₀ n ∙ z .windows);
+      fields = rw e-is (length-fields (s .step) (scaled n scales) win rows small e₀ (half (s .step)) ∙ z .fields);
+      slopes = sloped .long;
+      lanes = rw out-is (length-planesFill 64 8 0 56 0 rows _ (omega arith) (omega (arith, small)) o₀ n ∙ z .lanes);
+    }
+
+    lane-at : (c r i : ℕ) → c < n → r < rows → i < cols → taken out 0 64 512 c i r ≡ laneOf (s .step) e sl win (kindOf (top + y + r)) c i r
+    unfolding of
+    lane-at c r i C R I =
+        let k : 0 + c * 512 + r * 64 + i ≡ (c * 8 + (0 + r)) * 64 + (0 + i) = omega arith in
+        rw (k, out-is) (rect-at 64 8 0 56 0 rows (λ c i r. laneOf (s .step) e sl win (kindOf (top + y + r)) c i r) o₀ n c i r (omega arith) (omega (arith, small)) (omega (arith, z .lanes, fits .few)) C (omega (arith, fits .wide)) R)
+
+    pub computed : (a : List Float) → a ≡ planesFill (l .image .width) (l .image .height) (l .left + x) cols (l .top + y) rows (taken out 0 64 512) d n
+        → Computed l n s scales top sigmas src x y rows cols d a win e sl out
+    computed a ea = (
+      record {
+        lanes = taken out 0 64 512;
+        stored = ea;
+        right = λ c r i C R I u. lane-at c r i C R I ∙ lane-is l n s scales top sigmas src x y rows cols fits win w₀ e e₀ sl low (z .windows) (omega (arith, z .fields)) win-is e-is sloped c r i C R I u;
+      },
+      scratch-kept,
+    )
+
+  -- with its copied blocks restored it is the step
+  pub tile-done : (a b : List Float) → Filtered l n s scales top sigmas src x y rows cols d a → Restored l n (s .limit) sigmas src (sigmaStart l x y) x y rows cols (blocksOf cols) a b
+      → b ≡ planesFill (l .image .width) (l .image .height) (l .left + x) cols (l .top + y) rows (λ c i r. stepOver n l s scales top sigmas src c (x + i) (y + r)) d n
+  tile-done a b f g =
+      mixed-end l n (s .limit) sigmas src (sigmaStart l x y) x y rows cols (f .lanes) d b (blocksOf cols) (λ c i r. stepOver n l s scales top sigmas src c (x + i) (y + r)) (omega arith)
+      (g (f .lanes) d (room .set) (f .stored)) (λ c r i C R I u. copied-is l n s scales top sigmas src x y rows cols fits c r i R I u) (f .right)
+
+  -- and so is the rectangle as it was, where all its blocks are copied
+  pub tile-copied : (a : List Float) → ((b : ℕ) → b < blocksOf cols → copied (getD sigmas (sigmaStart l x y + b) nan) (s .limit) ≡ true)
+      → a ≡ planesFill (l .image .width) (l .image .height) (l .left + x) cols (l .top + y) rows (λ c i r. inner l src c (x + i) (y + r)) d n
+      → a ≡ planesFill (l .image .width) (l .image .height) (l .left + x) cols (l .top + y) rows (λ c i r. stepOver n l s scales top sigmas src c (x + i) (y + r)) d n
+  tile-copied a h e = e ∙ planes-cong _ _ _ _ _ _ _ _ d n (λ c i r C I R. copied-is l n s scales top sigmas src x y rows cols fits c r i R I (h (i / 8) (omega arith)))
