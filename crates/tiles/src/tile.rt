@@ -18,7 +18,7 @@ ghost use Rattle.weights.specs.Steps.{copied as copiedOf};
 ghost use Rattle.tiles.specs.Store.{RectFits};
 ghost use Rattle.tiles.specs.Tile.{across, sigmaStart, blocksOf, TileFits, Scratch, Computed, Restored, stepOver};
 
-fn at_most(x: usize, k: usize) -> usize
+pub(crate) fn at_most(x: usize, k: usize) -> usize
     ensures { λ r. ⌜ r ≡ min x k ⌝ }
 {
     if x < k {
