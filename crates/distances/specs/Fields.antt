@@ -81,7 +81,7 @@ distancesOf step n scales win rows e = cond (leb n 3 && (leb 1 rows && leb rows 
 -- ---- what a field holds
 
 module _ (step : ℕ) (cs : List Scaled) (win : List Float) (rows : ℕ) (few : rows ≤ 8) (e : List Float) where
-  length-fields : (k : ℕ) → length (fieldsFill step cs win rows e k) ≡ length e
+  pub length-fields : (k : ℕ) → length (fieldsFill step cs win rows e k) ≡ length e
   unfolding fieldsFill
   length-fields zero = refl
   length-fields (suc k) = length-fill (fieldsFill step cs win rows e k) _ _ _ ∙ length-fields k

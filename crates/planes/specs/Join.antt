@@ -7,6 +7,7 @@ use Prim.Native.Nat.{ℕ, zero, suc, _+_, _-_, _*_, _<_, _≤_}
 use native.Mathlib.Nat.{mul-le-mul-right}
 use native.Mathlib.Decide.{decLt}
 use native.Mathlib.Omega.{arith}
+use borrow.Author.Tests.{le-leb, lt-ltb}
 use lib.Dec.{leb, ltb}
 use lib.ListN.{length}
 use lib.Ieee.{Float}
@@ -21,6 +22,16 @@ unfolding planesFill
 planes-cong w h left n top m u v d zero e = refl
 planes-cong w h left n top m u v d (suc k) e =
     rw (planes-cong w h left n top m u v d k (λ c x i p q r. e c x i (omega arith) q r)) (rows-cong _ ((k * h + top) * w + left) w n m _ _ (λ i x r q. e k x i (omega arith) q r))
+
+-- a sample of the rectangle
+pub rect-at : (w h left n top m : ℕ) (v : Picture) (d : List Float) (k c x i : ℕ) → left + n ≤ w → top + m ≤ h → k * h * w ≤ length d → c < k → x < n → i < m
+    → of w h (planesFill w h left n top m v d k) c (left + x) (top + i) ≡ v c x i
+unfolding inRect
+rect-at w h left n top m v d k c x i fits high room l p q =
+    let a : left + x - left ≡ x = omega arith in
+    let b : top + i - top ≡ i = omega arith in
+    planes-at w h left n top m v fits high d k c (left + x) (top + i) l room (omega arith) (omega arith)
+    ∙ rw (le-leb left (left + x) (omega arith), lt-ltb (left + x) (left + n) (omega arith), le-leb top (top + i) (omega arith), lt-ltb (top + i) (top + m) (omega arith), a, b)
 
 off : (a : Bool) → (a && false) ≡ false
 off true = refl
@@ -110,3 +121,41 @@ module _ (N w h k : ℕ) (few : k ≤ N) where
                 rw eb (planes-later w h (left + n) n' top m v (omega arith) high a k c x y (omega arith) X Y
                 ∙ rw ea (planes-later w h left n top m u (omega arith) high d k c x y (omega arith) X Y)
                 ∙ sym (planes-later w h left (n + n') top m t fits high d k c x y (omega arith) X Y))
+
+  module _ (left n top m at n' : ℕ) (u v t : Picture) (d a b : List Float) (len : length d ≡ N * h * w) (fits : left + n ≤ w) (high : top + m ≤ h) (part-of : at + n' ≤ n)
+      (ea : a ≡ planesFill w h left n top m u d k) (eb : b ≡ planesFill w h (left + at) n' top m v a k)
+      (before : (c x i : ℕ) → c < k → x < at → i < m → u c x i ≡ t c x i) (inner : (c x i : ℕ) → c < k → x < n' → i < m → v c x i ≡ t c (at + x) i)
+      (after : (c x i : ℕ) → c < k → at + n' ≤ x → x < n → i < m → u c x i ≡ t c x i) where
+    stays : length a ≡ N * h * w
+    stays = rw ea (length-planesFill w h left n top m u fits high d k ∙ len)
+
+    -- n' columns of a rectangle that is there, written anew
+    pub rect-inside : b ≡ planesFill w h left n top m t d k
+    unfolding inRect
+    rect-inside = sets-ext N w h b (planesFill w h left n top m t d k)
+        (rw eb (length-planesFill w h (left + at) n' top m v (omega arith) high a k ∙ stays)) (length-planesFill w h left n top m t fits high d k ∙ len) each
+      where
+        each : (c x y : ℕ) → c < N → x < w → y < h → of w h b c x y ≡ of w h (planesFill w h left n top m t d k) c x y
+        each c x y C X Y = go (decLt c k)
+          where
+            part : c < k → Between top m y → Between left n x → Between (left + at) n' x
+                → cond (inRect (left + at) n' top m x y) (v c (x - (left + at)) (y - top)) (cond (inRect left n top m x y) (u c (x - left) (y - top)) (of w h d c x y))
+                ≡ cond (inRect left n top m x y) (t c (x - left) (y - top)) (of w h d c x y)
+            part l (inr p) q r = rw (p .1, off (leb (left + at) x && ltb x (left + at + n')), off (leb left x && ltb x (left + n)))
+            part l (inl p) (inl q) (inl r) =
+                let i : at + (x - (left + at)) ≡ x - left = omega arith in
+                rw (p .2, q .2, r .2) (inner c (x - (left + at)) (y - top) l (omega arith) (omega arith) ∙ rw i)
+            part l (inl p) (inl q) (inr r) =
+                rw (p .2, q .2, r .1) (⊎-elim (λ (e : x < left + at). before c (x - left) (y - top) l (omega arith) (omega arith)) (λ (e : left + at + n' ≤ x). after c (x - left) (y - top) l (omega arith) (omega arith) (omega arith)) (r .0))
+            part l (inl p) (inr q) (inl r) = absurd (⊎-elim (λ (e : x < left). omega arith) (λ (e : left + n ≤ x). omega arith) (q .0))
+            part l (inl p) (inr q) (inr r) = rw (q .1, r .1)
+
+            go : Dec (c < k) → of w h b c x y ≡ of w h (planesFill w h left n top m t d k) c x y
+            go (yes l) =
+                rw eb (planes-at w h (left + at) n' top m v (omega arith) high a k c x y l (room a stays) X Y
+                ∙ rw ea (rw (planes-at w h left n top m u fits high d k c x y l (room d len) X Y) (part l (between top m y) (between left n x) (between (left + at) n' x)))
+                ∙ sym (planes-at w h left n top m t fits high d k c x y l (room d len) X Y))
+            go (no l) =
+                rw eb (planes-later w h (left + at) n' top m v (omega arith) high a k c x y (omega arith) X Y
+                ∙ rw ea (planes-later w h left n top m u fits high d k c x y (omega arith) X Y)
+                ∙ sym (planes-later w h left n top m t fits high d k c x y (omega arith) X Y))

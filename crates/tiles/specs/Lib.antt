@@ -1,0 +1,4 @@
+pub mod Store
+pub mod Slopes
+pub mod Tile
+pub mod Region
