@@ -1,0 +1,191 @@
+-- The tests in turn, and what an accepted step leaves. Assumes nothing.
+use mathlib.Core.Path.{_≡_, refl, sym, ap, _∙_}
+use mathlib.Core.Bool.{Bool, true, false, cond, _&&_, not}
+use mathlib.Core.List.{List, [], _∷_, _++_}
+use Prim.Native.Nat.{ℕ, _+_, _-_, _*_, _<_, _≤_}
+use native.Mathlib.Nat.{mul-le-mul}
+use native.Mathlib.Omega.{arith}
+use borrow.Author.Tests.{le-leb, lt-leb, leb-true, lt-ltb, le-ltb, ltb-false, eq-eqb, ne-eqb, eqb-true}
+use lib.Dec.{T, eqb, leb, ltb}
+use lib.ListN.{length}
+use lib.Ieee.{Float}
+use Rattle.numbers.specs.Numbers.{outOfMeasure, notInside, notOnBlocks, wrongLength, outOfRange}
+use Rattle.numbers.specs.Checks.{Check, firstOf}
+use Rattle.region.specs.declared.Region.{Region}
+use Rattle.region.specs.Regions.{inside}
+use Rattle.region.specs.Measures.{pictured}
+use Rattle.region.specs.Answers.{placedChecks}
+use Rattle.planes.specs.declared.Layout.{Layout}
+use Rattle.planes.specs.Picture.{Picture}
+use Rattle.planes.specs.Rect.{planesFill}
+use Rattle.planes.specs.Band.{inner, passed, copiedOutside, filterRow, resultHeight, rowsFit}
+use Rattle.planes.specs.Stored.{LayoutFits, BandFits, passed-over, fits-copied, and-first, and-second}
+use Rattle.layout.specs.declared.LayoutAnswer.{LayoutAnswer}
+use Rattle.layout.specs.Outcome.{layoutOf, layoutOutcome, PassOutcome, passOutcome}
+use Rattle.layout.specs.Fits.{Accepted, layout-accepted, answer-number, answer-layout, pass-refused, pass-done}
+use Rattle.tiles.specs.Tile.{across}
+use Rattle.tiles.specs.Region.{down}
+use Rattle.epf.specs.declared.EpfStep.{EpfStep}
+use Rattle.epf.specs.Blocks.{ahead, onBlock, onBlocks}
+use Rattle.epf.specs.Outcome.{epfOver, stepChecks, epfChecks, epfOutcome}
+
+-- ---- the table
+
+-- the number is that of the first check; 4 and 5 come before the others
+placed-first : (a b c : Bool) (k m : ℕ) → k ≡ cond (true && not (a && b)) outOfMeasure (cond (true && not c) notInside 0) → (k ≡ 0 → ⊥)
+    → k ≡ cond (true && not (a && b)) outOfMeasure (cond (true && not c) notInside m)
+placed-first true true true k m e n = absurd (n e)
+placed-first true true false k m e n = e
+placed-first true false c k m e n = e
+placed-first false b c k m e n = e
+
+placed-then : (a b c : Bool) (k m : ℕ) → cond (true && not (a && b)) outOfMeasure (cond (true && not c) notInside 0) ≡ 0 → k ≡ m
+    → k ≡ cond (true && not (a && b)) outOfMeasure (cond (true && not c) notInside m)
+placed-then true true true k m e h = h
+placed-then true true false k m e h = absurd (omega arith)
+placed-then true false c k m e h = absurd (omega arith)
+placed-then false b c k m e h = absurd (omega arith)
+
+off : (a b : Bool) → b ≡ false → (a && b) ≡ false
+off true b e = e
+off false b e = refl
+
+-- ---- the tests of a placed filter region
+
+module _ (n : ℕ) (l : Layout) (filter : Region) (step from to sigmas src dst : ℕ) where
+  abbrev size : ℕ
+  size = n * l .image .height * l .image .width
+
+  abbrev Number : ℕ → Type 0
+  Number k = k ≡ firstOf (stepChecks n l filter step from to sigmas src dst)
+
+  pub no-left : onBlock (filter .left) ≡ false → Number notOnBlocks
+  unfolding stepChecks
+  no-left e = rw e
+
+  pub no-top : onBlock (filter .top) ≡ false → Number notOnBlocks
+  unfolding stepChecks
+  no-top e = rw (off (onBlock (filter .left)) (onBlock (filter .top)) e)
+
+  module _ (a : onBlock (filter .left) ≡ true) (b : onBlock (filter .top) ≡ true) where
+    pub no-source : (src ≡ size → ⊥) → Number wrongLength
+    unfolding stepChecks
+    no-source h = rw (a, b, ne-eqb src size h)
+
+    pub no-target : (dst ≡ size → ⊥) → Number wrongLength
+    unfolding stepChecks
+    no-target h = rw (a, b, off (eqb src size) (eqb dst size && eqb sigmas (down l * across l)) (rw (ne-eqb dst size h)))
+
+    pub no-sigmas : (sigmas ≡ down l * across l → ⊥) → Number wrongLength
+    unfolding stepChecks
+    no-sigmas h = rw (a, b, off (eqb src size) (eqb dst size && eqb sigmas (down l * across l)) (off (eqb dst size) (eqb sigmas (down l * across l)) (ne-eqb sigmas (down l * across l) h)))
+
+    module _ (s : src ≡ size) (t : dst ≡ size) (u : sigmas ≡ down l * across l) where
+      pub no-step : 2 < step → Number outOfRange
+      unfolding stepChecks
+      no-step h = rw (a, b, eq-eqb src size s, eq-eqb dst size t, eq-eqb sigmas (down l * across l) u, lt-ltb 2 step h)
+
+      pub no-rows : rowsFit l from to ≡ false → Number outOfRange
+      unfolding stepChecks
+      no-rows h = rw (a, b, eq-eqb src size s, eq-eqb dst size t, eq-eqb sigmas (down l * across l) u, h) (go (ltb 2 step))
+        where
+          go : (k : Bool) → outOfRange ≡ cond (true && k) outOfRange outOfRange
+          go true = refl
+          go false = refl
+
+      pub all-held : step ≤ 2 → rowsFit l from to ≡ true → Number 0
+      unfolding stepChecks
+      all-held h r = rw (a, b, eq-eqb src size s, eq-eqb dst size t, eq-eqb sigmas (down l * across l) u, le-ltb 2 step h, r)
+
+-- what the number 0 says
+zero-is : (a b c d : Bool) → cond (true && not a) notOnBlocks (cond (true && not b) wrongLength (cond (true && c) outOfRange (cond (true && not d) outOfRange 0))) ≡ 0 → (a ≡ true) × (b ≡ true) × (c ≡ false) × (d ≡ true)
+zero-is true true false true e = (refl, refl, refl, refl)
+zero-is true true false false e = absurd (omega arith)
+zero-is true true true d e = absurd (omega arith)
+zero-is true false c d e = absurd (omega arith)
+zero-is false b c d e = absurd (omega arith)
+
+pub record StepFits (n : ℕ) (l : Layout) (step from to sigmas src dst : ℕ) : Type 0 where
+  pub source : src ≡ n * l .image .height * l .image .width
+  pub target : dst ≡ n * l .image .height * l .image .width
+  pub blocks : sigmas ≡ down l * across l
+  pub low : step ≤ 2
+  pub order : from ≤ to
+  pub rows : to ≤ resultHeight l
+
+pub step-fits : (n : ℕ) (l : Layout) (filter : Region) (step from to sigmas src dst : ℕ) → firstOf (stepChecks n l filter step from to sigmas src dst) ≡ 0 → StepFits n l step from to sigmas src dst
+unfolding stepChecks
+step-fits n l filter step from to sigmas src dst e =
+    let size = n * l .image .height * l .image .width in
+    let p = eqb src size in
+    let q = eqb dst size in
+    let r = eqb sigmas (down l * across l) in
+    let z = zero-is (onBlocks filter) (p && (q && r)) (ltb 2 step) (rowsFit l from to) e in
+    let qr = and-second p (q && r) (z .1) in
+    record {
+      source = eqb-true _ _ (and-first p (q && r) (z .1));
+      target = eqb-true _ _ (and-first q r qr);
+      blocks = eqb-true _ _ (and-second q r qr);
+      low = ltb-false _ _ (z .2);
+      order = leb-true _ _ (and-first (leb from to) (leb to (resultHeight l)) (z .3));
+      rows = leb-true _ _ (and-second (leb from to) (leb to (resultHeight l)) (z .3));
+    }
+
+pub band-fits : (n : ℕ) (l : Layout) (step from to sigmas : ℕ) (src dst : List Float) → n ≤ 3 → LayoutFits l → StepFits n l step from to sigmas (length src) (length dst) → BandFits l n from to src dst
+band-fits n l step from to sigmas src dst few f s = record { layout = f; planes = few; source = s .source; target = s .target; order = s .order; rows = s .rows }
+
+-- numbers of the machine
+pub record SizeRoom (l : Layout) : Type 0 where
+  pub lines : 3 * l .image .height ≤ 49152
+  pub samples : 3 * l .image .height * l .image .width ≤ 805306368
+  pub high : l .height ≤ 16384
+  pub wide : l .width ≤ 16384
+  pub blocks : down l * across l ≤ 4198401
+
+pub size-room : (l : Layout) → LayoutFits l → SizeRoom l
+size-room l f =
+    let a : 3 * l .image .height ≤ 49152 = omega (arith, f .high) in
+    let h : l .height ≤ 16384 = omega (arith, f .down, f .high) in
+    let w : l .width ≤ 16384 = omega (arith, f .across, f .wide) in
+    let c : down l ≤ 2049 = omega arith in
+    let d : across l ≤ 2049 = omega arith in
+    record { lines = a; samples = mul-le-mul a (f .wide); high = h; wide = w; blocks = mul-le-mul c d }
+
+-- ---- a band: copied outside the filter region, then filtered inside it
+pub band-passed : (l : Layout) (n from to f t : ℕ) (p : Picture) (src dst a b : List Float) → BandFits l n from to src dst
+    → a ≡ copiedOutside l n from to src dst → f ≡ filterRow l from → t ≡ filterRow l to
+    → b ≡ planesFill (l .image .width) (l .image .height) (l .left) (l .width) (l .top + f) (t - f) (λ c x i. p c x (f + i)) a n
+    → b ≡ passed n l from to p src dst
+band-passed l n from to f t p src dst a b fits e u v h = passed-over l n from to src dst fits p b (h ∙ rw (e, fits-copied l n from to src dst fits, u, v))
+
+-- ---- the whole table; a is the answer of `layout_of`
+module _ (image filter : Region) (full : Bool) (s : EpfStep) (sigmas : List Float) (from to : ℕ) (src dst : List Float) (a : LayoutAnswer) (e : a ≡ layoutOutcome image filter full) where
+  abbrev Outcome : ℕ → List Float → Type 0
+  Outcome k d = _≡_ {A = PassOutcome} (record { number = k; target = d }) (epfOutcome image filter full s sigmas from to src dst)
+
+  pub not-placed : (a .number ≡ 0 → ⊥) → Outcome (a .number) dst
+  unfolding epfOutcome epfChecks
+  not-placed h = pass-refused (a .number) _ _ dst (placed-first (pictured image) (pictured filter) (inside image filter) (a .number) _ (answer-number image filter full a e) h) h
+
+  module _ (z : a .number ≡ 0) where
+    ok : firstOf (placedChecks image filter) ≡ 0
+    ok = sym (answer-number image filter full a e) ∙ z
+
+    l-is : a .layout ≡ layoutOf image filter full
+    l-is = answer-layout image filter full a e z
+
+    pub layout-held : Accepted (a .layout)
+    layout-held = rw l-is (layout-accepted image filter full ok)
+
+    module _ (k : ℕ) (p : k ≡ firstOf (stepChecks 3 (a .layout) filter (s .step) from to (length sigmas) (length src) (length dst))) where
+      number-is : k ≡ firstOf (epfChecks image filter full s sigmas from to src dst)
+      unfolding epfChecks
+      number-is = placed-then (pictured image) (pictured filter) (inside image filter) k _ ok (rw l-is at p)
+
+      pub refused : (k ≡ 0 → ⊥) → Outcome k dst
+      unfolding epfOutcome
+      refused h = pass-refused k _ _ dst number-is h
+
+      pub done : k ≡ 0 → (b : List Float) → b ≡ passed 3 (a .layout) from to (epfOver 3 (a .layout) s (ahead (filter .top)) sigmas src) src dst → Outcome 0 b
+      unfolding epfOutcome
+      done h b q = pass-done _ _ dst b (sym h ∙ number-is) (rw l-is at q)

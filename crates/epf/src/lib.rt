@@ -1,0 +1,183 @@
+// One edge-preserving step over rows of a filter region that lies anywhere in an image region.
+use layout::layout_of;
+use numbers::ACCEPTED;
+use numbers::NOT_ON_BLOCKS;
+use numbers::OUT_OF_RANGE;
+use numbers::WRONG_LENGTH;
+use planes::Layout;
+use planes::copy_outside;
+use planes::filter_row;
+use planes::rows_fit;
+use region::Region;
+use tiles::Step;
+use tiles::region::filter_region;
+ghost use mathlib.Core.Path.{_≡_};
+ghost use Prim.Native.Nat.{_≤_};
+ghost use lib.ListN.{length};
+ghost use Rattle.numbers.specs.Checks.{firstOf};
+ghost use Rattle.planes.specs.Band.{passed};
+ghost use Rattle.planes.specs.Stored.{LayoutFits, BandFits};
+ghost use Rattle.layout.specs.Outcome.{PassOutcome};
+ghost use Rattle.tiles.specs.Tile.{stepOver};
+ghost use Rattle.tiles.specs.Region.{RegionFits};
+ghost use Rattle.epf.specs.Blocks.{ahead as aheadOf, onBlock};
+ghost use Rattle.epf.specs.Outcome.{stepChecks, epfOutcome};
+
+const PLANES: usize = 3;
+
+const BLOCK: usize = 8;
+
+const LAST_STEP: usize = 2;
+
+// Document 01: sigma under this copies the sample. Bits 3E99999A.
+const COPYING_LIMIT: f32 = 0.3;
+
+// The settings of a step that it reads besides samples and sigmas: `multiplier` is the step's scale.
+#[repr(C)]
+pub struct EpfStep {
+    pub step: u32,
+    pub channel_scale: [f32; 3],
+    pub multiplier: f32,
+    pub border_sad_mul: f32,
+}
+
+// A left or a top that is not negative.
+fn ahead(z: i32) -> usize
+    ensures { λ r. ⌜ (r ≡ aheadOf z) × (r ≤ 4294967296) ⌝ }
+{
+    if z < 0 {
+        return 0;
+    }
+    z as usize
+}
+
+// Whether a left or a top is not negative and a multiple of 8.
+fn on_block(z: i32) -> bool
+    ensures { λ r. ⌜ r ≡ onBlock z ⌝ }
+{
+    if z < 0 {
+        return false;
+    }
+    ahead(z) % 8 == 0
+}
+
+// Which number the corner, the lengths, the step and the rows give.
+fn judged(
+    l: Layout,
+    filter: Region,
+    step: usize,
+    from: usize,
+    to: usize,
+    sigmas: usize,
+    src: usize,
+    dst: usize,
+) -> u32
+    requires { ⌜ LayoutFits l ⌝ }
+    ensures { λ r. ⌜ r ≡ firstOf (stepChecks 3 l filter step from to sigmas src dst) ⌝ }
+{
+    if !on_block(filter.left) {
+        return NOT_ON_BLOCKS;
+    }
+    if !on_block(filter.top) {
+        return NOT_ON_BLOCKS;
+    }
+    let size = PLANES * l.image.height * l.image.width;
+    if src != size {
+        return WRONG_LENGTH;
+    }
+    if dst != size {
+        return WRONG_LENGTH;
+    }
+    if sigmas != (l.height + 7) / BLOCK * ((l.width + 7) / BLOCK) {
+        return WRONG_LENGTH;
+    }
+    if LAST_STEP < step {
+        return OUT_OF_RANGE;
+    }
+    if !rows_fit(l, from, to) {
+        return OUT_OF_RANGE;
+    }
+    ACCEPTED
+}
+
+// Rows `from` up to `to` of the result: copied outside the filter region, then filtered inside it.
+fn epf_band(
+    src: &[f32],
+    dst: &mut [f32],
+    l: Layout,
+    n: usize,
+    s: Step,
+    scales: &[f32; 3],
+    sigmas: &[f32],
+    top: usize,
+    from: usize,
+    to: usize,
+)
+    requires { ⌜ BandFits l n from to (now src) (now dst) ⌝ }
+    requires { ⌜ RegionFits l n s top (length (now dst)) (length (now sigmas)) ⌝ }
+    ensures { λ _. ⌜ now (dst .exit) ≡ passed n l from to (stepOver n l s (now (scales .entry)) top (now (sigmas .entry)) (now (src .entry))) (now (src .entry)) (now (dst .entry)) ⌝ }
+{
+    copy_outside(src, dst, l, n, from, to);
+    let first = filter_row(l, from);
+    let last = filter_row(l, to);
+    filter_region(dst, src, l, n, s, scales, sigmas, top, first, last);
+}
+
+// Rows `from` up to `to` of the result, which is the full planes (`preserve_outside`) or the filter region alone: reads `src` and writes `dst`,
+// sets of three planes. There is a sigma for each block of the filter region, row of blocks after row of blocks; any floats are taken.
+pub fn epf_pass(
+    image: Region,
+    filter: Region,
+    preserve_outside: bool,
+    s: EpfStep,
+    sigmas: &[f32],
+    from: u32,
+    to: u32,
+    src: &[f32],
+    dst: &mut [f32],
+) -> u32
+    ensures { λ r. ⌜ _≡_ {A = PassOutcome} (record { number = r; target = now (dst .exit) }) (epfOutcome image filter «preserve_outside» s (now (sigmas .entry)) from to (now (src .entry)) (now (dst .entry))) ⌝ }
+{
+    let answer = layout_of(image, filter, preserve_outside);
+    let placed = answer.number;
+    if placed != ACCEPTED {
+        return placed;
+    }
+    let l = answer.layout;
+    let step = s.step as usize;
+    let first = from as usize;
+    let last = to as usize;
+    let number = judged(
+        l,
+        filter,
+        step,
+        first,
+        last,
+        sigmas.len(),
+        src.len(),
+        dst.len(),
+    );
+    if number != ACCEPTED {
+        return number;
+    }
+    let scales = s.channel_scale;
+    let settings = Step {
+        step,
+        scale: s.multiplier,
+        edge: s.border_sad_mul,
+        limit: COPYING_LIMIT,
+    };
+    epf_band(
+        src,
+        dst,
+        l,
+        PLANES,
+        settings,
+        &scales,
+        sigmas,
+        ahead(filter.top),
+        first,
+        last,
+    );
+    ACCEPTED
+}
