@@ -1,5 +1,6 @@
 // Compares the proved functions with a list of the original's answers, which is read from standard input.
-mod fields;
+mod forms;
+mod headers;
 mod list;
 mod regions;
 mod sizes;
@@ -51,9 +52,17 @@ fn size_rows(before: Tally, text: &[u8]) -> Tally {
     replayed(t, text, b"split_block", Subject::SplitBlock)
 }
 
+fn header_rows(before: Tally, text: &[u8]) -> Tally {
+    let mut t = before;
+    t = replayed(t, text, b"read_half", Subject::ReadHalf);
+    t = replayed(t, text, b"read_gabor", Subject::ReadGabor);
+    t = replayed(t, text, b"read_epf", Subject::ReadEpf);
+    replayed(t, text, b"read_filters", Subject::ReadFilters)
+}
+
 // Each subject, the rows that name none of them, and all.
 fn replay(text: &[u8]) {
-    let known = size_rows(region_rows(text), text);
+    let known = header_rows(size_rows(region_rows(text), text), text);
     let unknown = list::unknown(list::rows(text), known.rows);
     report(b"unknown", unknown);
     report(b"total", known.plus(unknown));

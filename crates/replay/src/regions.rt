@@ -1,8 +1,8 @@
 // Region arithmetic: left, top, width and height of each region, the settings, the number, the result.
-use crate::fields::bool_at;
-use crate::fields::has_form;
-use crate::fields::i32_at;
-use crate::fields::u32_at;
+use crate::forms::bool_at;
+use crate::forms::has_form;
+use crate::forms::i32_at;
+use crate::forms::u32_at;
 use region::BoolAnswer;
 use region::EdgeAnswer;
 use region::Region;

@@ -1,8 +1,8 @@
 // Mirror: offset, length, number, place. Group sizes: the frame's numbers, number, sizes. Split of a block: block, group size shift, number, group, inner.
-use crate::fields::has_form;
-use crate::fields::isize_at;
-use crate::fields::u32_at;
-use crate::fields::usize_at;
+use crate::forms::has_form;
+use crate::forms::isize_at;
+use crate::forms::u32_at;
+use crate::forms::usize_at;
 use frame::Frame;
 use frame::GroupSizes;
 

@@ -1,4 +1,6 @@
 // What a row can be about.
+use crate::headers;
+use crate::headers::Reader;
 use crate::regions;
 use crate::sizes;
 
@@ -15,6 +17,10 @@ pub enum Subject {
     Mirror,
     GroupSizes,
     SplitBlock,
+    ReadHalf,
+    ReadGabor,
+    ReadEpf,
+    ReadFilters,
 }
 
 impl Subject {
@@ -33,6 +39,10 @@ impl Subject {
             Subject::Mirror => sizes::mirror(n),
             Subject::GroupSizes => sizes::group_sizes(n),
             Subject::SplitBlock => sizes::split_block(n),
+            Subject::ReadHalf => headers::agrees(n, Reader::Half),
+            Subject::ReadGabor => headers::agrees(n, Reader::Gabor),
+            Subject::ReadEpf => headers::agrees(n, Reader::EdgeFilter),
+            Subject::ReadFilters => headers::agrees(n, Reader::Filters),
         }
     }
 }

@@ -15,34 +15,38 @@ const CUT: u64 = 10_000;
 const REPLACED: u64 = 300;
 
 /// Halves of every kind: zeros, subnormals, ones that make a kernel vanish, infinities, NaN.
-const HALVES: [u32; 16] = [
+pub const HALVES: [u32; 16] = [
     0x0000, 0x8000, 0x0001, 0x8001, 0x03FF, 0x83FF, 0x0400, 0x3400, 0x3C00, 0xB000, 0xB400, 0x7BFF,
     0x7C00, 0xFC00, 0x7C01, 0xFE00,
 ];
 
 /// A number, the fields in order with floats by their bits, and the next bit place.
 #[derive(Debug, PartialEq)]
-struct Reading {
-    number: u32,
-    fields: Vec<u32>,
-    next: usize,
+pub struct Reading {
+    pub number: u32,
+    pub fields: Vec<u32>,
+    pub next: usize,
 }
 
 /// A slice, a bit place and whether the encoding is Modular.
-type Case<'a> = (&'a [u8], usize, bool);
+pub type Case<'a> = (&'a [u8], usize, bool);
 
-struct Reader {
-    name: &'static str,
-    fields: usize,
+pub struct Reader {
+    pub name: &'static str,
+    /// A letter for each field: n a number, f a float.
+    pub form: &'static str,
+    /// Whether it is told the encoding.
+    pub encoded: bool,
     ours: fn(Case) -> Reading,
     rule: fn(Case) -> Ruled<expected::Read>,
     rust: fn(Case) -> Result<expected::Read, oracle::Error>,
 }
 
-const READERS: [Reader; 4] = [
+pub const READERS: [Reader; 4] = [
     Reader {
         name: "read half",
-        fields: 1,
+        form: "f",
+        encoded: false,
         ours: |(bytes, place, _)| {
             // SAFETY: a whole slice is lent.
             let a = unsafe { boundary::loupe_read_half(bytes.as_ptr(), bytes.len(), place) };
@@ -56,7 +60,8 @@ const READERS: [Reader; 4] = [
     },
     Reader {
         name: "read gabor",
-        fields: 7,
+        form: "nffffff",
+        encoded: false,
         ours: |(bytes, place, _)| {
             // SAFETY: a whole slice is lent.
             let a = unsafe { boundary::loupe_read_gabor(bytes.as_ptr(), bytes.len(), place) };
@@ -70,7 +75,8 @@ const READERS: [Reader; 4] = [
     },
     Reader {
         name: "read epf",
-        fields: 18,
+        form: "nnffffffffffffffff",
+        encoded: true,
         ours: |(bytes, place, modular)| {
             let (first, len) = (bytes.as_ptr(), bytes.len());
             // SAFETY: a whole slice is lent.
@@ -85,7 +91,8 @@ const READERS: [Reader; 4] = [
     },
     Reader {
         name: "read filters",
-        fields: 25,
+        form: "nffffffnnffffffffffffffff",
+        encoded: true,
         ours: |(bytes, place, modular)| {
             let (first, len) = (bytes.as_ptr(), bytes.len());
             // SAFETY: a whole slice is lent.
@@ -157,10 +164,22 @@ fn epf_of_rust(edge: Option<oracle::Edge>) -> Vec<u32> {
 }
 
 impl Reader {
+    /// What the original gives.
+    pub fn original(&self, case: Case) -> Reading {
+        match (self.rust)(case) {
+            Ok((fields, next)) => given(0, fields, next),
+            Err(error) => self.refused(number_of(error)),
+        }
+    }
+
+    fn refused(&self, number: u32) -> Reading {
+        given(number, vec![0; self.form.len()], 0)
+    }
+
     fn check(&self, case: Case, row: &mut Row) {
         let rule = match (self.rule)(case) {
             Ok((fields, next)) => given(0, fields, next),
-            Err(number) => given(number, vec![0; self.fields], 0),
+            Err(number) => self.refused(number),
         };
         row.count(rule.number);
         let ours = (self.ours)(case);
@@ -168,10 +187,7 @@ impl Reader {
             row.differs(&case, &ours, &rule);
         } else if rule.number != 7 {
             // The original takes slices of any length; else its refusals are these.
-            let rust = match (self.rust)(case) {
-                Ok((fields, next)) => given(0, fields, next),
-                Err(error) => given(number_of(error), vec![0; self.fields], 0),
-            };
+            let rust = self.original(case);
             if rust != rule {
                 row.differs(&case, &rust, &rule);
             }
@@ -292,15 +308,15 @@ fn built_headers(reader: &Reader, scale: u64, report: &mut Report) {
     report.add(row);
 }
 
-fn place_and_encoding(random: &mut Random) -> (usize, bool) {
+pub fn place_and_encoding(random: &mut Random) -> (usize, bool) {
     (random.within(0, 20) as usize, random.once_in(2))
 }
 
 /// A value and its width in bits.
-type Field = (u32, u32);
+pub type Field = (u32, u32);
 
 /// Both bundles with all their halves, or the edge filter's alone, or random bits.
-fn header(random: &mut Random, modular: bool) -> Vec<Field> {
+pub fn header(random: &mut Random, modular: bool) -> Vec<Field> {
     let mut fields = Vec::new();
     match random.within(0, 9) {
         0 => return (0..12).map(|_| (random.next() as u32, 32)).collect(),
@@ -349,7 +365,7 @@ fn halves(random: &mut Random, count: usize, fields: &mut Vec<Field>) {
 }
 
 /// The fields from a place on; the bits around them are those of `rest`.
-fn pack(place: usize, fields: &[Field], rest: u8) -> Vec<u8> {
+pub fn pack(place: usize, fields: &[Field], rest: u8) -> Vec<u8> {
     let length: usize = fields.iter().map(|&(_, width)| width as usize).sum();
     let mut bytes = vec![rest; (place + length).div_ceil(8)];
     let mut p = place;

@@ -1,8 +1,11 @@
 //! A sample of the original's answers as text, for a replay with no Rust at hand.
 
+mod headers;
+
 use std::collections::{BTreeMap, BTreeSet};
 
 use crate::{
+    header::READERS,
     random::Random,
     subject::{Subject, for_each_in},
 };
@@ -16,6 +19,7 @@ const HEAD: &str = "\
 # Answers of the original Rust, and document 01's number where it refuses.
 # Made in reference/ by: cargo run --release --offline -p harness -- record
 # A row: the subject, its inputs in order, the number, the result's fields in order.
+# A header is the count of its bytes and each byte; of a header's row the next bit place is last.
 ";
 
 pub fn print(subjects: &[&Subject]) {
@@ -24,6 +28,12 @@ pub fn print(subjects: &[&Subject]) {
         println!();
         for case in chosen(subject) {
             println!("{}", row(subject, &case));
+        }
+    }
+    for reader in &READERS {
+        println!();
+        for row in headers::rows(reader) {
+            println!("{row}");
         }
     }
 }
@@ -57,18 +67,28 @@ fn chosen(subject: &Subject) -> Vec<Vec<i128>> {
             classes.entry(class).or_default().push(case);
         }
     }
+    // Two results for each case of another class.
+    let times = |class: &_| if *class == (0, true) { 2 } else { 1 };
+    fill(&mut chosen, classes, times, &mut random);
+    chosen
+}
+
+/// Adds cases of each class in turn, so many at a time, until there are enough.
+fn fill<K: Ord, C>(
+    chosen: &mut Vec<C>,
+    mut classes: BTreeMap<K, Vec<C>>,
+    times: impl Fn(&K) -> usize,
+    random: &mut Random,
+) {
     while chosen.len() < ROWS {
         for (class, cases) in &mut classes {
-            // Two results for each case of another class.
-            let times = if *class == (0, true) { 2 } else { 1 };
-            for _ in 0..times.min(cases.len()) {
+            for _ in 0..times(class).min(cases.len()) {
                 let at = random.within(0, cases.len() as i128 - 1) as usize;
                 chosen.push(cases.swap_remove(at));
             }
         }
     }
     chosen.truncate(ROWS);
-    chosen
 }
 
 /// Cases near zero, at the limits and drawn.

@@ -1,8 +1,8 @@
 -- `u32_at` is safe: the number was tested. Assumes nothing.
 use native.Mathlib.Omega.{arith}
 use Rattle.replay.proofs.Ranges.{back, not-negative, up-to}
-use Rattle.replay.proofs.fields.u32_at.Statement.{statement}
-use Rattle.replay.proofs.fields.u32_at.Tie as tie
+use Rattle.replay.proofs.forms.u32_at.Statement.{statement}
+use Rattle.replay.proofs.forms.u32_at.Tie as tie
 
 cast-result : tie.Need-cast-result
 cast-result c =

@@ -1,4 +1,5 @@
-// The numbers of a row at their types. A row's form is a letter for each number: i an i32, u a u32, s an isize, z a usize, b a bool.
+// The numbers of a row at their types. A row's form is a letter for each number: i an i32, u a u32, s an isize, z a usize, b a bool, y a byte,
+// f the bits of an f32.
 
 fn least(kind: u8) -> i64 {
     match kind {
@@ -11,14 +12,15 @@ fn least(kind: u8) -> i64 {
 fn most(kind: u8) -> i64 {
     match kind {
         b'i' => 2_147_483_647,
-        b'u' => 4_294_967_295,
+        b'u' | b'f' => 4_294_967_295,
         b's' | b'z' => i64::MAX,
         b'b' => 1,
+        b'y' => 255,
         _ => -1,
     }
 }
 
-fn has_kind(x: i64, kind: u8) -> bool {
+pub fn has_kind(x: i64, kind: u8) -> bool {
     if x < least(kind) {
         return false;
     }
@@ -67,6 +69,17 @@ pub fn u32_at(n: &[i64], i: usize) -> u32 {
     x as u32
 }
 
+pub fn u8_at(n: &[i64], i: usize) -> u8 {
+    let x = at(n, i);
+    if x < 0 {
+        return 0;
+    }
+    if 255 < x {
+        return 0;
+    }
+    x as u8
+}
+
 pub fn usize_at(n: &[i64], i: usize) -> usize {
     let x = at(n, i);
     if x < 0 {
@@ -81,4 +94,12 @@ pub fn isize_at(n: &[i64], i: usize) -> isize {
 
 pub fn bool_at(n: &[i64], i: usize) -> bool {
     at(n, i) == 1
+}
+
+// The bits are those of x; a NaN has none.
+pub fn has_float(n: &[i64], i: usize, x: f32) -> bool {
+    if x == x {
+        return u32_at(n, i) == f32::to_bits(x);
+    }
+    false
 }

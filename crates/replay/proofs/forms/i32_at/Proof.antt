@@ -1,8 +1,8 @@
 -- `i32_at` is safe: the number was tested. Assumes nothing.
 use native.Mathlib.Omega.{arith}
 use Rattle.replay.proofs.Ranges.{back, between}
-use Rattle.replay.proofs.fields.i32_at.Statement.{statement}
-use Rattle.replay.proofs.fields.i32_at.Tie as tie
+use Rattle.replay.proofs.forms.i32_at.Statement.{statement}
+use Rattle.replay.proofs.forms.i32_at.Tie as tie
 
 cast-result : tie.Need-cast-result
 cast-result c =

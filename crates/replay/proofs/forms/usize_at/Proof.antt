@@ -1,8 +1,8 @@
 -- `usize_at` is safe: the number was tested. Assumes nothing.
 use native.Mathlib.Omega.{arith}
 use Rattle.replay.proofs.Ranges.{back, not-negative, size-within}
-use Rattle.replay.proofs.fields.usize_at.Statement.{statement}
-use Rattle.replay.proofs.fields.usize_at.Tie as tie
+use Rattle.replay.proofs.forms.usize_at.Statement.{statement}
+use Rattle.replay.proofs.forms.usize_at.Tie as tie
 
 cast-result : tie.Need-cast-result
 cast-result c =

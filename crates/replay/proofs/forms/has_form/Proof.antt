@@ -2,8 +2,8 @@
 use Prim.Native.Nat.{_-_}
 use native.Mathlib.Omega.{arith}
 use lib.ListN.{length}
-use Rattle.replay.proofs.fields.has_form.Statement.{statement}
-use Rattle.replay.proofs.fields.has_form.Tie as tie
+use Rattle.replay.proofs.forms.has_form.Statement.{statement}
+use Rattle.replay.proofs.forms.has_form.Tie as tie
 
 abbrev Inv : tie.InvT-loop
 Inv n form i₀ i = Unit {0}
