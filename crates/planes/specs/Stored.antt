@@ -172,24 +172,35 @@ module _ (l : Layout) (n from to : ℕ) (src dst : List Float) (fits : BandFits 
   unfolding passed
   length-passed p = length-setOf n (l .image .width) (l .image .height) _
 
-  -- the result is the filter region alone: nothing is copied
-  pub copied-alone : l .full ≡ false → dst ≡ copied
-  unfolding passed written inFilter
-  copied-alone e = sets-ext n (l .image .width) (l .image .height) dst copied (fits .target) (length-passed (inner l dst))
-      (λ c x y h i j. sym (of-setOf n (l .image .width) (l .image .height) _ c x y h i j ∙ sym (kept c x y)))
+  -- each written sample lies in the filter region: nothing is copied
+  copied-within : ((x y : ℕ) → x < l .image .width → y < l .image .height → T (written l from to x y) → T (inFilter l x y)) → dst ≡ copied
+  unfolding passed
+  copied-within among = sets-ext n (l .image .width) (l .image .height) dst copied (fits .target) (length-passed (inner l dst))
+      (λ c x y h i j. sym (of-setOf n (l .image .width) (l .image .height) _ c x y h i j ∙ sym (kept c x y i j)))
     where
-      kept : (c x y : ℕ) → of (l .image .width) (l .image .height) dst c x y ≡
+      kept : (c x y : ℕ) → x < l .image .width → y < l .image .height → of (l .image .width) (l .image .height) dst c x y ≡
           cond (written l from to x y)
           (cond (inFilter l x y) (inner l dst c (x - l .left) (y - l .top)) (of (l .image .width) (l .image .height) src c x y))
           (of (l .image .width) (l .image .height) dst c x y)
-      kept c x y = cond-kept (written l from to x y) (inFilter l x y) _ _ _ (λ t. among (l .full) e (fits .rows) t) (inner-at l dst c x y)
-        where
-          among : (b : Bool) → b ≡ false → to ≤ cond b (l .image .height) (l .height)
-              → T (inRect (cond b 0 (l .left)) (cond b (l .image .width) (l .width)) (cond b 0 (l .top) + from) (to - from) x y) → T (inFilter l x y)
-          among true q r t = absurd (false≢true (sym q))
-          among false q r t =
-              let z = inside (l .left) (l .width) (l .top + from) (to - from) x y t in
-              within (l .left) (l .width) (l .top) (l .height) x y (record { a = z .a; b = z .b; c = omega arith; d = omega arith })
+      kept c x y i j = cond-kept (written l from to x y) (inFilter l x y) _ _ _ (among x y i j) (inner-at l dst c x y)
+
+  -- the result is the filter region alone
+  pub copied-alone : l .full ≡ false → dst ≡ copied
+  unfolding written inFilter
+  copied-alone e = copied-within (λ x y i j t. among (l .full) e (fits .rows) x y t)
+    where
+      among : (b : Bool) → b ≡ false → to ≤ cond b (l .image .height) (l .height) → (x y : ℕ)
+          → T (inRect (cond b 0 (l .left)) (cond b (l .image .width) (l .width)) (cond b 0 (l .top) + from) (to - from) x y) → T (inFilter l x y)
+      among true q r x y t = absurd (false≢true (sym q))
+      among false q r x y t =
+          let z = inside (l .left) (l .width) (l .top + from) (to - from) x y t in
+          within (l .left) (l .width) (l .top) (l .height) x y (record { a = z .a; b = z .b; c = omega arith; d = omega arith })
+
+  -- the filter region is the image region
+  pub copied-nothing : l .width ≡ l .image .width → l .height ≡ l .image .height → dst ≡ copied
+  unfolding inFilter
+  copied-nothing p q = copied-within (λ x y i j t.
+      within (l .left) (l .width) (l .top) (l .height) x y (record { a = omega (arith, fits .layout .across); b = omega arith; c = omega (arith, fits .layout .down); d = omega arith }))
 
   -- the result is the full planes: each row is written, the filter region's samples as they were
   abbrev kept : Picture

@@ -2,7 +2,7 @@
 ghost use mathlib.Core.Path.{_≡_};
 ghost use mathlib.Core.Bool.{cond, _&&_};
 ghost use Prim.Native.Nat.{ℕ, _+_, _-_, _*_, _<_, _≤_};
-ghost use lib.Dec.{leb};
+ghost use lib.Dec.{leb, eqb};
 ghost use lib.ListN.{length, getD};
 ghost use lib.Ieee.{nan};
 ghost use Rattle.planes.specs.Fill.{fill};
@@ -168,6 +168,16 @@ fn copy_planes_outside(src: &[f32], dst: &mut [f32], l: Layout, n: usize, from: 
     }
 }
 
+// Whether the filter region, which lies in the image region, is all of it.
+fn fills_image(l: Layout) -> bool
+    ensures { λ r. ⌜ r ≡ (eqb (l .width) (l .image .width) && eqb (l .height) (l .image .height)) ⌝ }
+{
+    if l.width != l.image.width {
+        return false;
+    }
+    l.height == l.image.height
+}
+
 // Rows `from` to `to` of the result: copies what lies outside the filter region. Nothing where sets, layout or rows do not fit.
 pub fn copy_outside(src: &[f32], dst: &mut [f32], l: Layout, n: usize, from: usize, to: usize)
     ensures { λ _. ⌜ now (dst .exit) ≡ copiedOutside l n from to (now (src .entry)) (now (dst .entry)) ⌝ }
@@ -182,6 +192,9 @@ pub fn copy_outside(src: &[f32], dst: &mut [f32], l: Layout, n: usize, from: usi
         return;
     }
     if !l.full {
+        return;
+    }
+    if fills_image(l) {
         return;
     }
     copy_planes_outside(src, dst, l, n, from, to - from)

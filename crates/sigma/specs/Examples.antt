@@ -5,6 +5,7 @@ use mathlib.Core.List.{List, [], _∷_}
 use Prim.Native.Nat.{ℕ}
 use lib.ListN.{getD, replicate}
 use lib.Ieee.{Float, nan}
+use Rattle.planes.specs.Sets.{tab}
 use Rattle.frame.specs.declared.Frame.{Frame}
 use Rattle.frame.specs.Sizes.{sizesOf}
 use Rattle.groups.specs.declared.Blocks.{Blocks}
@@ -12,7 +13,6 @@ use Rattle.groups.specs.Table.{badGrid, cells, gridStart, lacks, someBelow}
 use Rattle.groups.specs.Held.{notHeld, someNotHeld}
 use Rattle.groups.specs.Outcome.{badSides, badSettings, badBlocks, tableFits, gridsFit, sigmaNumber}
 use Rattle.sigma.specs.Sigma.{sigmaIn, sigmaOf, aboveAt, sigmaAt, blockSigmas}
-use Rattle.sigma.specs.Fill.{tab}
 
 -- one group across and two down, of 128 blocks a side; the upper one has a grid of one column, the lower none
 abbrev frame : Frame

@@ -6,13 +6,13 @@ use borrow.Author.Tests.{eq-eqb, ne-eqb}
 use lib.Arith.{digits-lt, digits-div, digits-mod}
 use lib.ListN.{length, getD}
 use lib.Ieee.{Float, nan}
+use Rattle.planes.specs.Sets.{length-tab, getD-tab}
 use Rattle.frame.specs.declared.Frame.{Frame}
 use Rattle.frame.specs.Sizes.{innerOf}
 use Rattle.groups.specs.declared.Blocks.{Blocks}
 use Rattle.groups.specs.Table.{presence, gridWidth, gridStart}
 use Rattle.groups.specs.Held.{across, down, groupAt}
 use Rattle.sigma.specs.Sigma.{sigmaIn, sigmaOf, aboveAt, sigmaAt, blockSigmas}
-use Rattle.sigma.specs.Fill.{length-tab, getD-tab}
 
 module _ (f : Frame) (b : Blocks) (t : List ℕ) (grids : List Float) (modular : Float) where
   -- One sigma a block,

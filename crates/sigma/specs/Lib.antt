@@ -1,6 +1,5 @@
 pub mod Sigma
 pub mod Outcome
-pub mod Fill
 pub mod Runs
 pub mod Laws
 pub mod Examples

@@ -10,7 +10,10 @@ use borrow.Author.Tests.{lt-ltb, le-ltb, eq-eqb, ne-eqb}
 use lib.Arith.{digits-div, digits-mod}
 use lib.Dec.{ltb}
 use lib.ListN.{length, getD}
+use lib.Seq.{ext-getD}
 use lib.Ieee.{Float, nan}
+use Rattle.planes.specs.Sets.{tab, length-tab, getD-tab}
+use Rattle.planes.specs.Fill.{fill, length-fill, fill-before, fill-at, fill-then}
 use Rattle.frame.specs.declared.Frame.{Frame}
 use Rattle.frame.specs.declared.GroupSizes.{GroupSizes}
 use Rattle.frame.specs.declared.FrameAnswer.{FrameAnswer}
@@ -23,7 +26,16 @@ use Rattle.groups.specs.Table.{presence, gridWidth, gridHeight, gridStart, badG
 use Rattle.groups.specs.Held.{across, down, groupAt, notHeld, someNotHeld}
 use Rattle.sigma.specs.Sigma.{missing, sigmaIn, sigmaOf, aboveAt, sigmaAt, blockSigmas}
 use Rattle.groups.specs.Laws.{Measured, across-le, TableOf, entry-lt, entries-le, some-fewer, none-below, grid-sides, lacks-not, cells-present, start-ends, Held, held, Accepted}
-use Rattle.sigma.specs.Fill.{fill, fill-before, fill-at, fill-then, fill-whole}
+
+-- a run over the whole list
+fill-whole : (d : List Float) (n : ℕ) (f : ℕ → Float) → length d ≡ n → fill d 0 n f ≡ tab n f
+fill-whole d n f e = ext-getD nan (fill d 0 n f) (tab n f) (length-fill d 0 n f ∙ e ∙ sym (length-tab n f)) each
+  where
+    each : (k : ℕ) → k < length (fill d 0 n f) → getD (fill d 0 n f) k nan ≡ getD (tab n f) k nan
+    each k l =
+        let m : k < n = omega (arith, length-fill d 0 n f) in
+        let z : 0 + k ≡ k = omega arith in
+        rw z at (fill-at d 0 n f k (omega arith) m) ∙ sym (getD-tab n f k m)
 
 -- the sigma a row of blocks before index at, and the one above the top row
 unfoldable pub aboveIn : List Float → ℕ → Float → ℕ → Float
@@ -159,7 +171,7 @@ module _ (f : Frame) (t : List ℕ) (grids : List Float) (modular : Float) (s₀
       → s' ≡ fill s (o + x) (r .n) (λ i. sigmaIn t grids modular (aboveIn s n modular (o + x + i)) (r .group) (r .column + i) (r .row))
       → s' ≡ fill s₀ o (x + r .n) rowSigma
   unfolding rowSigma sigmaOf
-  row-turn s s' x limit r e is l e' = e' ∙ rw e (fill-then s₀ o x (r .n) rowSigma _ each)
+  row-turn s s' x limit r e is l e' = e' ∙ rw e (fill-then s₀ o x (r .n) rowSigma _ rowSigma (λ i l. refl) each)
     where
       each : (i : ℕ) → i < r .n → sigmaIn t grids modular (aboveIn (fill s₀ o x rowSigma) n modular (o + x + i)) (r .group) (r .column + i) (r .row) ≡ rowSigma (x + i)
       each i p =
@@ -207,7 +219,7 @@ module _ (f : Frame) (b : Blocks) (t : List ℕ) (grids : List Float) (modular :
   unfolding rowSigma sigmaAt
   rows-turn s s' n y o q e room is is' =
       let z : 0 + o ≡ o = omega arith in
-      is' ∙ rw (is, q) (rw z at (fill-then s₀ 0 o (across b) flat _ each))
+      is' ∙ rw (is, q) (rw z at (fill-then s₀ 0 o (across b) flat _ flat (λ i l. refl) each))
     where
       each : (x : ℕ) → x < across b → rowSigma f t grids modular (fill s₀ 0 o flat) (across b) o (b .left) (b .top + y) x ≡ flat (o + x)
       each x p = let e' : o ≡ y * across b = rw (← q) e in rw (above-is x y o p e' room) (sym (flat-is x y o p e'))

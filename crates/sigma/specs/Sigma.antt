@@ -4,12 +4,12 @@ use mathlib.Core.List.{List}
 use Prim.Native.Nat.{ℕ, zero, suc, _+_, _*_, _/_, _%_}
 use lib.ListN.{getD}
 use lib.Ieee.{Float, nan}
+use Rattle.planes.specs.Sets.{tab}
 use Rattle.frame.specs.declared.Frame.{Frame}
 use Rattle.frame.specs.Sizes.{innerOf}
 use Rattle.groups.specs.declared.Blocks.{Blocks}
 use Rattle.groups.specs.Table.{present, gridWidth, gridStart}
 use Rattle.groups.specs.Held.{across, down, groupAt}
-use Rattle.sigma.specs.Fill.{tab}
 
 -- What a missing grid gives: the sigma of the block above. Above the top block row that is `sigma_for_modular`.
 abbrev pub missing : Float → Float → Float

@@ -6,13 +6,13 @@ ghost use mathlib.Core.Path.{_≡_};
 ghost use Prim.Native.Nat.{ℕ, _+_, _*_, _<_, _≤_};
 ghost use lib.ListN.{length, getD};
 ghost use lib.Ieee.{nan};
+ghost use Rattle.planes.specs.Fill.{fill};
 ghost use Rattle.frame.specs.Sizes.{groupOf, sizesOf};
 ghost use Rattle.frame.specs.Laws.{Sound};
 ghost use Rattle.groups.specs.Held.{across, down};
 ghost use Rattle.sigma.specs.Sigma.{missing, sigmaIn, blockSigmas};
 ghost use Rattle.sigma.specs.Outcome.{SigmasOutcome, sigmasOutcome};
 ghost use Rattle.sigma.specs.Runs.{aboveIn, rowSigma, RunFits, RunOf, RowFits, AllFits};
-ghost use Rattle.sigma.specs.Fill.{fill};
 
 const PRESENT: u32 = 1;
 // Presence, grid width, grid height.

@@ -4,11 +4,12 @@ use mathlib.Core.Bool.{true}
 use Prim.Native.Nat.{_-_, _≤_}
 use native.Mathlib.Omega.{arith}
 use borrow.Author.Needs.{needs}
-use borrow.Author.Tests.{not-true, not-false}
+use borrow.Author.Tests.{not-true, not-false, eqb-true}
 use denote.Ref.{now}
+use lib.Dec.{eqb}
 use lib.ListN.{length}
 use Rattle.planes.specs.Band.{setFits, rowsFit, passed, inner, copiedOutside}
-use Rattle.planes.specs.Stored.{BandFits, band-fits, full-rows, copied-alone, copied-full, no-source, no-target, no-rows, all-fit}
+use Rattle.planes.specs.Stored.{BandFits, band-fits, and-first, and-second, full-rows, copied-alone, copied-nothing, copied-full, no-source, no-target, no-rows, all-fit}
 use Rattle.planes.proofs.copy_outside.Statement.{statement}
 use Rattle.planes.proofs.copy_outside.Tie as tie
 
@@ -50,11 +51,17 @@ copy-outside-spec =
     (sym (c .before .before .before .set-fits2 .ensures) ∙ not-false _ (c .before .before .if2 .left)) (sym (c .before .rows-fit .ensures) ∙ not-true _ (c .if3 .taken)))
     (λ c. let d = c .before .before in let s = start d in
     copied-alone (s .args .l) (s .args .n) (s .args .from) (s .args .to) (now (s .args .src)) (now (s .args .dst)) (fits d) (not-true (s .args .l .full) (c .if4 .taken)) ∙ held d)
-    (λ c. fits (c .before .before .before) .order)
-    (λ c κs. let d = c .before .before .before in let s = start d in
-    (fits d .layout, (fits d .planes, fits d .source, fits d .target, omega (arith, fits d .order, rows d (not-false (s .args .l .full) (c .before .if4 .left))))))
+    (λ c κs. search needs)
+    (λ c. let d = c .before .before .before .before in let s = start d in
+    let all = sym (c .before .fills-image .ensures) ∙ c .if5 .taken in
+    copied-nothing (s .args .l) (s .args .n) (s .args .from) (s .args .to) (now (s .args .src)) (now (s .args .dst)) (fits d)
+    (eqb-true _ _ (and-first (eqb (s .args .l .width) (s .args .l .image .width)) (eqb (s .args .l .height) (s .args .l .image .height)) all))
+    (eqb-true _ _ (and-second (eqb (s .args .l .width) (s .args .l .image .width)) (eqb (s .args .l .height) (s .args .l .image .height)) all)) ∙ held d)
+    (λ c. fits (c .before .before .before .before .before) .order)
+    (λ c κs. let d = c .before .before .before .before .before in let s = start d in
+    (fits d .layout, (fits d .planes, fits d .source, fits d .target, omega (arith, fits d .order, rows d (not-false (s .args .l .full) (c .before .before .before .if4 .left))))))
     (λ c. search needs)
-    (λ c. let d = c .before .before .before .before .before .before in let s = start d in
+    (λ c. let d = c .before .before .before .before .before .before .before .before in let s = start d in
     c .before .before .copy-planes-outside .ensures
-    ∙ copied-full (s .args .l) (s .args .n) (s .args .from) (s .args .to) (now (s .args .src)) (now (s .args .dst)) (fits d) (not-false (s .args .l .full) (c .before .before .before .before .if4 .left))
+    ∙ copied-full (s .args .l) (s .args .n) (s .args .from) (s .args .to) (now (s .args .src)) (now (s .args .dst)) (fits d) (not-false (s .args .l .full) (c .before .before .before .before .before .before .if4 .left))
     ∙ held d))

@@ -4,7 +4,7 @@ use Prim.Native.Nat.{ℕ, _+_, _-_, _≤_}
 use native.Mathlib.Omega.{arith}
 use lib.ListN.{length, getD, length-set}
 use lib.Ieee.{nan}
-use Rattle.sigma.specs.Fill.{fill, fill-turn, fill-end}
+use Rattle.planes.specs.Fill.{fill, fill-turn, fill-end}
 use Rattle.sigma.proofs.fill_cells.Statement.{statement}
 use Rattle.sigma.proofs.fill_cells.Tie as tie
 

@@ -5,8 +5,8 @@ use native.Mathlib.Omega.{arith}
 use borrow.Author.Needs.{needs}
 use denote.Ref.{now}
 use lib.ListN.{length, length-set}
+use Rattle.planes.specs.Fill.{fill, fill-turn, fill-end}
 use Rattle.sigma.specs.Sigma.{missing}
-use Rattle.sigma.specs.Fill.{fill, fill-turn, fill-end}
 use Rattle.sigma.specs.Runs.{aboveIn, above-same}
 use Rattle.sigma.proofs.fill_missing.Statement.{statement}
 use Rattle.sigma.proofs.fill_missing.Tie as tie

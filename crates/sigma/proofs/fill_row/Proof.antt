@@ -5,9 +5,9 @@ use Prim.Native.Nat.{ℕ, _+_, _-_, _<_, _≤_}
 use native.Mathlib.Omega.{arith}
 use denote.Ref.{now}
 use lib.ListN.{length}
+use Rattle.planes.specs.Fill.{fill, fill-end}
 use Rattle.groups.specs.Held.{notHeld}
 use Rattle.groups.specs.Laws.{none-below, Held, held}
-use Rattle.sigma.specs.Fill.{fill, fill-end}
 use Rattle.sigma.specs.Runs.{rowSigma, RunOf, run-fits, row-turn}
 use Rattle.sigma.proofs.fill_row.Statement.{statement}
 use Rattle.sigma.proofs.fill_row.Tie as tie

@@ -7,9 +7,9 @@ use native.Mathlib.Numerals.{add-one}
 use native.Mathlib.Omega.{arith}
 use denote.Ref.{now}
 use lib.ListN.{length}
+use Rattle.planes.specs.Fill.{fill}
 use Rattle.groups.specs.Held.{across, down}
 use Rattle.groups.specs.Laws.{down-le}
-use Rattle.sigma.specs.Fill.{fill}
 use Rattle.sigma.specs.Runs.{flatSigma, row-fits, rows-turn, rows-end}
 use Rattle.sigma.proofs.fill_rows.Statement.{statement}
 use Rattle.sigma.proofs.fill_rows.Tie as tie

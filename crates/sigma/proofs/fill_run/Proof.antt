@@ -4,9 +4,9 @@ use Prim.Native.Nat.{_+_, _*_, _≤_}
 use borrow.Author.Needs.{needs}
 use native.Mathlib.Omega.{arith}
 use denote.Ref.{now}
+use Rattle.planes.specs.Fill.{fill-cong}
 use Rattle.groups.specs.declared.StartAnswer.{StartAnswer}
 use Rattle.groups.specs.Table.{gridStart, gridWidth}
-use Rattle.sigma.specs.Fill.{fill-cong}
 use Rattle.groups.specs.Laws.{start-le, start-accepted}
 use Rattle.sigma.specs.Runs.{Holds, row-le, run-room, run-present, run-missing}
 use Rattle.sigma.proofs.fill_run.Statement.{statement}
