@@ -60,7 +60,8 @@ fn whole(folder: &Path) -> String {
             pub(crate) mod rows;
             pub(super) mod impls {{
                 pub(crate) mod generic;
-                pub(super) use generic::{{epf_row_handler, gabor_row_handler}};
+                pub(super) use super::rows::epf_row_handler;
+                pub(super) use generic::gabor_row_handler;
             }}
         }}"
     )

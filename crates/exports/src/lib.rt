@@ -1,4 +1,5 @@
 // The C boundary: each function takes its arguments apart, if at all, and passes them on. Names begin with `loupe_`.
+use epf::EpfStep;
 use epf_header::EdgePreservingFilter;
 use epf_header::Encoding;
 use epf_header::EpfAnswer;
@@ -7,6 +8,7 @@ use frame::FrameAnswer;
 use frame::SplitAnswer;
 use gabor_header::Gabor;
 use gabor_header::GaborAnswer;
+use groups::Blocks;
 use half::HalfAnswer;
 use header::RestorationAnswer;
 use header::RestorationFilter;
@@ -16,6 +18,7 @@ use region::EdgeAnswer;
 use region::Region;
 use region::RegionAnswer;
 ghost use mathlib.Core.Path.{_≡_};
+ghost use Rattle.epf.specs.Outcome.{epfOutcome};
 ghost use Rattle.epf_header.specs.EdgeFilter.{epfAt, epfAnswer};
 ghost use Rattle.exports.specs.Boundary.{encodingOf};
 ghost use Rattle.gabor.specs.Outcome.{gaborOutcome};
@@ -26,6 +29,7 @@ ghost use Rattle.layout.specs.Outcome.{PassOutcome};
 ghost use Rattle.frame.specs.Outcome.{frameOutcome, splitOutcome};
 ghost use Rattle.mirror.specs.Outcome.{mirrorOutcome};
 ghost use Rattle.region.specs.Answers.{isEmptyOutcome, rightOutcome, bottomOutcome, containsOutcome, translateOutcome, intersectionOutcome, padOutcome, downsampleOutcome, alignedOutcome};
+ghost use Rattle.sigma.specs.Outcome.{SigmasOutcome, sigmasOutcome};
 
 #[no_mangle]
 pub extern "C" fn loupe_region_is_empty(r: Region) -> BoolAnswer
@@ -165,4 +169,46 @@ pub extern "C" fn loupe_gabor_pass(
 {
     let weights = gabor_header::weights(settings);
     gabor::gabor_pass(image, filter, preserve_outside, weights, from, to, src, dst)
+}
+
+#[no_mangle]
+pub extern "C" fn loupe_block_sigmas(
+    on: bool,
+    frame: Frame,
+    blocks: Blocks,
+    table: &[u32],
+    grids: &[f32],
+    sigma_for_modular: f32,
+    sigmas: &mut [f32],
+) -> u32
+    ensures { λ r. ⌜ _≡_ {A = SigmasOutcome} (record { number = r; sigmas = now (sigmas .exit) }) (sigmasOutcome on frame blocks (now (table .entry)) (now (grids .entry)) «sigma_for_modular» (now (sigmas .entry))) ⌝ }
+{
+    sigma::block_sigmas(on, frame, blocks, table, grids, sigma_for_modular, sigmas)
+}
+
+#[no_mangle]
+pub extern "C" fn loupe_epf_pass(
+    image: Region,
+    filter: Region,
+    preserve_outside: bool,
+    s: EpfStep,
+    sigmas: &[f32],
+    from: u32,
+    to: u32,
+    src: &[f32],
+    dst: &mut [f32],
+) -> u32
+    ensures { λ r. ⌜ _≡_ {A = PassOutcome} (record { number = r; target = now (dst .exit) }) (epfOutcome image filter «preserve_outside» s (now (sigmas .entry)) from to (now (src .entry)) (now (dst .entry))) ⌝ }
+{
+    epf::epf_pass(
+        image,
+        filter,
+        preserve_outside,
+        s,
+        sigmas,
+        from,
+        to,
+        src,
+        dst,
+    )
 }

@@ -7,12 +7,13 @@ use std::{
 
 use crate::{
     boundary::{self, Region},
+    epf::{DEFAULTS, step_of},
     random::Random,
 };
 
 /// How long each case is run; the best run of either side counts.
 const PER_CASE: Duration = Duration::from_secs(2);
-const FEWEST_RUNS: u32 = 5;
+const FEWEST_RUNS: u32 = 9;
 
 const SIZES: [(u32, u32); 6] = [
     (64, 64),
@@ -23,9 +24,24 @@ const SIZES: [(u32, u32); 6] = [
     (7, 2040),
 ];
 
+/// Sides of the pictures of the edge-preserving steps.
+const EPF_SIDES: [u32; 3] = [64, 504, 2040];
+
+/// A sigma that filters a block, and one that copies it.
+const FILTERED: f32 = 1.5;
+const COPIED: f32 = 0.1;
+
 pub fn print() {
     for (width, height) in SIZES {
         gabor(width, height);
+    }
+    for step in 0..3 {
+        for side in EPF_SIDES {
+            epf(step, side, FILTERED);
+        }
+        for side in EPF_SIDES {
+            epf(step, side, COPIED);
+        }
     }
     header();
 }
@@ -101,12 +117,74 @@ fn gabor(width: u32, height: u32) {
             }
         },
     );
+    line(&format!("gabor {width}x{height}"), plane, ours, rust);
+}
+
+/// A line with both times in ns a sample of the three planes.
+fn line(name: &str, plane: usize, ours: f64, rust: f64) {
     let samples = 3.0 * plane as f64;
     println!(
-        "gabor {width}x{height} ours={:.2}ns rust={:.2}ns ratio={:.2}",
+        "{name} ours={:.2}ns rust={:.2}ns ratio={:.2}",
         ours / samples,
         rust / samples,
         ours / rust
+    );
+}
+
+/// One edge-preserving step with the default settings, all blocks with the same sigma.
+fn epf(step: u32, side: u32, sigma: f32) {
+    let width = side as usize;
+    let plane = width * width;
+    let mut random = Random::for_name("bench epf");
+    // Samples differ little, so that neighbours have weight.
+    let source: Vec<f32> = (0..3 * plane)
+        .map(|_| 0.5 + random.within(0, 1 << 20) as f32 / (1 << 26) as f32)
+        .collect();
+    let target = std::cell::RefCell::new(vec![0.0f32; 3 * plane]);
+    let sigmas = vec![sigma; width.div_ceil(8).pow(2)];
+    let image = Region {
+        left: 0,
+        top: 0,
+        width: side,
+        height: side,
+    };
+    let settings = black_box(DEFAULTS);
+    let (ours, rust) = best(
+        || {
+            let mut target = target.borrow_mut();
+            // SAFETY: three whole slices are lent.
+            let number = unsafe {
+                boundary::loupe_epf_pass(
+                    image,
+                    image,
+                    true,
+                    step_of(step, settings),
+                    sigmas.as_ptr(),
+                    sigmas.len(),
+                    0,
+                    side,
+                    black_box(&source).as_ptr(),
+                    source.len(),
+                    target.as_mut_ptr(),
+                    target.len(),
+                )
+            };
+            assert_eq!(number, 0);
+        },
+        || {
+            let mut target = target.borrow_mut();
+            let mut parts = target.chunks_exact_mut(plane);
+            let targets = core::array::from_fn(|_| parts.next().expect("three planes"));
+            let sources = core::array::from_fn(|c| &black_box(&source)[c * plane..][..plane]);
+            oracle::epf_step(step, settings, &sigmas, (width, 0), sources, targets);
+        },
+    );
+    let blocks = if sigma == COPIED { " copied" } else { "" };
+    line(
+        &format!("epf step {step} {side}x{side}{blocks}"),
+        plane,
+        ours,
+        rust,
     );
 }
 

@@ -180,3 +180,58 @@ mod gabor {
         ) -> u32;
     }
 }
+
+pub use self::epf::*;
+
+/// Block sigmas of a filter region, and one edge-preserving step over some rows of its result.
+mod epf {
+    use super::{Frame, Region};
+
+    /// A filter region with its left and top in blocks.
+    #[repr(C)]
+    #[derive(Debug, Clone, Copy)]
+    pub struct Blocks {
+        pub left: u32,
+        pub top: u32,
+        pub width: u32,
+        pub height: u32,
+    }
+
+    #[repr(C)]
+    pub struct EpfStep {
+        pub step: u32,
+        pub channel_scale: [f32; 3],
+        pub multiplier: f32,
+        pub border_sad_mul: f32,
+    }
+
+    // The table has three numbers a group: presence, grid width, grid height.
+    unsafe extern "C" {
+        pub fn loupe_block_sigmas(
+            on: bool,
+            frame: Frame,
+            blocks: Blocks,
+            table: *const u32,
+            table_len: usize,
+            grids: *const f32,
+            grids_len: usize,
+            sigma_for_modular: f32,
+            sigmas: *mut f32,
+            sigmas_len: usize,
+        ) -> u32;
+        pub fn loupe_epf_pass(
+            image: Region,
+            filter: Region,
+            preserve_outside: bool,
+            settings: EpfStep,
+            sigmas: *const f32,
+            sigmas_len: usize,
+            from: u32,
+            to: u32,
+            source: *const f32,
+            source_len: usize,
+            target: *mut f32,
+            target_len: usize,
+        ) -> u32;
+    }
+}

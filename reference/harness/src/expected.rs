@@ -3,11 +3,16 @@
 //! They say which number is given. Where none is, the original's answer is what is compared, and
 //! it must be the rule's as well.
 
+pub mod epf;
 pub mod gabor;
 pub mod header;
+mod pass;
+pub mod sigma;
 
 /// A side, left or top outside the measures, given or resulting.
 pub const OUT_OF_MEASURE: u32 = 4;
+/// A lent slice has a wrong length.
+const WRONG_LENGTH: u32 = 7;
 /// A setting out of range.
 pub const SETTING: u32 = 9;
 
@@ -15,6 +20,8 @@ const LARGEST_SIDE: i128 = 16_384;
 const FARTHEST: i128 = 1_048_576;
 const LARGEST_FACTOR: i128 = 16;
 const LARGEST_ALIGNMENT: i128 = 8_192;
+/// Samples of a block each way.
+const BLOCK: i128 = 8;
 
 /// A result, or the number of the refusal.
 pub type Ruled<T> = Result<T, u32>;
@@ -206,4 +213,9 @@ pub fn split_block(block: i128, group_size_shift: i128) -> Ruled<[i128; 2]> {
     }
     let group_dim = 128 << group_size_shift;
     Ok([block / group_dim, block % group_dim])
+}
+
+/// Blocks along a side.
+fn blocks(side: i128) -> i128 {
+    (side + BLOCK - 1) / BLOCK
 }

@@ -6,16 +6,19 @@
 
 mod bench;
 mod boundary;
+mod epf;
 mod expected;
 mod frame;
 mod gabor;
 mod header;
 mod kinds;
 mod mirror;
+mod picture;
 mod random;
 mod record;
 mod region;
 mod report;
+mod sigma;
 mod subject;
 
 use std::process::ExitCode;
@@ -68,6 +71,8 @@ fn compare(scale: u64) -> ExitCode {
     }
     header::compare(scale, &mut report);
     gabor::compare(scale, &mut report);
+    sigma::compare(scale, &mut report);
+    epf::compare(scale, &mut report);
     if report.finish() {
         ExitCode::SUCCESS
     } else {

@@ -8,7 +8,7 @@ pub use filters::*;
 pub use headers::*;
 pub use sizes::*;
 
-pub use crate::filter::rows::gabor_plane;
+pub use crate::filter::rows::{SigmaRows, gabor_plane};
 
 use crate::{Region, util};
 

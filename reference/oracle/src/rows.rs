@@ -1,7 +1,16 @@
-//! The original's row functions over lent planes, chosen by row as `apply_gabor_like` does, without
-//! its allocations: what the benchmark times. A module of ours among the original's.
+//! The original's row functions over lent planes, with the rows that the original's passes hand
+//! them and without its allocations. A module of ours among the original's.
 
-use super::{gabor::GaborRow, impls::generic::gabor};
+use core::cell::RefCell;
+
+use jxl_frame::filter::EpfParams;
+
+use super::{
+    epf::{EpfRow, EpfRowHandler},
+    gabor::GaborRow,
+    impls::generic::{self, epf, gabor},
+};
+use crate::util;
 
 /// One plane of the Gabor-like filter.
 pub fn gabor_plane(source: &[f32], target: &mut [f32], width: usize, weights: [f32; 2]) {
@@ -22,4 +31,72 @@ pub fn gabor_plane(source: &[f32], target: &mut [f32], width: usize, weights: [f
             });
         }
     }
+}
+
+/// One edge-preserving step over planes of a filter region. `top` is its first row in the image.
+pub fn epf_planes(
+    step: u32,
+    params: &EpfParams,
+    sigmas: &[f32],
+    (width, top): (usize, usize),
+    sources: [&[f32]; 3],
+    targets: [&mut [f32]; 3],
+) {
+    let height = sources[0].len() / width;
+    let blocks = width.div_ceil(8);
+    let [first, second, third] = targets.map(|target| target.chunks_exact_mut(width));
+    for (y, ((first, second), third)) in first.zip(second).zip(third).enumerate() {
+        let rows: [_; 7] = core::array::from_fn(|idx| {
+            let y = util::mirror((y + idx) as isize - 3, height);
+            y * width..(y + 1) * width
+        });
+        let row = EpfRow {
+            input_rows: sources.map(|source| rows.clone().map(|row| &source[row])),
+            merged_input_rows: None,
+            output_rows: [first, second, third],
+            width,
+            y: top + y,
+            sigma_row: &sigmas[y / 8 * blocks..][..blocks],
+            epf_params: params,
+            skip_inner: false,
+        };
+        match step {
+            0 => epf::epf_row::<0>(row),
+            1 => epf::epf_row::<1>(row),
+            2 => epf::epf_row::<2>(row),
+            _ => unreachable!("there are three steps"),
+        }
+    }
+}
+
+/// Rows of the image with the sigmas of their blocks.
+pub type SigmaRows = Vec<(usize, Vec<f32>)>;
+
+thread_local! {
+    /// The sigmas that `apply_epf` hands to a row handler, where they are asked for.
+    static SIGMA_ROWS: RefCell<Option<SigmaRows>> = const { RefCell::new(None) };
+}
+
+/// The sigma rows that a call of `apply_epf` hands to its row handler: those of rows which have
+/// three above and three below them in the filter region.
+pub fn sigma_rows_of(call: impl FnOnce()) -> SigmaRows {
+    SIGMA_ROWS.set(Some(Vec::new()));
+    call();
+    SIGMA_ROWS.take().expect("a handler only adds rows")
+}
+
+/// Stands among the vector handlers: the generic one, or where sigmas are asked for one that notes
+/// them and filters nothing.
+pub fn epf_row_handler<const STEP: usize>() -> Option<EpfRowHandler> {
+    if SIGMA_ROWS.with_borrow(Option::is_some) {
+        return Some(note_sigmas);
+    }
+    generic::epf_row_handler::<STEP>()
+}
+
+fn note_sigmas(row: EpfRow<'_, '_>) {
+    SIGMA_ROWS.with_borrow_mut(|rows| {
+        rows.get_or_insert_default()
+            .push((row.y, row.sigma_row.to_vec()))
+    });
 }

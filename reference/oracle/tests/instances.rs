@@ -155,6 +155,77 @@ fn missing_grid_repeats_the_block_above() {
 }
 
 #[test]
+fn missing_grid_repeats_the_sigma_above() {
+    let frame = Frame {
+        height: 1_032,
+        ..SMALL_FRAME
+    };
+    let filter = Region {
+        left: 0,
+        top: 127 * 8,
+        width: 8,
+        height: 16,
+    };
+    let cells: Vec<f32> = (0u8..128).map(f32::from).collect();
+    let grid = SigmaGrid {
+        width: 1,
+        height: 128,
+        cells,
+    };
+    let shown = sigma_rows(filter, frame, &[Some(grid), None], edge(1));
+    // Rows with three above and three below, all of them in block rows 127 and 128.
+    let rows: Vec<usize> = shown.iter().map(|(row, _)| row - 127 * 8).collect();
+    assert_eq!(rows, Vec::from_iter(3..13));
+    assert!(shown.iter().all(|(_, sigmas)| *sigmas == [127.0]));
+}
+
+#[test]
+fn cells_read_where_document_01_refuses() {
+    let grid = |width, height, cells: &[f32]| {
+        Some(SigmaGrid {
+            width,
+            height,
+            cells: cells.to_vec(),
+        })
+    };
+    // A grid of one column: the next row's cell for block column 1.
+    let wide = Region::with_size(16, 8);
+    let shown = sigma_rows(wide, SMALL_FRAME, &[grid(1, 2, &[1.0, 2.0])], edge(1));
+    assert_eq!(shown[0].1, [1.0, 2.0]);
+    // One group per row, two per column: group row 1 for a block past the first group.
+    let frame = Frame {
+        height: 1_032,
+        ..SMALL_FRAME
+    };
+    let past = Region {
+        left: 1_024,
+        ..Region::with_size(8, 8)
+    };
+    let grids = [grid(1, 1, &[1.0]), grid(1, 1, &[2.0])];
+    assert_eq!(sigma_rows(past, frame, &grids, edge(1))[0].1, [2.0]);
+}
+
+#[test]
+fn nan_sigma_filters() {
+    let planes = |first| [vec![first, 1.0], vec![first, 1.0], vec![first, 1.0]];
+    let step = |first: f32| {
+        let (sources, mut targets) = (planes(first), planes(0.0));
+        epf_step(
+            1,
+            edge(1),
+            &[f32::NAN],
+            (2, 0),
+            sources.each_ref().map(Vec::as_slice),
+            targets.each_mut().map(Vec::as_mut_slice),
+        );
+        targets[0].clone()
+    };
+    assert!(step(-0.0)[0].is_sign_positive());
+    assert!(step(f32::INFINITY)[1].is_nan());
+    assert!(step(f32::NAN)[1].is_nan());
+}
+
+#[test]
 fn header_refusals() {
     assert_eq!(parse_gabor(&[], 0), Err(Error::BitsRunOut));
     assert_eq!(parse_gabor(&[0], usize::MAX), Err(Error::BitsRunOut));

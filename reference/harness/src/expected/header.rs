@@ -1,11 +1,10 @@
 //! The filter header's fields as a table: condition, width, default.
 
-use super::Ruled;
+use super::{Ruled, WRONG_LENGTH};
 
 const BITS_RUN_OUT: u32 = 1;
 const HALF_NOT_FINITE: u32 = 2;
 const KERNEL_NEAR_ZERO: u32 = 3;
-const WRONG_LENGTH: u32 = 7;
 
 const LONGEST_SLICE: usize = 65_536;
 

@@ -5,8 +5,8 @@ use jxl_frame::data::LfGroup;
 use jxl_frame::filter::{EpfParams, EpfSigma};
 use standins::{AlignedGrid, HfMetadata, Tasks, block_on};
 
-use super::{Edge, Frame, Weights, sizes::header};
-use crate::filter::{epf::apply_epf, gabor::apply_gabor_like, owned::FilterImage};
+use super::{Edge, Frame, SigmaRows, Weights, sizes::header};
+use crate::filter::{epf::apply_epf, gabor::apply_gabor_like, owned::FilterImage, rows};
 use crate::{ImageBuffer, ImageWithRegion, Region};
 
 /// Three planes, each row after row without gaps.
@@ -50,7 +50,48 @@ pub fn epf(
         .map(|(index, grid)| (index, group(grid.clone())))
         .collect();
     let frame = header(frame);
-    let params = EpfParams {
+    let params = params(settings);
+    through(place, planes, |input| {
+        block_on(apply_epf(input, &groups, &frame, &params, &Tasks))
+    })
+}
+
+/// The sigma rows that `apply_epf` makes of the grids for a filter region, each with its row of
+/// the image; the conditions of [`epf`] hold here too.
+pub fn sigma_rows(
+    filter: Region,
+    frame: Frame,
+    grids: &[Option<SigmaGrid>],
+    settings: Edge,
+) -> SigmaRows {
+    let place = Place {
+        image: filter,
+        filter,
+        preserve_outside: false,
+    };
+    let samples = filter.width as usize * filter.height as usize;
+    let planes = core::array::from_fn(|_| vec![0.0; samples]);
+    rows::sigma_rows_of(|| {
+        epf(place, frame, grids, settings, planes);
+    })
+}
+
+/// `epf_row` for one step over planes of the filter region, with a sigma for each of its blocks.
+/// `width` is the region's, `top` its first row in the image.
+pub fn epf_step(
+    step: u32,
+    settings: Edge,
+    sigmas: &[f32],
+    (width, top): (usize, usize),
+    sources: [&[f32]; 3],
+    targets: [&mut [f32]; 3],
+) {
+    let params = params(settings);
+    rows::epf_planes(step, &params, sigmas, (width, top), sources, targets);
+}
+
+fn params(settings: Edge) -> EpfParams {
+    EpfParams {
         iters: settings.iters,
         sharp_lut: settings.sharp_lut,
         channel_scale: settings.channel_scale,
@@ -61,10 +102,7 @@ pub fn epf(
             border_sad_mul: settings.sigma.border_sad_mul,
         },
         sigma_for_modular: settings.sigma_for_modular,
-    };
-    through(place, planes, |input| {
-        block_on(apply_epf(input, &groups, &frame, &params, &Tasks))
-    })
+    }
 }
 
 fn group(grid: Option<SigmaGrid>) -> LfGroup<i32> {

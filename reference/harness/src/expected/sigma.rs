@@ -1,0 +1,164 @@
+//! Block sigmas: the number that their inputs get, and the sigma of each block.
+
+use super::{
+    BLOCK, OUT_OF_MEASURE, Region, Ruled, SETTING, WRONG_LENGTH, blocks, group_sizes,
+    pass::measured, split_block,
+};
+
+const NOT_HELD: u32 = 8;
+
+const LARGEST_GRID_SIDE: u32 = 1_024;
+
+/// Frame sides, upsampling, LF level and group size shift.
+#[derive(Debug, Clone, Copy)]
+pub struct Frame {
+    pub width: i128,
+    pub height: i128,
+    pub upsampling: i128,
+    pub lf_level: i128,
+    pub group_size_shift: i128,
+}
+
+impl Frame {
+    /// Groups per row, per column and in all.
+    fn groups(self) -> Ruled<[i128; 3]> {
+        let [.., across, down, all] = group_sizes(
+            self.width,
+            self.height,
+            self.upsampling,
+            self.lf_level,
+            self.group_size_shift,
+        )?;
+        Ok([across, down, all])
+    }
+
+    /// Group and inner cell of a block column or row.
+    fn split(self, block: i128) -> [i128; 2] {
+        split_block(block, self.group_size_shift).expect("the frame has groups")
+    }
+}
+
+/// What block sigmas are asked with; the filter region's left and top are multiples of 8.
+#[derive(Debug, Clone, Copy)]
+pub struct Handed<'a> {
+    pub on: bool,
+    pub frame: Frame,
+    pub filter: Region,
+    pub table: &'a [u32],
+    pub grids: usize,
+    pub sigmas: usize,
+}
+
+/// Where several numbers apply, the lowest.
+pub fn number(handed: Handed) -> u32 {
+    let mut numbers = Vec::new();
+    let region_fits = measured(handed.filter);
+    if !region_fits {
+        numbers.push(OUT_OF_MEASURE);
+    } else if handed.sigmas as i128 != due_sigmas(handed) {
+        numbers.push(WRONG_LENGTH);
+    }
+    match handed.frame.groups() {
+        Err(number) => numbers.push(number),
+        Ok([.., all]) if handed.table.len() as i128 != 3 * all => numbers.push(WRONG_LENGTH),
+        Ok(_) => {
+            numbers.extend(of_entries(handed));
+            if handed.on && region_fits && !all_held(handed) {
+                numbers.push(NOT_HELD);
+            }
+        }
+    }
+    numbers.into_iter().min().unwrap_or(0)
+}
+
+fn due_sigmas(handed: Handed) -> i128 {
+    if handed.on {
+        blocks(handed.filter.width) * blocks(handed.filter.height)
+    } else {
+        0
+    }
+}
+
+/// Presence is 0 or 1, a present grid's sides are 1 to 1,024, and the grids have all their cells.
+fn of_entries(handed: Handed) -> Vec<u32> {
+    let mut numbers = Vec::new();
+    let mut cells = Some(0);
+    for entry in handed.table.chunks_exact(3) {
+        match entry[0] {
+            0 => {}
+            1 => {
+                let side = |length: u32| (1..=LARGEST_GRID_SIDE).contains(&length);
+                if !side(entry[1]) || !side(entry[2]) {
+                    numbers.push(OUT_OF_MEASURE);
+                }
+                cells = cells.map(|n| n + u128::from(entry[1]) * u128::from(entry[2]));
+            }
+            _ => {
+                numbers.push(SETTING);
+                cells = None;
+            }
+        }
+    }
+    if cells.is_some_and(|cells| cells != handed.grids as u128) {
+        numbers.push(WRONG_LENGTH);
+    }
+    numbers
+}
+
+/// Block columns and rows of the filter region.
+fn touched(filter: Region) -> (core::ops::Range<i128>, core::ops::Range<i128>) {
+    let along = |start: i128, side| start / BLOCK..start / BLOCK + blocks(side);
+    (
+        along(filter.left, filter.width),
+        along(filter.top, filter.height),
+    )
+}
+
+/// Each touched block's group is one of the frame, and its grid, if present, holds it.
+fn all_held(handed: Handed) -> bool {
+    let [across, down, _] = handed.frame.groups().expect("judged before");
+    let (columns, rows) = touched(handed.filter);
+    rows.clone().all(|by| {
+        let [group_row, row] = handed.frame.split(by);
+        columns.clone().all(|bx| {
+            let [group_column, column] = handed.frame.split(bx);
+            if group_column >= across || group_row >= down {
+                return false;
+            }
+            let group = (group_row * across + group_column) as usize;
+            let entry = &handed.table[3 * group..][..3];
+            entry[0] != 1 || column < entry[1].into() && row < entry[2].into()
+        })
+    })
+}
+
+/// The sigma of each block of the filter region, where no number applies.
+pub fn sigmas(handed: Handed, grids: &[f32], modular: f32) -> Vec<f32> {
+    let [across, ..] = handed.frame.groups().expect("judged before");
+    let cells = |entry: &[u32]| (entry[0] * entry[1] * entry[2]) as usize;
+    let start = |group: usize| -> usize {
+        let before = &handed.table[..3 * group];
+        before
+            .chunks_exact(3)
+            .filter(|e| e[0] == 1)
+            .map(cells)
+            .sum()
+    };
+    let starts: Vec<usize> = (0..handed.table.len() / 3).map(start).collect();
+    let (columns, rows) = touched(handed.filter);
+    let mut above = vec![modular; columns.clone().count()];
+    let mut sigmas = Vec::new();
+    for by in rows {
+        let [group_row, row] = handed.frame.split(by);
+        for (bx, sigma) in columns.clone().zip(&mut above) {
+            let [group_column, column] = handed.frame.split(bx);
+            let group = (group_row * across + group_column) as usize;
+            let entry = &handed.table[3 * group..][..3];
+            if entry[0] == 1 {
+                *sigma = grids[starts[group] + row as usize * entry[1] as usize + column as usize];
+            }
+        }
+        sigmas.extend_from_slice(&above);
+    }
+    sigmas
+}

@@ -1,0 +1,193 @@
+//! Pictures that passes are compared on: where they lie, their samples, and what of them is written.
+
+use crate::{boundary, expected, random::Random, report::Row};
+
+/// Samples beside ordinary ones: zeros, subnormals, the largest, infinities and NaN.
+const SAMPLES: [u32; 12] = [
+    0x0000_0000, 0x8000_0000, 0x0000_0001, 0x807F_FFFF, 0x0080_0000, 0x7F7F_FFFF, 0xFF7F_FFFF,
+    0x7F80_0000, 0xFF80_0000, 0x7FC0_0000, 0x7F80_0001, 0xFFFF_FFFF,
+];
+
+/// Sides and corners at their limits.
+const SIDES: [u32; 6] = [0, 1, 3, 16_384, 16_385, u32::MAX];
+const CORNERS: [i32; 8] = [
+    i32::MIN,
+    -1_048_577,
+    -1_048_576,
+    0,
+    1,
+    1_048_576,
+    1_048_577,
+    i32::MAX,
+];
+
+/// Rows of a result, from the first up to the last.
+pub type Rows = (u32, u32);
+
+/// The region that a pass writes.
+pub fn result(place: &oracle::Place) -> oracle::Region {
+    if place.preserve_outside {
+        place.image
+    } else {
+        place.filter
+    }
+}
+
+/// Samples of a set of the image.
+pub fn set_len(place: &oracle::Place) -> usize {
+    3 * place.image.width as usize * place.image.height as usize
+}
+
+/// The three planes of a set.
+pub fn planes(set: &[f32]) -> oracle::Planes {
+    let plane = set.len() / 3;
+    core::array::from_fn(|c| set[c * plane..][..plane].to_vec())
+}
+
+/// Where each row of a region inside the image lies in a set, plane after plane.
+pub fn runs(
+    image: oracle::Region,
+    part: oracle::Region,
+    (from, to): Rows,
+) -> impl Iterator<Item = core::ops::Range<usize>> {
+    let (width, height) = (image.width as usize, image.height as usize);
+    let left = part.left.abs_diff(image.left) as usize;
+    let top = part.top.abs_diff(image.top) as usize;
+    let columns = part.width as usize;
+    (0..3)
+        .flat_map(move |c| (from as usize..to as usize).map(move |row| c * height + top + row))
+        .map(move |row| row * width + left..row * width + left + columns)
+}
+
+/// Writes rows of the result where they lie in a set of the image.
+pub fn store(
+    place: &oracle::Place,
+    result_planes: &oracle::Planes,
+    rows: Rows,
+    target: &mut [f32],
+) {
+    let part = result(place);
+    let columns = part.width as usize;
+    let from = rows.0 as usize * columns..rows.1 as usize * columns;
+    let given = result_planes
+        .iter()
+        .flat_map(|plane| plane[from.clone()].chunks_exact(columns));
+    for (run, row) in runs(place.image, part, rows).zip(given) {
+        target[run].copy_from_slice(row);
+    }
+}
+
+/// A number and a set are what is due.
+pub fn judge(
+    case: &dyn core::fmt::Debug,
+    rows: Rows,
+    ours: (u32, &[f32]),
+    due: (u32, &[f32]),
+    row: &mut Row,
+) {
+    row.count(due.0);
+    let first = ours.1.iter().zip(due.1).position(|(a, b)| !agree(*a, *b));
+    if let Some(at) = first {
+        row.differs(&(case, rows, at), &ours.1[at], &due.1[at]);
+    } else if ours.0 != due.0 {
+        row.differs(&(case, rows), &ours.0, &due.0);
+    }
+}
+
+/// The same bits or two NaNs.
+pub fn agree(a: f32, b: f32) -> bool {
+    a.to_bits() == b.to_bits() || a.is_nan() && b.is_nan()
+}
+
+pub fn region(r: oracle::Region) -> boundary::Region {
+    boundary::Region {
+        left: r.left,
+        top: r.top,
+        width: r.width,
+        height: r.height,
+    }
+}
+
+pub fn wide(r: oracle::Region) -> expected::Region {
+    expected::Region {
+        left: r.left.into(),
+        top: r.top.into(),
+        width: r.width.into(),
+        height: r.height.into(),
+    }
+}
+
+/// Mostly small and plain, else with a side or corner at a limit.
+pub fn any_region(random: &mut Random) -> oracle::Region {
+    let mut small = |least: i128, most: i128| random.within(least, most);
+    let mut r = oracle::Region {
+        left: small(-1, 2) as i32,
+        top: small(-1, 2) as i32,
+        width: small(1, 3) as u32,
+        height: small(1, 3) as u32,
+    };
+    match random.within(0, 15) {
+        0 => r.left = random.one_of(&CORNERS),
+        1 => r.top = random.one_of(&CORNERS),
+        2 => r.width = random.one_of(&SIDES),
+        3 => r.height = random.one_of(&SIDES),
+        4 => (r.width, r.height) = (random.one_of(&SIDES), random.one_of(&SIDES)),
+        _ => {}
+    }
+    r
+}
+
+pub fn any_row(random: &mut Random) -> u32 {
+    match random.within(0, 9) {
+        0 => u32::MAX,
+        1 => 4,
+        _ => random.within(0, 3) as u32,
+    }
+}
+
+/// The due length of a small image's set, or one beside it.
+pub fn any_set_len(image: oracle::Region, random: &mut Random) -> usize {
+    let due = if image.width <= 3 && image.height <= 3 {
+        3 * (image.width * image.height) as usize
+    } else {
+        27
+    };
+    any_len(due, random)
+}
+
+/// A length, or one beside it.
+pub fn any_len(due: usize, random: &mut Random) -> usize {
+    match random.within(0, 9) {
+        0 => due + 1,
+        1 => due.saturating_sub(1),
+        2 => 0,
+        _ => due,
+    }
+}
+
+/// Plain samples, in one set of four with special ones among them.
+pub fn samples(count: usize, random: &mut Random) -> Vec<f32> {
+    let mixed = random.once_in(4);
+    (0..count)
+        .map(|_| {
+            if mixed && random.once_in(8) {
+                special(random)
+            } else {
+                plain(random)
+            }
+        })
+        .collect()
+}
+
+/// Between -1 and 1.
+pub fn plain(random: &mut Random) -> f32 {
+    random.within(-(1 << 24), 1 << 24) as f32 / (1 << 24) as f32
+}
+
+pub fn special(random: &mut Random) -> f32 {
+    if random.once_in(4) {
+        f32::from_bits(random.next() as u32)
+    } else {
+        f32::from_bits(random.one_of(&SAMPLES))
+    }
+}

@@ -1,0 +1,469 @@
+//! Block sigmas: frames of 1 to 4 groups each way with filter regions where groups meet, grids that
+//! are missing or too narrow, and refusals.
+
+use core::fmt;
+
+use crate::{
+    boundary,
+    expected::{self, sigma as rule},
+    picture::{agree, any_len, judge, plain, special},
+    random::Random,
+    report::{Report, Row},
+};
+
+/// Filter regions where groups meet for each count of groups, before `--scale`, by group size shift.
+const MEETINGS: [u64; 4] = [40, 10, 3, 2];
+/// The most groups each way by group size shift.
+pub const GROUPS: [u32; 4] = [4, 4, 4, 2];
+/// Draws of wrong inputs, before `--scale`.
+const DRAWS: u64 = 60_000;
+/// Cells of a grid repeat after so many, a prime that is no sum of few rows.
+const PERIOD: usize = 8_191;
+
+const NAME: &str = "block sigmas";
+
+/// Sides of frames and filter regions, and corners in blocks, at their limits.
+const SIDES: [u32; 6] = [0, 1, 8, 16_384, 16_385, u32::MAX];
+const CORNERS: [u32; 5] = [127, 128, 131_072, 131_073, u32::MAX];
+
+/// What is asked but the lent sigmas. The filter region's left and top are in blocks.
+#[derive(Clone)]
+pub struct Case {
+    pub frame: oracle::Frame,
+    pub blocks: boundary::Blocks,
+    pub table: Vec<u32>,
+    pub grids: Vec<f32>,
+    pub modular: f32,
+}
+
+impl fmt::Debug for Case {
+    fn fmt(&self, f: &mut fmt::Formatter) -> fmt::Result {
+        f.debug_struct("Case")
+            .field("frame", &self.frame)
+            .field("blocks", &self.blocks)
+            .field("table", &self.table)
+            .field("modular", &self.modular)
+            .finish_non_exhaustive()
+    }
+}
+
+impl Case {
+    pub fn ours(&self, on: bool, sigmas: &mut [f32]) -> u32 {
+        let frame = boundary::Frame {
+            width: self.frame.width,
+            height: self.frame.height,
+            upsampling: self.frame.upsampling,
+            lf_level: self.frame.lf_level,
+            group_size_shift: self.frame.group_size_shift,
+        };
+        // SAFETY: three whole slices are lent.
+        unsafe {
+            boundary::loupe_block_sigmas(
+                on,
+                frame,
+                self.blocks,
+                self.table.as_ptr(),
+                self.table.len(),
+                self.grids.as_ptr(),
+                self.grids.len(),
+                self.modular,
+                sigmas.as_mut_ptr(),
+                sigmas.len(),
+            )
+        }
+    }
+
+    fn handed(&self, on: bool, sigmas: usize) -> rule::Handed<'_> {
+        rule::Handed {
+            on,
+            frame: rule::Frame {
+                width: self.frame.width.into(),
+                height: self.frame.height.into(),
+                upsampling: self.frame.upsampling.into(),
+                lf_level: self.frame.lf_level.into(),
+                group_size_shift: self.frame.group_size_shift.into(),
+            },
+            filter: expected::Region {
+                left: 8 * i128::from(self.blocks.left),
+                top: 8 * i128::from(self.blocks.top),
+                width: self.blocks.width.into(),
+                height: self.blocks.height.into(),
+            },
+            table: &self.table,
+            grids: self.grids.len(),
+            sigmas,
+        }
+    }
+
+    /// The filter region of a case that is accepted.
+    pub fn filter(&self) -> oracle::Region {
+        oracle::Region {
+            left: 8 * self.blocks.left as i32,
+            top: 8 * self.blocks.top as i32,
+            width: self.blocks.width,
+            height: self.blocks.height,
+        }
+    }
+
+    /// The grids of a case that is accepted.
+    pub fn rust_grids(&self) -> Vec<Option<oracle::SigmaGrid>> {
+        let mut rest = &self.grids[..];
+        let mut grid = |entry: &[u32]| {
+            let (width, height) = (entry[1] as usize, entry[2] as usize);
+            let cells = rest.split_off(..width * height)?.to_vec();
+            Some(oracle::SigmaGrid {
+                width,
+                height,
+                cells,
+            })
+        };
+        self.table
+            .chunks_exact(3)
+            .map(|entry| if entry[0] == 1 { grid(entry) } else { None })
+            .collect()
+    }
+
+    /// Blocks of the filter region; one where it is larger than any.
+    pub fn count(&self) -> usize {
+        let (width, height) = (self.blocks.width as usize, self.blocks.height as usize);
+        if width.max(height) > 16_384 || width * height > 16_777_216 {
+            return 1;
+        }
+        width.div_ceil(8) * height.div_ceil(8)
+    }
+}
+
+pub fn compare(scale: u64, report: &mut Report) {
+    let mut random = Random::for_name(NAME);
+    let mut row = Row::new(NAME, "instances");
+    for shift in 0..4 {
+        for case in carried(shift, &mut random) {
+            carry(&case, &mut random, &mut row);
+        }
+    }
+    report.add(row);
+    let mut row = Row::new(NAME, "groups meet");
+    for (shift, (most, cases)) in (0..).zip(GROUPS.into_iter().zip(MEETINGS)) {
+        for groups in 0..most * most {
+            let groups = (1 + groups % most, 1 + groups / most);
+            for _ in 0..cases * scale {
+                let case = meeting(shift, groups, false, &mut random);
+                check(&case, true, case.count(), &mut random, &mut row);
+            }
+        }
+    }
+    report.add(row);
+    let mut row = Row::new(NAME, "narrow grids");
+    for _ in 0..2_000 * scale {
+        let groups = (random.within(1, 4) as u32, random.within(1, 4) as u32);
+        let case = meeting(0, groups, true, &mut random);
+        check(&case, true, case.count(), &mut random, &mut row);
+    }
+    report.add(row);
+    let mut row = Row::new(NAME, "whole frames");
+    for (width, height) in [(16_384, 64), (64, 16_384), (2_040, 1_500), (1_500, 2_044)] {
+        for shift in 0..4 {
+            let case = whole(shift, width, height, &mut random);
+            check(&case, true, case.count(), &mut random, &mut row);
+        }
+    }
+    report.add(row);
+    let mut row = Row::new(NAME, "refusals");
+    for _ in 0..DRAWS * scale {
+        wrong(&mut random, &mut row);
+    }
+    report.add(row);
+}
+
+/// The number and the sigmas are the rule's, and the sigmas are the original's in all rows that it
+/// shows.
+fn check(case: &Case, on: bool, lent: usize, random: &mut Random, row: &mut Row) {
+    let before: Vec<f32> = (0..lent).map(|_| special(random)).collect();
+    let mut ours = before.clone();
+    let given = case.ours(on, &mut ours);
+    let handed = case.handed(on, lent);
+    let number = rule::number(handed);
+    if number != 0 || !on {
+        judge(case, (0, 0), (given, &ours), (number, &before), row);
+        return;
+    }
+    let due = rule::sigmas(handed, &case.grids, case.modular);
+    judge(case, (0, 0), (given, &ours), (0, &due), row);
+    let shown = oracle::sigma_rows(
+        case.filter(),
+        case.frame,
+        &case.rust_grids(),
+        settings(case.modular),
+    );
+    assert!(case.blocks.height < 7 || !shown.is_empty());
+    let across = case.blocks.width.div_ceil(8) as usize;
+    for (y, rust) in shown {
+        let at = (y / 8 - case.blocks.top as usize) * across;
+        let same = ours[at..].iter().zip(&rust).all(|(a, b)| agree(*a, *b));
+        if !same || rust.len() != across {
+            row.differs(&(case, y), &&ours[at..at + across], &rust);
+        }
+    }
+}
+
+/// Settings of one iteration; the original's sigmas depend on `sigma_for_modular` alone.
+fn settings(sigma_for_modular: f32) -> oracle::Edge {
+    oracle::Edge {
+        iters: 1,
+        sharp_lut: [0.0; 8],
+        channel_scale: [1.0; 3],
+        sigma: oracle::Sigma {
+            quant_mul: 1.0,
+            pass0_sigma_scale: 1.0,
+            pass2_sigma_scale: 1.0,
+            border_sad_mul: 1.0,
+        },
+        sigma_for_modular,
+    }
+}
+
+/// Group row 0 has grids, row 1 none, and a filter region of one block column around their meeting.
+pub fn carried(shift: u32, random: &mut Random) -> [Case; 4] {
+    let dim = 128 << shift;
+    [(dim - 1, 16), (dim - 2, 39), (dim, 16), (dim + 1, 8)].map(|(top, height)| Case {
+        frame: oracle::Frame {
+            width: 8,
+            height: 8 * dim + 8,
+            upsampling: 1,
+            lf_level: 0,
+            group_size_shift: shift,
+        },
+        blocks: boundary::Blocks {
+            left: 0,
+            top,
+            width: 8,
+            height,
+        },
+        table: vec![1, 1, dim, 0, 0, 0],
+        grids: (0..dim).map(|_| sigma(random)).collect(),
+        modular: 1.0,
+    })
+}
+
+/// Blocks of group row 1 repeat the last row above, where the filter region has it.
+fn carry(case: &Case, random: &mut Random, row: &mut Row) {
+    check(case, true, case.count(), random, row);
+    let mut sigmas = vec![0.0; case.count()];
+    case.ours(true, &mut sigmas);
+    let (dim, top) = (case.grids.len(), case.blocks.top as usize);
+    let above = if top < dim {
+        case.grids[dim - 1]
+    } else {
+        case.modular
+    };
+    let missing = &sigmas[dim.saturating_sub(top)..];
+    if !missing.iter().all(|&sigma| agree(sigma, above)) {
+        row.differs(case, &missing, &above);
+    }
+}
+
+/// A frame of so many groups each way, and a filter region around a corner of one of its groups.
+/// A narrow grid lacks a column or a row of its blocks.
+pub fn meeting(shift: u32, groups: (u32, u32), narrow: bool, random: &mut Random) -> Case {
+    let frame = frame(shift, groups, random);
+    let dim = 128 << shift;
+    let (left, columns) = around(dim, groups.0, random);
+    let (top, rows) = around(dim, groups.1, random);
+    let part = |random: &mut Random| random.within(0, 7) as u32;
+    let blocks = boundary::Blocks {
+        left,
+        top,
+        width: 8 * columns - part(random),
+        height: 8 * rows - part(random),
+    };
+    filled(frame, blocks, groups, narrow, random)
+}
+
+/// Blocks around a place where groups of so many blocks meet, or at an end of the frame: the first
+/// and their count.
+fn around(dim: u32, groups: u32, random: &mut Random) -> (u32, u32) {
+    let place = dim * random.within(0, groups.into()) as u32;
+    let first = place.saturating_sub(random.within(0, 6) as u32);
+    let first = first.min(groups * dim - 1);
+    let most = (groups * dim - first).min(12);
+    (first, random.within(1, most.into()) as u32)
+}
+
+/// A frame that has so many groups each way, with any upsampling and LF level that leave room.
+fn frame(shift: u32, groups: (u32, u32), random: &mut Random) -> oracle::Frame {
+    let group = 1_024 << shift;
+    let least = |groups: u32| (groups - 1) * group + 1;
+    let largest = least(groups.0.max(groups.1));
+    let (mut upsampling, mut lf_level) = (1 << random.within(0, 3), random.within(0, 4) as u32);
+    if (upsampling << (3 * lf_level)) * largest > 16_384 {
+        (upsampling, lf_level) = (1, 0);
+    }
+    let shrink: u32 = upsampling << (3 * lf_level);
+    let mut side = |groups: u32| {
+        let most = (groups * group).min(16_384 / shrink);
+        let samples = random.within(least(groups).into(), most.into()) as u32;
+        samples * shrink - random.within(0, i128::from(shrink) - 1) as u32
+    };
+    oracle::Frame {
+        width: side(groups.0),
+        height: side(groups.1),
+        upsampling,
+        lf_level,
+        group_size_shift: shift,
+    }
+}
+
+/// Grids for the blocks: each is missing, just large enough, a little larger, or narrow.
+fn filled(
+    frame: oracle::Frame,
+    blocks: boundary::Blocks,
+    (across, down): (u32, u32),
+    narrow: bool,
+    random: &mut Random,
+) -> Case {
+    let dim = 128 << frame.group_size_shift;
+    let mut table = Vec::new();
+    let mut cells = 0;
+    for group in 0..across * down {
+        let needs = [
+            needed(group % across, dim, blocks.left, blocks.width),
+            needed(group / across, dim, blocks.top, blocks.height),
+        ];
+        if random.once_in(3) {
+            table.extend([0, random.next() as u32, random.next() as u32]);
+            continue;
+        }
+        let mut sides = needs.map(|need| dim.min(need + random.within(0, 3) as u32).max(1));
+        if narrow && random.once_in(3) {
+            let at = random.within(0, 1) as usize;
+            sides[at] = needs[at].saturating_sub(1).max(1);
+        }
+        table.extend([1, sides[0], sides[1]]);
+        cells += sides[0] as usize * sides[1] as usize;
+    }
+    Case {
+        frame,
+        blocks,
+        table,
+        grids: sigmas(cells, random),
+        modular: sigma(random),
+    }
+}
+
+/// Cells of a group's grid that the blocks need along one direction.
+fn needed(group: u32, dim: u32, first: u32, side: u32) -> u32 {
+    let past = first + side.div_ceil(8);
+    let start = group * dim;
+    if past <= start || first >= start + dim {
+        return 0;
+    }
+    (past - start).min(dim)
+}
+
+/// A filter region that is large, from the corner of the frame on.
+fn whole(shift: u32, width: u32, height: u32, random: &mut Random) -> Case {
+    let frame = oracle::Frame {
+        width,
+        height,
+        upsampling: 1,
+        lf_level: 0,
+        group_size_shift: shift,
+    };
+    let blocks = boundary::Blocks {
+        left: 0,
+        top: 0,
+        width,
+        height,
+    };
+    let groups = |side: u32| side.div_ceil(1_024 << shift);
+    filled(
+        frame,
+        blocks,
+        (groups(width), groups(height)),
+        false,
+        random,
+    )
+}
+
+/// A sound case with one to three things wrong.
+fn wrong(random: &mut Random, row: &mut Row) {
+    let groups = (random.within(1, 2) as u32, random.within(1, 2) as u32);
+    let narrow = random.once_in(4);
+    let mut case = meeting(0, groups, narrow, random);
+    let mut on = !random.once_in(8);
+    let mut lent = if on { case.count() } else { 0 };
+    for _ in 0..random.within(1, 3) {
+        match random.within(0, 4) {
+            0 => wrong_frame(&mut case.frame, random),
+            1 => {
+                wrong_blocks(&mut case.blocks, random);
+                lent = case.count();
+            }
+            2 => wrong_table(&mut case.table, random),
+            3 => {
+                let due = any_len(case.grids.len(), random);
+                case.grids.resize(due, 1.0);
+            }
+            _ => {
+                lent = any_len(lent, random);
+                on ^= random.once_in(4);
+            }
+        }
+    }
+    check(&case, on, lent, random, row);
+}
+
+fn wrong_frame(frame: &mut oracle::Frame, random: &mut Random) {
+    match random.within(0, 4) {
+        0 => frame.width = random.one_of(&SIDES),
+        1 => frame.height = random.one_of(&SIDES),
+        2 => frame.upsampling = random.one_of(&[0, 3, 5, 16, u32::MAX]),
+        3 => frame.lf_level = random.one_of(&[5, 6, 64, u32::MAX]),
+        _ => frame.group_size_shift = random.one_of(&[4, 5, 32, u32::MAX]),
+    }
+}
+
+fn wrong_blocks(blocks: &mut boundary::Blocks, random: &mut Random) {
+    match random.within(0, 4) {
+        0 => blocks.width = random.one_of(&SIDES),
+        1 => blocks.height = random.one_of(&SIDES),
+        2 => blocks.left = random.one_of(&CORNERS),
+        3 => blocks.top = random.one_of(&CORNERS),
+        _ => (blocks.width, blocks.height) = (random.one_of(&SIDES), random.one_of(&SIDES)),
+    }
+}
+
+fn wrong_table(table: &mut Vec<u32>, random: &mut Random) {
+    let entry = 3 * random.within(0, table.len() as i128 / 3 - 1).max(0) as usize;
+    if table.len() < entry + 3 {
+        return;
+    }
+    match random.within(0, 4) {
+        0 => table[entry] = random.one_of(&[2, 3, u32::MAX]),
+        1 => table[entry + 1] = random.one_of(&[0, 1, 1_024, 1_025, u32::MAX]),
+        2 => table[entry + 2] = random.one_of(&[0, 1, 1_024, 1_025, u32::MAX]),
+        3 => table.truncate(any_len(table.len() - 1, random)),
+        _ => table.extend([0, 0, 0]),
+    }
+}
+
+/// Sigmas of so many cells.
+fn sigmas(cells: usize, random: &mut Random) -> Vec<f32> {
+    let first: Vec<f32> = (0..cells.min(PERIOD)).map(|_| sigma(random)).collect();
+    let mut all = Vec::with_capacity(cells);
+    while all.len() < cells {
+        all.extend_from_slice(&first[..first.len().min(cells - all.len())]);
+    }
+    all
+}
+
+/// A sigma: plain, at the copying limit or beside it, negative, zero, infinite or NaN.
+pub fn sigma(random: &mut Random) -> f32 {
+    match random.within(0, 9) {
+        0..=5 => 0.3 + 4.0 * plain(random).abs(),
+        6 => f32::from_bits(random.one_of(&[0x3E99_9999, 0x3E99_999A, 0x3E99_999B])),
+        7 => -plain(random).abs(),
+        8 => random.one_of(&[0.0, -0.0, f32::NAN, f32::INFINITY, f32::NEG_INFINITY]),
+        _ => special(random),
+    }
+}
