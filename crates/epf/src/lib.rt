@@ -20,7 +20,7 @@ ghost use Rattle.planes.specs.Stored.{LayoutFits, BandFits};
 ghost use Rattle.layout.specs.Outcome.{PassOutcome};
 ghost use Rattle.tiles.specs.Tile.{stepOver};
 ghost use Rattle.tiles.specs.Region.{RegionFits};
-ghost use Rattle.epf.specs.Blocks.{ahead as aheadOf, onBlock};
+ghost use Rattle.epf.specs.Blocks.{ahead as aheadOf, onBlock, onBlocks};
 ghost use Rattle.epf.specs.Outcome.{stepChecks, epfOutcome};
 
 const PLANES: usize = 3;
@@ -42,7 +42,7 @@ pub struct EpfStep {
 }
 
 // A left or a top that is not negative.
-fn ahead(z: i32) -> usize
+pub fn ahead(z: i32) -> usize
     ensures { λ r. ⌜ (r ≡ aheadOf z) × (r ≤ 4294967296) ⌝ }
 {
     if z < 0 {
@@ -59,6 +59,16 @@ fn on_block(z: i32) -> bool
         return false;
     }
     ahead(z) % 8 == 0
+}
+
+// Whether a region starts at multiples of 8.
+pub fn on_blocks(r: Region) -> bool
+    ensures { λ b. ⌜ b ≡ onBlocks r ⌝ }
+{
+    if !on_block(r.left) {
+        return false;
+    }
+    on_block(r.top)
 }
 
 // Which number the corner, the lengths, the step and the rows give.

@@ -18,7 +18,11 @@ always n f = record { number = n; needs = true; fault = f }
 abbrev pub given : Bool → ℕ → Bool → Check
 given s n f = record { number = n; needs = s; fault = f }
 
+-- a check applies where the settings that it needs are in range and its condition holds
+abbrev pub applies : Check → Bool
+applies c = c .needs && c .fault
+
 -- the number of the first check that applies, 0 where none does
 abbrev pub firstOf : List Check → ℕ
 firstOf [] = 0
-firstOf (c ∷ cs) = cond (c .needs && c .fault) (c .number) (firstOf cs)
+firstOf (c ∷ cs) = cond (applies c) (c .number) (firstOf cs)
