@@ -1,0 +1,36 @@
+-- `record::band_missing` meets its contract. Assumes nothing.
+use mathlib.Core.Path.{_≡_, refl, sym, ap, _∙_}
+use mathlib.Core.Bool.{Bool, true, false, not}
+use Prim.Native.Nat.{ℕ, _-_, _≤_}
+use native.Mathlib.Omega.{arith}
+use lib.ListN.{getD}
+use Rattle.groups.specs.Table.{someBelow}
+use Rattle.groups.specs.Laws.{some-found, some-turn, some-end}
+use Rattle.record.specs.Record.{isDone}
+use Rattle.record.proofs.band_missing.Statement.{statement}
+use Rattle.record.proofs.band_missing.Tie as tie
+
+abbrev Inv-loop : tie.InvT-loop
+Inv-loop n done k₀ k = (k ≤ n) × (someBelow k (λ (i : ℕ). not (getD done i false)) ≡ false)
+
+abbrev μ-loop : tie.MeasureT-loop
+μ-loop n done k₀ k = n - k
+
+loop-holds : tie.Need-loop-holds Inv-loop μ-loop
+unfolding someBelow
+loop-holds c = (omega arith, refl)
+
+returns : tie.Need-returns Inv-loop μ-loop
+unfolding isDone
+returns c = sym (some-found _ _ _ (c .before .loop-test .taken) (c .if1 .taken))
+
+loop-again : tie.Need-loop-again Inv-loop μ-loop
+loop-again c = (omega arith, some-turn _ _ (c .before .before .loop .inv .1) (c .if1 .left))
+
+returns-2 : tie.Need-returns-2 Inv-loop μ-loop
+unfolding isDone
+returns-2 c = let inv = c .before .loop .inv in sym (some-end _ _ _ (inv .1) (inv .0) (c .loop-test .left))
+
+pub band-missing-spec : {M : Type 1} → statement M
+band-missing-spec =
+    tie.close (tie.spec Inv-loop μ-loop loop-holds (λ c. omega arith) returns (λ c. omega arith) (λ c. omega arith) loop-again returns-2)

@@ -1,0 +1,13 @@
+-- `record::is_done` meets its contract. Assumes nothing.
+use mathlib.Core.Path.{refl}
+use borrow.Author.Needs.{needs}
+use Rattle.record.specs.Record.{isDone}
+use Rattle.record.proofs.is_done.Statement.{statement}
+use Rattle.record.proofs.is_done.Tie as tie
+
+returns : tie.Need-returns
+unfolding isDone
+returns c = refl
+
+pub is-done-spec : {M : Type 1} → statement M
+is-done-spec = tie.close (tie.spec (λ c. search needs) returns)

@@ -1,0 +1,15 @@
+-- `record::row_count` meets its contract. Assumes nothing.
+use borrow.Author.Needs.{needs}
+use native.Mathlib.Omega.{arith}
+use Rattle.record.specs.Tests.{full-rows, part-rows}
+use Rattle.record.proofs.row_count.Statement.{statement}
+use Rattle.record.proofs.row_count.Tie as tie
+
+pub row-count-spec : {M : Type 1} → statement M
+row-count-spec =
+    tie.close
+    (tie.spec
+    (λ c. search needs)
+    (λ c. (full-rows (c .before .before .args .s) (c .before .if1 .taken), omega arith))
+    (λ c. search needs)
+    (λ c. (part-rows (c .before .before .args .s) (c .before .if1 .left), omega arith)))

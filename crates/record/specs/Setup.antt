@@ -1,0 +1,83 @@
+-- What start is told and a record holds: which of it is in range, and what follows from it (document 01, "Runs", "Measures", "Eleven numbers"). Definitions only.
+use mathlib.Core.Bool.{Bool, true, cond, _&&_}
+use mathlib.Core.List.{List}
+use Prim.Native.Nat.{ℕ, _+_, _-_, _*_, _/_, min}
+use lib.Dec.{leb, ltb}
+use lib.Ieee.{Float}
+use Rattle.region.specs.declared.Region.{Region}
+use Rattle.region.specs.Regions.{inside}
+use Rattle.region.specs.Measures.{areaFits, pictured}
+use Rattle.planes.specs.declared.Layout.{Layout}
+use Rattle.planes.specs.Band.{resultHeight}
+use Rattle.layout.specs.Outcome.{layoutOf}
+use Rattle.tiles.specs.Tile.{across, sigmaOf}
+use Rattle.tiles.specs.Region.{down}
+use Rattle.epf.specs.Blocks.{ahead, onBlocks}
+use Rattle.passes.specs.Pass.{Area}
+use Rattle.record.specs.declared.Setup.{Setup}
+
+-- where the filter region lies in the planes, and the result
+abbrev pub layout : Setup → Layout
+layout s = layoutOf (s .image) (s .filter) (s .«preserve_outside»)
+
+-- the edge filter is on: the iterations alone say it
+abbrev pub epfOn : Setup → Bool
+epfOn s = ltb 0 (s .settings .epf .iters)
+
+-- the filter region with its block sigmas, row of blocks after row of blocks
+abbrev pub area : Setup → List Float → Area
+area s sigmas = record { width = s .filter .width; height = s .filter .height; top = ahead (s .filter .top); sigma = sigmaOf (across (layout s)) sigmas }
+
+-- ---- bands over the rows of the result, the last perhaps shorter
+
+abbrev pub rowCount : Setup → ℕ
+rowCount s = resultHeight (layout s)
+
+unfoldable pub bandCount : Setup → ℕ
+bandCount s = (rowCount s + s .«band_height» - 1) / s .«band_height»
+
+-- band k has the rows from the first up to the second
+abbrev pub bandFrom : Setup → ℕ → ℕ
+bandFrom s k = k * s .«band_height»
+
+abbrev pub bandTo : Setup → ℕ → ℕ
+bandTo s k = min (bandFrom s k + s .«band_height») (rowCount s)
+
+-- ---- what start would not refuse under 4, 5, 6 and 9
+
+-- sides of 1 to 16,384 and an area of at most 16,777,216
+unfoldable pub sized : Region → Bool
+sized r = (leb (r .width) 16384 && leb (r .height) 16384) && areaFits (r .width) (r .height)
+
+abbrev pub itersFit : Setup → Bool
+itersFit s = leb (s .settings .epf .iters) 3
+
+-- the filter region starts at multiples of 8 where the edge filter is on
+abbrev pub blocksFit : Setup → Bool
+blocksFit s = cond (epfOn s) (onBlocks (s .filter)) true
+
+abbrev pub heightFits : Setup → Bool
+heightFits s = leb 1 (s .«band_height») && leb (s .«band_height») 16384
+
+abbrev pub countFits : Setup → Bool
+countFits s = leb (bandCount s) 256
+
+unfoldable pub setupFits : Setup → Bool
+setupFits s = ((pictured (s .image) && pictured (s .filter)) && (inside (s .image) (s .filter) && blocksFit s)) && (itersFit s && (heightFits s && countFits s))
+
+-- ---- lengths of what is lent, for n planes
+
+-- a set: the image region's samples
+abbrev pub setLength : ℕ → Setup → ℕ
+setLength n s = n * s .image .height * s .image .width
+
+-- one sigma a block of the filter region, none with the edge filter off
+abbrev pub sigmaLength : Setup → ℕ
+sigmaLength s = cond (epfOn s) (down (layout s) * across (layout s)) 0
+
+-- the result's own region
+abbrev pub resultRegion : Setup → Region
+resultRegion s = cond (s .«preserve_outside») (s .image) (s .filter)
+
+abbrev pub resultLength : ℕ → Setup → ℕ
+resultLength n s = n * resultRegion s .height * resultRegion s .width
