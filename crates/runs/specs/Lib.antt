@@ -1,0 +1,5 @@
+pub mod Start
+pub mod Band
+pub mod Result
+pub mod Laws
+pub mod Tests
