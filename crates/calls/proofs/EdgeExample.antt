@@ -1,0 +1,90 @@
+-- The premises of demand 3 hold for the pictures and calls of specs/EdgeExample.antt. Assumes nothing.
+use mathlib.Core.Path.{_≡_, refl, sym, ap, _∙_}
+use mathlib.Core.List.{List}
+use Prim.Native.Nat.{ℕ, _+_, _/_, _<_}
+use native.Mathlib.Omega.{arith}
+use lib.IntN.{ℤ, pos, natAbs, _-ℤ_}
+use lib.Ieee.{Float}
+use Rattle.region.specs.Regions.{inside}
+use Rattle.region.specs.Measures.{measured, pictured}
+use Rattle.region.specs.Laws.{Holds}
+use Rattle.interval.specs.Interval.{place, side}
+use Rattle.frame.specs.Sizes.{sizesOf}
+use Rattle.groups.specs.Table.{badGrid, cells, gridStart, lacks, someBelow}
+use Rattle.groups.specs.Held.{notHeld, someNotHeld}
+use Rattle.groups.specs.Outcome.{badSides, badSettings, tableFits, gridsFit}
+use Rattle.sigma.specs.Sigma.{sigmaIn, sigmaOf, aboveAt, sigmaAt as blockSigma, blockSigmas}
+use Rattle.layout.specs.Outcome.{layoutOf}
+use Rattle.planes.specs.Picture.{Picture}
+use Rattle.planes.specs.Sets.{setOf, tab, of-setOf}
+use Rattle.planes.specs.Band.{inner}
+use Rattle.passes.specs.Plan.{plan, steps, stepOf, scaleOf, stepMargin}
+use Rattle.record.specs.Setup.{bandCount, setupFits, sized}
+use Rattle.record.specs.Record.{isDone, started, marked, advanced, bandMissing, strayDone, runFits}
+use Rattle.runs.specs.Start.{pictureChecks, startNumber, sigmasFilled}
+use Rattle.runs.specs.Band.{bandChecks, advanceChecks}
+use Rattle.calls.specs.Calls.{next, end, documentCalls}
+use Rattle.calls.specs.Places.{inputAt, sigmaAt}
+use Rattle.calls.specs.Theorem.{CutFrom, Unrefused}
+use Rattle.calls.specs.Example.{Premises}
+use Rattle.calls.specs.EdgeExample.{larger, smaller, calls, slice, EdgePremisesMet, EdgePlaceClear}
+use Rattle.calls.proofs.Places.{counted, counted-from}
+
+module _ (p : Picture) (scales : List Float) (border sigma : Float) where
+  accepted : startNumber 3 (smaller p scales border sigma) ≡ 0
+  unfolding pictureChecks pictured measured place side inside badSides badSettings sizesOf tableFits gridsFit gridStart cells someBelow badGrid someNotHeld notHeld lacks bandCount layoutOf setOf tab
+  accepted = refl
+
+  unrefused : Unrefused 3 (larger p scales border sigma)
+  unfolding pictureChecks pictured measured place side inside badSides badSettings sizesOf tableFits gridsFit gridStart cells someBelow badGrid someNotHeld notHeld lacks bandCount layoutOf setOf tab
+  unrefused = refl
+
+  module _ (x y : ℤ) (held : Holds (smaller p scales border sigma .setup .filter) x y) where
+    column : natAbs (x -ℤ pos 8) < 4
+    column = counted (pos 8) (pos 0) 4 12 tt tt x (held .column)
+
+    further : natAbs (x -ℤ pos 0) ≡ 8 + natAbs (x -ℤ pos 8)
+    further = counted-from (pos 8) (pos 0) 4 12 tt tt x (held .column)
+
+    row : natAbs (y -ℤ pos 0) < 1
+    row = counted (pos 0) (pos 0) 1 1 tt tt y (held .row)
+
+    inputs : (c : ℕ) → c < 3 → inputAt 3 (smaller p scales border sigma) c x y ≡ inputAt 3 (larger p scales border sigma) c x y
+    unfolding inner layoutOf
+    inputs c h =
+        let e : 7 + (1 + natAbs (x -ℤ pos 8)) ≡ 0 + natAbs (x -ℤ pos 0) = omega (arith, further) in
+        of-setOf 3 5 1 _ c (1 + natAbs (x -ℤ pos 8)) (0 + natAbs (y -ℤ pos 0)) h (omega (arith, column)) (omega (arith, row))
+        ∙ rw e (sym (of-setOf 3 12 1 p c (0 + natAbs (x -ℤ pos 0)) (0 + natAbs (y -ℤ pos 0)) h (omega (arith, column, further)) (omega (arith, row))))
+
+    sigmas : sigmaAt 3 (smaller p scales border sigma) x y ≡ sigmaAt 3 (larger p scales border sigma) x y
+    unfolding layoutOf sigmasFilled blockSigmas tab blockSigma sigmaOf sigmaIn aboveAt sizesOf gridStart cells
+    sigmas =
+        let a : natAbs (x -ℤ pos 8) / 8 ≡ 0 = omega (arith, column) in
+        let b : natAbs (x -ℤ pos 0) / 8 ≡ 1 = omega (arith, column, further) in
+        let c : natAbs (y -ℤ pos 0) / 8 ≡ 0 = omega (arith, row) in
+        rw (a, b, c)
+
+  from : CutFrom 3 (smaller p scales border sigma) (larger p scales border sigma)
+  unfolding inside plan steps stepOf scaleOf
+  from = record { unrefused = unrefused; contained = tt; passes = refl; inputs = λ c x y h held. inputs x y held c h; sigmas = λ on x y held. sigmas x y held }
+
+  premises : Premises 3 (documentCalls 3) (smaller p scales border sigma) (larger p scales border sigma) (calls p scales border sigma) (slice p scales border sigma)
+  unfolding sigmasFilled blockSigmas tab next end started marked advanced bandChecks advanceChecks runFits strayDone bandMissing isDone setupFits bandCount sized someBelow pictured measured place side inside layoutOf plan steps setOf
+  premises = record {
+    accepted = accepted;
+    from = from;
+    unaltered = (λ e. refl, (λ e. refl, tt));
+    ended = tt;
+    room = refl;
+  }
+
+pub edge-premises-met : EdgePremisesMet
+edge-premises-met p scales border sigma = premises p scales border sigma
+
+pub edge-place-clear : EdgePlaceClear
+unfolding stepMargin
+edge-place-clear p scales border sigma = (
+  record { column = record { from = tt; before = tt }; row = record { from = tt; before = tt } },
+  record { left = λ f. tt; right = λ f. absurd (f refl); top = λ f. absurd (f refl); bottom = λ f. absurd (f refl) },
+  λ clear. clear .left (λ (e : pos 8 ≡ pos 0). omega (arith, ap natAbs e)),
+)

@@ -1,0 +1,80 @@
+-- The premises of demand 3 hold for the pictures and calls of specs/Example.antt. Assumes nothing.
+use mathlib.Core.Path.{_≡_, refl, sym, _∙_}
+use mathlib.Core.List.{List}
+use Prim.Native.Nat.{ℕ, suc, _+_, _<_}
+use native.Mathlib.Omega.{arith}
+use lib.IntN.{ℤ, pos, negsuc, natAbs, _-ℤ_}
+use lib.Ieee.{Float}
+use Rattle.region.specs.Regions.{inside}
+use Rattle.region.specs.Measures.{measured, pictured}
+use Rattle.region.specs.Laws.{Holds}
+use Rattle.interval.specs.Interval.{place, side}
+use Rattle.frame.specs.Sizes.{sizesOf}
+use Rattle.groups.specs.Table.{badGrid, cells, gridStart, someBelow}
+use Rattle.groups.specs.Outcome.{badSides, badSettings, tableFits, gridsFit}
+use Rattle.layout.specs.Outcome.{layoutOf}
+use Rattle.planes.specs.Picture.{Picture}
+use Rattle.planes.specs.Sets.{setOf, tab, of-setOf}
+use Rattle.planes.specs.Band.{inner}
+use Rattle.passes.specs.Plan.{plan, steps, stepMargin}
+use Rattle.record.specs.Setup.{bandCount, setupFits, sized}
+use Rattle.record.specs.Record.{isDone, started, marked, advanced, bandMissing, strayDone, runFits}
+use Rattle.runs.specs.Start.{pictureChecks, startNumber, sigmasFilled}
+use Rattle.runs.specs.Band.{bandChecks, advanceChecks}
+use Rattle.calls.specs.Calls.{next, end, documentCalls}
+use Rattle.calls.specs.Places.{inputAt}
+use Rattle.calls.specs.Theorem.{CutFrom, Unrefused, resultAfter, HandsOver}
+use Rattle.calls.specs.Example.{Premises, larger, smaller, calls, slice, PremisesMet, PlaceClear}
+use Rattle.calls.proofs.Places.{counted, counted-from}
+use Rattle.calls.proofs.Demand3.{document-demand-3}
+
+module _ (p : Picture) (weights : List (List Float)) where
+  accepted : startNumber 3 (smaller p weights) ≡ 0
+  unfolding pictureChecks pictured measured place side inside badSides badSettings sizesOf tableFits gridsFit gridStart cells someBelow badGrid bandCount layoutOf setOf tab
+  accepted = refl
+
+  unrefused : Unrefused 3 (larger p weights)
+  unfolding pictureChecks pictured measured place side inside badSides badSettings sizesOf tableFits gridsFit gridStart cells someBelow badGrid bandCount layoutOf setOf tab
+  unrefused = refl
+
+  inputs : (c : ℕ) (x y : ℤ) → c < 3 → Holds (smaller p weights .setup .filter) x y → inputAt 3 (smaller p weights) c x y ≡ inputAt 3 (larger p weights) c x y
+  unfolding inner layoutOf
+  inputs c x y h held =
+      let column : natAbs (x -ℤ pos 0) < 3 = counted (pos 0) (negsuc 0) 3 4 tt tt x (held .column) in
+      let row : natAbs (y -ℤ pos 0) < 1 = counted (pos 0) (pos 0) 1 1 tt tt y (held .row) in
+      let further : natAbs (x -ℤ negsuc 0) ≡ 1 + natAbs (x -ℤ pos 0) = counted-from (pos 0) (negsuc 0) 3 4 tt tt x (held .column) in
+      let e : 0 + natAbs (x -ℤ negsuc 0) ≡ suc (0 + natAbs (x -ℤ pos 0)) = omega arith in
+      of-setOf 3 3 1 _ c (0 + natAbs (x -ℤ pos 0)) (0 + natAbs (y -ℤ pos 0)) h (omega arith) (omega arith)
+      ∙ rw e (sym (of-setOf 3 4 1 p c (suc (0 + natAbs (x -ℤ pos 0))) (0 + natAbs (y -ℤ pos 0)) h (omega arith) (omega arith)))
+
+  from : CutFrom 3 (smaller p weights) (larger p weights)
+  unfolding inside
+  from = record { unrefused = unrefused; contained = tt; passes = refl; inputs = inputs; sigmas = λ on. absurd on }
+
+  premises : Premises 3 (documentCalls 3) (smaller p weights) (larger p weights) (calls p weights) (slice p weights)
+  unfolding sigmasFilled next end started marked advanced bandChecks advanceChecks runFits strayDone bandMissing isDone setupFits bandCount sized someBelow pictured measured place side inside layoutOf plan steps setOf tab
+  premises = record {
+    accepted = accepted;
+    from = from;
+    unaltered = (λ e. refl, (λ e. absurd (omega (arith, e)), (λ e. absurd (omega (arith, e)), (λ e. refl, tt))));
+    ended = tt;
+    room = refl;
+  }
+
+pub premises-met : PremisesMet
+premises-met p weights = premises p weights
+
+pub place-clear : PlaceClear
+unfolding stepMargin
+place-clear p weights = (
+  record { column = record { from = tt; before = tt }; row = record { from = tt; before = tt } },
+  record { left = λ f. tt; right = λ f. tt; top = λ f. absurd (f refl); bottom = λ f. absurd (f refl) },
+)
+
+-- and so does what demand 3 says of them
+pub example-demand-3 : (p : Picture) (weights : List (List Float))
+    → let after = resultAfter 3 (documentCalls 3) (smaller p weights) (calls p weights) (slice p weights) in
+    (after .number ≡ 0) × HandsOver 3 (documentCalls 3) (smaller p weights) (larger p weights) (after .out)
+example-demand-3 p weights =
+    let m = premises-met p weights in
+    document-demand-3 (smaller p weights) (larger p weights) (m .accepted) (m .from) (calls p weights) (m .unaltered) (m .ended) (slice p weights) (m .room)

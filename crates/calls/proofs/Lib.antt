@@ -1,0 +1,9 @@
+pub mod Rows
+pub mod Sound
+pub mod Lists
+pub mod Count
+pub mod Reached
+pub mod Places
+pub mod Demand3
+pub mod Example
+pub mod EdgeExample

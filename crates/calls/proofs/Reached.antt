@@ -1,0 +1,199 @@
+-- The records to which accepted calls lead are the sound ones, and each of them has a list of accepted calls. Assumes nothing.
+use mathlib.Core.Path.{_≡_, refl, sym, ap, subst, _∙_}
+use mathlib.Core.Bool.{Bool, true, false, false≢true, cond}
+use mathlib.Core.List.{List, [], _∷_, _++_}
+use mathlib.Core.Logic.{_⊎_, inl, inr}
+use Prim.Native.Nat.{ℕ, zero, suc, _<_, _≤_}
+use native.Mathlib.Nat.{eq-or-lt-of-le, le-of-suc-le-suc}
+use native.Mathlib.Decide.{decLt}
+use native.Mathlib.Omega.{arith}
+use borrow.Author.Tests.{eq-eqb, ne-eqb}
+use lib.Dec.{T, eqb, eqb-refl}
+use lib.ListN.{length, getD, set, replicate, length-set, length-replicate, getD-replicate}
+use lib.Seq.{getD-set-same, getD-set-other, ext-getD}
+use Rattle.record.specs.declared.Setup.{Setup}
+use Rattle.record.specs.declared.Run.{Run}
+use Rattle.record.specs.Setup.{bandCount, setupFits}
+use Rattle.record.specs.Record.{passCount, isDone, started, marked, advanced, finished, Reached, atStart, byBand, byAdvance}
+use Rattle.record.specs.Laws.{SetupFits, setup-fits, RunFits, run-fits, fits-run, none-done, started-fits, marked-fits, advanced-fits, Open, band-open, open-band, Over, pass-over, over-pass}
+use Rattle.runs.specs.Start.{Handed, startNumber}
+use Rattle.runs.specs.Band.{State}
+use Rattle.runs.specs.Laws.{picture-fits, band-accepted, advance-accepted}
+use Rattle.calls.specs.Calls.{startState, Calls, next, end, Unaltered, AllAccepted, Call, band, advance, documentCalls}
+use Rattle.calls.specs.Theorem.{ReachedFits, FitsReached, LeadsTo, EachReached, CanFinish}
+use Rattle.calls.proofs.Sound.{Sound}
+use Rattle.calls.proofs.Lists.{after-start}
+
+-- ---- what accepted calls return is sound
+
+reached : (s : Setup) → T (setupFits s) → (r : Run) → Reached s r → RunFits r
+reached s t r atStart = started-fits s t
+reached s t r (byBand q k h e) = marked-fits q k (reached s t q h) (band-open q k e)
+reached s t r (byAdvance q h e) = advanced-fits q (reached s t q h) (pass-over q e)
+
+pub reached-fits : ReachedFits
+reached-fits s r t h = fits-run r (reached s t r h)
+
+-- ---- each sound record is reached
+
+-- the flags of l below m, and none above
+unfoldable part : List Bool → ℕ → List Bool
+part l zero = replicate 256 false
+part l (suc m) = cond (getD l m false) (set (part l m) m true) (part l m)
+
+length-part : (l : List Bool) (m : ℕ) → length (part l m) ≡ 256
+unfolding part
+length-part l zero = length-replicate 256 false
+length-part l (suc m) = go (getD l m false) (length-part l m)
+  where
+    go : (b : Bool) → length (part l m) ≡ 256 → length (cond b (set (part l m) m true) (part l m)) ≡ 256
+    go true e = length-set (part l m) m true ∙ e
+    go false e = e
+
+part-above : (l : List Bool) (m k : ℕ) → m ≤ k → getD (part l m) k false ≡ false
+unfolding part
+part-above l zero k h = none-done k
+part-above l (suc m) k h = go (getD l m false) (part-above l m k (omega arith))
+  where
+    go : (b : Bool) → getD (part l m) k false ≡ false → getD (cond b (set (part l m) m true) (part l m)) k false ≡ false
+    go true e = getD-set-other (part l m) m k true false (λ (z : k ≡ m). omega arith) ∙ e
+    go false e = e
+
+part-below : (l : List Bool) (m k : ℕ) → m ≤ 256 → k < m → getD (part l m) k false ≡ getD l k false
+unfolding part
+part-below l zero k b h = absurd (omega arith)
+part-below l (suc m) k b h = go (getD l m false) refl (λ (p : k < m). part-below l m k (omega arith) p) (eq-or-lt-of-le (le-of-suc-le-suc h))
+  where
+    go : (v : Bool) → getD l m false ≡ v → (k < m → getD (part l m) k false ≡ getD l k false) → k ≡ m ⊎ k < m
+        → getD (cond v (set (part l m) m true) (part l m)) k false ≡ getD l k false
+    go true e ih (inl z) = rw z (getD-set-same (part l m) m true false (omega (arith, length-part l m)) ∙ sym e)
+    go true e ih (inr p) = getD-set-other (part l m) m k true false (λ (z : k ≡ m). omega arith) ∙ ih p
+    go false e ih (inl z) = rw z (part-above l m m (omega arith) ∙ sym e)
+    go false e ih (inr p) = ih p
+
+-- all flags
+part-whole : (l : List Bool) → length l ≡ 256 → part l 256 ≡ l
+part-whole l e = ext-getD false (part l 256) l (length-part l 256 ∙ sym e) (λ k h. part-below l 256 k (omega arith) (omega (arith, length-part l 256)))
+
+abbrev at : Setup → ℕ → List Bool → Run
+at s p l = record { setup = s; pass = p; done = l }
+
+-- the bands of a pass that l has set, one after another
+marks : (s : Setup) (p : ℕ) (l : List Bool) → eqb p (passCount s) ≡ false → Reached s (at s p (replicate 256 false))
+    → (m : ℕ) → m ≤ 256 → ((k : ℕ) → k < m → getD l k false ≡ true → k < bandCount s) → Reached s (at s p (part l m))
+unfolding part marked isDone
+marks s p l e h zero b f = h
+marks s p l e h (suc m) b f = go (getD l m false) refl (marks s p l e h m (omega arith) (λ k q. f k (omega arith)))
+  where
+    go : (v : Bool) → getD l m false ≡ v → Reached s (at s p (part l m)) → Reached s (at s p (cond v (set (part l m) m true) (part l m)))
+    go true z r = byBand (at s p (part l m)) m r (open-band (at s p (part l m)) m (record { unfinished = e; below = f m (omega arith) z; fresh = part-above l m m (omega arith) }))
+    go false z r = r
+
+-- a whole pass, and the passes before a pass
+module _ (s : Setup) (fits : SetupFits s) where
+  whole-pass : (p : ℕ) → eqb p (passCount s) ≡ false → Reached s (at s p (replicate 256 false)) → Reached s (at s (suc p) (replicate 256 false))
+  unfolding advanced isDone
+  whole-pass p e h =
+      let b : ℕ = bandCount s in
+      let l : List Bool = replicate 256 true in
+      let r = marks s p l e h b (fits .count) (λ k q z. q) in
+      byAdvance (at s p (part l b)) r (over-pass (at s p (part l b)) (record {
+        unfinished = e;
+        done = λ k q. part-below l b k (fits .count) q ∙ getD-replicate 256 k true false (omega (arith, fits .count));
+      }))
+
+  passes-before : (p : ℕ) → p ≤ passCount s → Reached s (at s p (replicate 256 false))
+  unfolding started
+  passes-before zero h = atStart
+  passes-before (suc p) h = whole-pass p (ne-eqb p (passCount s) (λ (e : p ≡ passCount s). omega arith)) (passes-before p (omega arith))
+
+pub fits-reached : FitsReached
+unfolding isDone
+fits-reached r e t = go (finished r) refl
+  where
+    f : RunFits r
+    f = run-fits r t
+
+    fresh : Reached (r .setup) (at (r .setup) (r .pass) (replicate 256 false))
+    fresh = passes-before (r .setup) (setup-fits (r .setup) (f .setup)) (r .pass) (f .pass)
+
+    go : (b : Bool) → finished r ≡ b → Reached (r .setup) r
+    go true z =
+        let none : replicate 256 false ≡ r .done = ext-getD false (replicate 256 false) (r .done) (length-replicate 256 false ∙ sym e) (λ k l. none-done k ∙ sym (f .stray k (omega (arith, length-replicate 256 false)) (rw z (omega arith)))) in
+        subst (λ (l : List Bool). Reached (r .setup) (at (r .setup) (r .pass) l)) none fresh
+    go false z =
+        let low : (k : ℕ) → k < 256 → getD (r .done) k false ≡ true → k < bandCount (r .setup) = λ k l d. below-of k l d in
+        subst (λ (l : List Bool). Reached (r .setup) (at (r .setup) (r .pass) l)) (part-whole (r .done) e) (marks (r .setup) (r .pass) (r .done) z fresh 256 (omega arith) low)
+      where
+        below-of : (k : ℕ) → k < 256 → getD (r .done) k false ≡ true → k < bandCount (r .setup)
+        below-of k l d = at-dec (decLt k (bandCount (r .setup)))
+          where
+            at-dec : Dec (k < bandCount (r .setup)) → k < bandCount (r .setup)
+            at-dec (yes p) = p
+            at-dec (no p) = let o : bandCount (r .setup) ≤ k = omega arith in absurd (false≢true (sym (f .stray k l (rw z o)) ∙ d))
+
+-- ---- lists of accepted calls
+
+-- one call more
+module _ (n : ℕ) (K : Calls n) (c : K .Call) (ok : K .number c ≡ 0) where
+  next-accepted : (t : State) → next n K t c ≡ K .leaves t c
+  unfolding next
+  next-accepted t = rw (eq-eqb (K .number c) 0 ok)
+
+  end-more : (t : State) (cs : List (K .Call)) → end n K t (cs ++ (c ∷ [])) ≡ K .leaves (end n K t cs) c
+  unfolding end
+  end-more t [] = next-accepted t
+  end-more t (d ∷ cs) = end-more (next n K t d) cs
+
+  unaltered-more : (t : State) (cs : List (K .Call)) → Unaltered n K t cs → K .Lent (end n K t cs) c → Unaltered n K t (cs ++ (c ∷ []))
+  unfolding end
+  unaltered-more t [] u l = (λ e. l, tt)
+  unaltered-more t (d ∷ cs) u l = (u .0, unaltered-more (next n K t d) cs (u .1) l)
+
+  accepted-more : (cs : List (K .Call)) → AllAccepted n K cs → AllAccepted n K (cs ++ (c ∷ []))
+  accepted-more [] a = (ok, tt)
+  accepted-more (d ∷ cs) a = (a .0, accepted-more cs (a .1))
+
+module _ (n : ℕ) (h : Handed) (start : startNumber n h ≡ 0) where
+  more : (cs : List Call) (q : Run) (c : Call) (r : Run) → LeadsTo n h cs q → documentCalls n .number c ≡ 0
+      → documentCalls n .Lent (end n (documentCalls n) (startState n h) cs) c → documentCalls n .leaves (end n (documentCalls n) (startState n h) cs) c .run ≡ r
+      → (ds : List Call) × LeadsTo n h ds r
+  more cs q c r l ok lent ends = (
+    cs ++ (c ∷ []),
+    record {
+      accepted = accepted-more n (documentCalls n) c ok cs (l .accepted);
+      unaltered = unaltered-more n (documentCalls n) c ok (startState n h) cs (l .unaltered) lent;
+      ends = ap (λ (t : State). t .run) (end-more n (documentCalls n) c ok (startState n h) cs) ∙ ends;
+    },
+  )
+
+  leads : (r : Run) → Reached (h .setup) r → (cs : List Call) × LeadsTo n h cs r
+  unfolding end
+  leads r atStart = ([], record { accepted = tt; unaltered = tt; ends = refl })
+  leads r (byBand q k w e) =
+      let l = leads q w in
+      let t : State = end n (documentCalls n) (startState n h) (l .0) in
+      let i : Sound n (h .first) t = after-start n (documentCalls n) h start (l .0) (l .1 .unaltered) .sound in
+      let same : t .run ≡ q = l .1 .ends in
+      let o : Open (t .run) k = rw same (band-open q k e) in
+      more (l .0) q (band t k) (marked q k) (l .1) (band-accepted n t k (i .first-length) (i .second-length) (i .sigma-length) (i .run) o) refl (ap (λ (z : Run). marked z k) same)
+  leads r (byAdvance q w e) =
+      let l = leads q w in
+      let t : State = end n (documentCalls n) (startState n h) (l .0) in
+      let i : Sound n (h .first) t = after-start n (documentCalls n) h start (l .0) (l .1 .unaltered) .sound in
+      let same : t .run ≡ q = l .1 .ends in
+      let o : Over (t .run) = rw same (pass-over q e) in
+      more (l .0) q (advance (t .run)) (advanced q) (l .1) (advance-accepted (t .run) (i .run) o) refl (ap advanced same)
+
+pub each-reached : EachReached
+each-reached n h start r e t l = leads n h start r (subst (λ (s : Setup). Reached s r) e (fits-reached r l t))
+
+-- the record of a finished run
+pub can-finish : CanFinish
+unfolding isDone
+can-finish n h start =
+    let s : Setup = h .setup in
+    let r : Run = at s (passCount s) (replicate 256 false) in
+    let fits : RunFits r = record { setup = picture-fits n h start .setup; pass = omega arith; stray = λ k l o. none-done k } in
+    let w = each-reached n h start r refl (fits-run r fits) (length-replicate 256 false) in
+    (w .0, w .1 .unaltered, rw (w .1 .ends) (eqb-refl (passCount s)))

@@ -1,0 +1,5 @@
+pub mod Calls
+pub mod Places
+pub mod Theorem
+pub mod Example
+pub mod EdgeExample
