@@ -1,0 +1,43 @@
+-- `run_start::own_number` meets its contract. Assumes nothing.
+use mathlib.Core.Path.{_≡_, sym, ap, _∙_}
+use mathlib.Core.Bool.{Bool, true, false, cond, not, _&&_}
+use borrow.Author.Needs.{needs}
+use Rattle.numbers.specs.Checks.{applies}
+use Rattle.numbers.specs.Numbers.{outOfRange}
+use Rattle.epf.specs.Blocks.{onBlocks}
+use Rattle.record.specs.Setup.{itersFit, heightFits, countFits}
+use Rattle.runs.specs.Band.{setCheck}
+use Rattle.run_start.specs.Pieces.{runsEpf}
+use Rattle.run_start.specs.Tests.{told-row}
+use Rattle.run_start.proofs.own_number.Statement.{statement}
+use Rattle.run_start.proofs.own_number.Tie as tie
+
+-- the corner is right, and so are both sets
+module _ (c : tie.Else2) where
+  on : (runsEpf (c .before .before .before .before .args .s) && not (onBlocks (c .before .before .before .before .args .s .filter))) ≡ false
+  on = sym (c .before .before .before .off-blocks .ensures) ∙ c .before .before .if1 .left
+
+  sets : applies (setCheck 3 (c .before .before .before .before .args .s) (c .before .before .before .before .args .first) (c .before .before .before .before .args .second)) ≡ false
+  sets = sym (c .before .sets-wrong .ensures) ∙ c .if2 .left
+
+-- the rows of what is told
+told : (c : tie.After-told-wrong) (b : Bool) → c .told-wrong .result ≡ b → let s = c .before .before .before .before .before .args .s in
+    cond b outOfRange 0 ≡ cond (not (itersFit s)) outOfRange (cond (not (heightFits s)) outOfRange (cond (heightFits s && not (countFits s)) outOfRange 0))
+told c b e =
+    let s = c .before .before .before .before .before .args .s in
+    ap (λ (b : Bool). cond b outOfRange 0) (sym e ∙ c .told-wrong .ensures) ∙ told-row (itersFit s) (heightFits s) (countFits s)
+
+pub own-number-spec : {M : Type 1} → statement M
+own-number-spec =
+    tie.close
+    (tie.spec
+    (λ c κs. search needs)
+    (λ c. let e : (runsEpf (c .before .before .args .s) && not (onBlocks (c .before .before .args .s .filter))) ≡ true = sym (c .before .off-blocks .ensures) ∙ c .if1 .taken in rw e)
+    (λ c κs. search needs)
+    (λ c. let s = c .before .before .before .before .args in
+    let e : (runsEpf (s .s) && not (onBlocks (s .s .filter))) ≡ false = sym (c .before .before .before .off-blocks .ensures) ∙ c .before .before .if1 .left in
+    let w : applies (setCheck 3 (s .s) (s .first) (s .second)) ≡ true = sym (c .before .sets-wrong .ensures) ∙ c .if2 .taken in
+    rw (e, w))
+    (λ c κs. search needs)
+    (λ c. rw (on (c .before .before), sets (c .before .before)) (told (c .before) true (c .if3 .taken)))
+    (λ c. rw (on (c .before .before), sets (c .before .before)) (told (c .before) false (c .if3 .left))))

@@ -1,0 +1,61 @@
+-- The number that some starts get, computed from the table. Assumes nothing.
+use mathlib.Core.Path.{_≡_, refl}
+use mathlib.Core.Bool.{true}
+use mathlib.Core.List.{[], _∷_}
+use Prim.Native.Nat.{ℕ}
+use lib.IntN.{ℤ, pos}
+use lib.ListN.{replicate}
+use lib.Ieee.{nan}
+use Rattle.interval.specs.Interval.{place, side}
+use Rattle.region.specs.Regions.{inside}
+use Rattle.region.specs.Measures.{measured, pictured}
+use Rattle.layout.specs.Outcome.{layoutOf}
+use Rattle.frame.specs.Sizes.{sizesOf}
+use Rattle.groups.specs.Table.{badGrid, cells, gridStart, lacks, someBelow}
+use Rattle.groups.specs.Held.{notHeld, someNotHeld}
+use Rattle.groups.specs.Outcome.{badSides, badSettings, tableFits, gridsFit}
+use Rattle.record.specs.declared.Setup.{Setup}
+use Rattle.record.specs.Setup.{bandCount}
+use Rattle.runs.specs.Start.{Handed, noSetup, pictureChecks, startNumber}
+
+-- an image of 8 by 8 samples whose filter region has the given left and width
+abbrev setup : ℤ → ℕ → ℕ → ℕ → Setup
+setup left width iters height = record {
+  image = record { left = pos 0; top = pos 0; width = 8; height = 8 };
+  filter = record { left = left; top = pos 0; width = width; height = 8 };
+  «preserve_outside» = true;
+  settings = record { gabor = noSetup .settings .gabor; epf = record { iters = iters; «channel_scale» = []; sigma = noSetup .settings .epf .sigma; «sigma_for_modular» = nan } };
+  «band_height» = height;
+}
+
+-- in a frame of one group whose grid is missing, with sets of a length and so many block sigmas
+abbrev handed : Setup → ℕ → ℕ → Handed
+handed s set sigmas = record {
+  setup = s;
+  frame = record { width = 8; height = 8; upsampling = 1; «lf_level» = 0; «group_size_shift» = 0 };
+  table = 0 ∷ 0 ∷ 0 ∷ [];
+  grids = [];
+  first = replicate set nan;
+  second = replicate set nan;
+  sigmas = replicate sigmas nan;
+}
+
+-- one block and one band, or eight; and any corner with the edge filter off
+accepted : (startNumber 3 (handed (setup (pos 0) 8 3 8) 192 1) ≡ 0) × (startNumber 3 (handed (setup (pos 0) 8 1 1) 192 1) ≡ 0) × (startNumber 3 (handed (setup (pos 4) 4 0 8) 192 0) ≡ 0)
+unfolding pictureChecks inside pictured measured place side badSides badSettings tableFits sizesOf someBelow badGrid gridsFit gridStart cells someNotHeld notHeld lacks layoutOf bandCount
+accepted = (refl, refl, refl)
+
+-- outside the image; and also too wide, or empty
+placed : (startNumber 3 (handed (setup (pos 0) 9 3 8) 192 2) ≡ 5) × (startNumber 3 (handed (setup (pos 0) 16385 3 8) 192 2) ≡ 4) × (startNumber 3 (handed (setup (pos 0) 0 3 8) 192 0) ≡ 4)
+unfolding pictureChecks inside pictured measured place side badSides badSettings tableFits sizesOf someBelow badGrid gridsFit gridStart cells someNotHeld notHeld lacks layoutOf bandCount
+placed = (refl, refl, refl)
+
+-- a corner that is no multiple of 8, though the sets are short; with faulty iterations this and the block sigmas' length are passed over
+corner : (startNumber 3 (handed (setup (pos 4) 4 1 8) 191 1) ≡ 6) × (startNumber 3 (handed (setup (pos 4) 4 4 8) 191 7) ≡ 7) × (startNumber 3 (handed (setup (pos 4) 4 4 8) 192 7) ≡ 9)
+unfolding pictureChecks inside pictured measured place side badSides badSettings tableFits sizesOf someBelow badGrid gridsFit gridStart cells someNotHeld notHeld lacks layoutOf bandCount
+corner = (refl, refl, refl)
+
+-- block sigmas lent with the edge filter off, though the band height is 0
+lengths : (startNumber 3 (handed (setup (pos 0) 8 0 0) 192 1) ≡ 7) × (startNumber 3 (handed (setup (pos 0) 8 0 0) 192 0) ≡ 9)
+unfolding pictureChecks inside pictured measured place side badSides badSettings tableFits sizesOf someBelow badGrid gridsFit gridStart cells someNotHeld notHeld lacks layoutOf bandCount
+lengths = (refl, refl)

@@ -1,0 +1,5 @@
+pub mod Lowest
+pub mod Pieces
+pub mod Tests
+pub mod Number
+pub mod Examples

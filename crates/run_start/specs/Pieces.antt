@@ -1,0 +1,40 @@
+-- The pieces that start's number is computed from. Definitions only; Number.antt shows that their lowest number is the one that start is defined to give.
+use mathlib.Core.Bool.{Bool, cond, not, _&&_}
+use mathlib.Core.List.{List, [], _∷_}
+use Prim.Native.Nat.{ℕ}
+use lib.Ieee.{Float}
+use Rattle.numbers.specs.Numbers.{notOnBlocks, outOfRange}
+use Rattle.numbers.specs.Checks.{Check, always, given, firstOf}
+use Rattle.region.specs.Answers.{placedChecks}
+use Rattle.frame.specs.declared.Frame.{Frame}
+use Rattle.groups.specs.Outcome.{sigmaNumber}
+use Rattle.epf.specs.Blocks.{onBlocks}
+use Rattle.record.specs.declared.Setup.{Setup}
+use Rattle.record.specs.Setup.{epfOn, itersFit, heightFits, countFits}
+use Rattle.runs.specs.Band.{setCheck}
+use Rattle.runs.specs.Start.{blocksOf}
+use Rattle.run_start.specs.Lowest.{lowest}
+
+-- iterations in range, and the edge filter on
+abbrev pub runsEpf : Setup → Bool
+runsEpf s = itersFit s && epfOn s
+
+-- the block sigmas' length; with faulty iterations none, which is what is asked with the edge filter off
+abbrev pub sigmasAsked : Setup → ℕ → ℕ
+sigmasAsked s sigmas = cond (itersFit s) sigmas 0
+
+-- the corner, both sets' lengths, and the settings that the record holds
+abbrev pub ownChecks : ℕ → Setup → ℕ → ℕ → List Check
+ownChecks n s first second =
+    given (runsEpf s) notOnBlocks (not (onBlocks (s .filter)))
+    ∷ setCheck n s first second
+    ∷ always outOfRange (not (itersFit s))
+    ∷ always outOfRange (not (heightFits s))
+    ∷ given (heightFits s) outOfRange (not (countFits s))
+    ∷ []
+
+-- the lowest of where the regions lie, of those, and of frame, table, grids and block sigmas
+unfoldable pub numberOf : ℕ → Setup → Frame → List ℕ → List Float → ℕ → ℕ → ℕ → ℕ
+numberOf n s f t grids first second sigmas =
+    lowest (lowest (firstOf (placedChecks (s .image) (s .filter))) (firstOf (ownChecks n s first second)))
+    (sigmaNumber (runsEpf s) f (blocksOf s) t grids (sigmasAsked s sigmas))

@@ -1,0 +1,255 @@
+// Start: everything is checked before anything is written, and the record of the run is made.
+use epf::ahead;
+use epf::on_blocks;
+use epf_header::EpfSigma;
+use frame::Frame;
+use gabor_header::Gabor;
+use groups::Blocks;
+use groups::check;
+use numbers::ACCEPTED;
+use numbers::NOT_ON_BLOCKS;
+use numbers::OUT_OF_RANGE;
+use numbers::WRONG_LENGTH;
+use passes::EpfSettings;
+use passes::Settings;
+use record::Run;
+use record::Setup;
+use record::band_count;
+use region::Region;
+use region::placed;
+use runs::RunAnswer;
+use runs::sets_wrong;
+use sigma::block_sigmas;
+ghost use mathlib.Core.Path.{_≡_};
+ghost use mathlib.Core.Bool.{_&&_, not};
+ghost use Rattle.numbers.specs.Checks.{firstOf};
+ghost use Rattle.region.specs.Regions.{zeroRegion};
+ghost use Rattle.groups.specs.Outcome.{sigmaNumber};
+ghost use Rattle.epf.specs.Blocks.{onBlocks};
+ghost use Rattle.record.specs.Setup.{itersFit, heightFits, countFits};
+ghost use Rattle.record.specs.Record.{started};
+ghost use Rattle.runs.specs.Start.{Handed, StartOutcome, blocksOf, noSetup, noRun, startOutcome};
+ghost use Rattle.run_start.specs.Lowest.{lowest};
+ghost use Rattle.run_start.specs.Pieces.{runsEpf, sigmasAsked, ownChecks, numberOf};
+
+const MAX_ITERS: u32 = 3;
+
+const MAX_HEIGHT: u32 = 16384;
+
+const MAX_BANDS: usize = 256;
+
+const BLOCK_DIM: usize = 8;
+
+// The lower of two numbers; 0 is none.
+fn lowest(a: u32, b: u32) -> u32
+    ensures { λ r. ⌜ r ≡ lowest a b ⌝ }
+{
+    if a == ACCEPTED {
+        return b;
+    }
+    if b == ACCEPTED {
+        return a;
+    }
+    if b < a {
+        return b;
+    }
+    a
+}
+
+// Whether the edge filter runs: iterations in range, and some.
+fn runs_epf(s: Setup) -> bool
+    ensures { λ r. ⌜ r ≡ runsEpf s ⌝ }
+{
+    if MAX_ITERS < s.settings.epf.iters {
+        return false;
+    }
+    0 < s.settings.epf.iters
+}
+
+// The filter region on blocks.
+fn blocks_of(s: Setup) -> Blocks
+    ensures { λ r. ⌜ r ≡ blocksOf s ⌝ }
+{
+    Blocks {
+        left: (ahead(s.filter.left) / BLOCK_DIM) as u32,
+        top: (ahead(s.filter.top) / BLOCK_DIM) as u32,
+        width: s.filter.width,
+        height: s.filter.height,
+    }
+}
+
+// The block sigmas' length, where iterations in range ask for one.
+fn sigmas_asked(s: Setup, sigmas: usize) -> usize
+    ensures { λ r. ⌜ r ≡ sigmasAsked s sigmas ⌝ }
+{
+    if MAX_ITERS < s.settings.epf.iters {
+        return 0;
+    }
+    sigmas
+}
+
+fn off_blocks(s: Setup) -> bool
+    ensures { λ r. ⌜ r ≡ (runsEpf s && not (onBlocks (s .filter))) ⌝ }
+{
+    if runs_epf(s) {
+        return !on_blocks(s.filter);
+    }
+    false
+}
+
+// Whether iterations, band height or the count of bands is out of range.
+fn told_wrong(s: Setup) -> bool
+    ensures { λ r. ⌜ r ≡ not (itersFit s && (heightFits s && countFits s)) ⌝ }
+{
+    if MAX_ITERS < s.settings.epf.iters {
+        return true;
+    }
+    if s.band_height < 1 {
+        return true;
+    }
+    if MAX_HEIGHT < s.band_height {
+        return true;
+    }
+    MAX_BANDS < band_count(s)
+}
+
+// What is told by itself, and both sets: 6, 7 or 9.
+fn own_number(s: Setup, first: usize, second: usize) -> u32
+    ensures { λ r. ⌜ r ≡ firstOf (ownChecks 3 s first second) ⌝ }
+{
+    if off_blocks(s) {
+        return NOT_ON_BLOCKS;
+    }
+    if sets_wrong(s, first, second) {
+        return WRONG_LENGTH;
+    }
+    if told_wrong(s) {
+        return OUT_OF_RANGE;
+    }
+    ACCEPTED
+}
+
+// The frame, its group table and grids, and the block sigmas: 4, 7, 8 or 9.
+fn groups_number(s: Setup, frame: Frame, table: &[u32], grids: &[f32], sigmas: usize) -> u32
+    ensures { λ r. ⌜ r ≡ sigmaNumber (runsEpf s) frame (blocksOf s) (now (table .entry)) (now (grids .entry)) (sigmasAsked s sigmas) ⌝ }
+{
+    let asked = sigmas_asked(s, sigmas);
+    check(runs_epf(s), frame, blocks_of(s), table, grids, asked)
+}
+
+// The lowest of all numbers.
+fn start_number(
+    s: Setup,
+    frame: Frame,
+    table: &[u32],
+    grids: &[f32],
+    first: usize,
+    second: usize,
+    sigmas: usize,
+) -> u32
+    ensures { λ r. ⌜ r ≡ numberOf 3 s frame (now (table .entry)) (now (grids .entry)) first second sigmas ⌝ }
+{
+    let place = placed(s.image, s.filter);
+    let own = own_number(s, first, second);
+    let groups = groups_number(s, frame, table, grids, sigmas);
+    lowest(lowest(place.number, own), groups)
+}
+
+fn started(setup: Setup) -> Run
+    ensures { λ r. ⌜ r ≡ started setup ⌝ }
+{
+    Run {
+        setup,
+        pass: 0,
+        done: [false; 256],
+    }
+}
+
+fn no_region() -> Region
+    ensures { λ r. ⌜ r ≡ zeroRegion ⌝ }
+{
+    Region {
+        left: 0,
+        top: 0,
+        width: 0,
+        height: 0,
+    }
+}
+
+fn no_edge_filter() -> EpfSettings
+    ensures { λ r. ⌜ r ≡ noSetup .settings .epf ⌝ }
+{
+    let channel_scale = [0.0; 3];
+    let sigma = EpfSigma {
+        quant_mul: 0.0,
+        pass0_sigma_scale: 0.0,
+        pass2_sigma_scale: 0.0,
+        border_sad_mul: 0.0,
+    };
+    EpfSettings {
+        iters: 0,
+        channel_scale,
+        sigma,
+        sigma_for_modular: 0.0,
+    }
+}
+
+fn no_settings() -> Settings
+    ensures { λ r. ⌜ r ≡ noSetup .settings ⌝ }
+{
+    let gabor = Gabor::off();
+    Settings {
+        gabor,
+        epf: no_edge_filter(),
+    }
+}
+
+// The record of a refusal: zeros.
+fn no_run() -> Run
+    ensures { λ r. ⌜ r ≡ noRun ⌝ }
+{
+    let setup = Setup {
+        image: no_region(),
+        filter: no_region(),
+        preserve_outside: false,
+        settings: no_settings(),
+        band_height: 0,
+    };
+    started(setup)
+}
+
+// The record of a run, its block sigmas filled; or a number, and nothing written.
+pub fn start(
+    setup: Setup,
+    frame: Frame,
+    table: &[u32],
+    grids: &[f32],
+    first: &mut [f32],
+    second: &[f32],
+    sigmas: &mut [f32],
+) -> RunAnswer
+    ensures { λ r. ⌜ _≡_ {A = StartOutcome} (record { answer = r; first = now (first .exit); sigmas = now (sigmas .exit) }) (startOutcome 3 (record { setup = setup; frame = frame; table = now (table .entry); grids = now (grids .entry); first = now (first .entry); second = now (second .entry); sigmas = now (sigmas .entry) })) ⌝ }
+{
+    let number = start_number(
+        setup,
+        frame,
+        table,
+        grids,
+        first.len(),
+        second.len(),
+        sigmas.len(),
+    );
+    if number != ACCEPTED {
+        return RunAnswer {
+            number,
+            run: no_run(),
+        };
+    }
+    let modular = setup.settings.epf.sigma_for_modular;
+    let on = runs_epf(setup);
+    let number = block_sigmas(on, frame, blocks_of(setup), table, grids, modular, sigmas);
+    RunAnswer {
+        number,
+        run: started(setup),
+    }
+}
