@@ -1,0 +1,15 @@
+-- `run_band::advanced` meets its contract. Assumes nothing.
+use mathlib.Core.Path.{_≡_, refl, ap}
+use Prim.Native.Nat.{ℕ}
+use native.Mathlib.Numerals.{add-one}
+use borrow.Author.Needs.{needs}
+use Rattle.record.specs.Record.{advanced}
+use Rattle.run_band.proofs.advanced.Statement.{statement}
+use Rattle.run_band.proofs.advanced.Tie as tie
+
+returns : tie.Need-returns
+unfolding advanced
+returns c = rw (add-one (c .before .before .args .run .pass))
+
+pub advanced-spec : {M : Type 1} → statement M
+advanced-spec = tie.close (tie.spec (λ c. search needs) returns)

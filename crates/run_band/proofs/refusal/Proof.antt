@@ -1,0 +1,19 @@
+-- `run_band::refusal` meets its contract. Assumes nothing.
+use mathlib.Core.Path.{_≡_, sym, _∙_}
+use mathlib.Core.Bool.{true, false}
+use borrow.Author.Needs.{needs}
+use Rattle.numbers.specs.Checks.{applies}
+use Rattle.runs.specs.Band.{setCheck, sigmaCheck}
+use Rattle.run_band.proofs.refusal.Statement.{statement}
+use Rattle.run_band.proofs.refusal.Tie as tie
+
+pub refusal-spec : {M : Type 1} → statement M
+refusal-spec =
+    tie.close
+    (tie.spec
+    (λ c κs. search needs)
+    (λ c. rw (sym (c .before .sets-wrong .ensures) ∙ c .if1 .taken))
+    (λ c κs. search needs)
+    (λ c. rw (sym (c .before .before .before .sets-wrong .ensures) ∙ c .before .before .if1 .left, sym (c .before .sigmas-wrong .ensures) ∙ c .if2 .taken))
+    (λ c κs. search needs)
+    (λ c. rw (sym (c .before .before .before .before .sets-wrong .ensures) ∙ c .before .before .before .if1 .left, sym (c .before .before .sigmas-wrong .ensures) ∙ c .before .if2 .left) (c .band-number .ensures)))

@@ -1,0 +1,135 @@
+// Band and advance of a run.
+use epf::epf_pass;
+use gabor::gabor_pass;
+use gabor_header::weights;
+use numbers::ACCEPTED;
+use numbers::WRONG_LENGTH;
+use passes::gabor_at;
+use passes::step_at;
+use record::Run;
+use record::advance_number;
+use record::band_number;
+use record::row_count;
+use runs::RunAnswer;
+use runs::sets_wrong;
+use runs::sigmas_wrong;
+ghost use mathlib.Core.Path.{_≡_};
+ghost use mathlib.Core.List.{_∷_};
+ghost use Prim.Native.Nat.{_<_, min};
+ghost use lib.ListN.{length};
+ghost use Rattle.numbers.specs.Checks.{firstOf};
+ghost use Rattle.record.specs.Record.{marked, advanced, openChecks};
+ghost use Rattle.runs.specs.Band.{State, Outcome, setCheck, sigmaCheck, bandNumber, bandOutcome, advanceOutcome};
+ghost use Rattle.run_band.specs.Rows.{RowsFit, passedRows, bandWritten};
+
+// Which number a band gets: 7 for the sets and the block sigmas, then what the record gives it.
+fn refusal(run: Run, sigmas: usize, first: usize, second: usize, k: u32) -> u32
+    ensures { λ r. ⌜ r ≡ firstOf (setCheck 3 (run .setup) first second ∷ sigmaCheck 3 (run .setup) sigmas ∷ openChecks run k) ⌝ }
+{
+    if sets_wrong(run.setup, first, second) {
+        return WRONG_LENGTH;
+    }
+    if sigmas_wrong(run.setup, sigmas) {
+        return WRONG_LENGTH;
+    }
+    band_number(run, k)
+}
+
+// Rows `from` up to `to` of the result: the next pass, from the set that is read to the other.
+fn pass_rows(run: Run, sigmas: &[f32], src: &[f32], dst: &mut [f32], from: u32, to: u32)
+    requires { ⌜ RowsFit run (length (now sigmas)) (length (now src)) (length (now dst)) from to ⌝ }
+    ensures { λ _. ⌜ now (dst .exit) ≡ passedRows 3 run (now (sigmas .entry)) from to (now (src .entry)) (now (dst .entry)) ⌝ }
+{
+    let s = run.setup;
+    if gabor_at(s.settings, run.pass) {
+        let w = weights(s.settings.gabor);
+        gabor_pass(s.image, s.filter, s.preserve_outside, w, from, to, src, dst);
+        return;
+    }
+    let step = step_at(s.settings, run.pass);
+    epf_pass(
+        s.image,
+        s.filter,
+        s.preserve_outside,
+        step,
+        sigmas,
+        from,
+        to,
+        src,
+        dst,
+    );
+}
+
+fn smaller(a: u32, b: u32) -> u32
+    ensures { λ r. ⌜ r ≡ min a b ⌝ }
+{
+    if a < b { a } else { b }
+}
+
+// The rows of band k. Advance exchanges the sets, so passes read the first and the second by turns.
+fn filter_band(run: Run, sigmas: &[f32], first: &mut [f32], second: &mut [f32], k: u32)
+    requires { ⌜ bandNumber 3 (record { run = run; sigmas = now sigmas; first = now first; second = now second }) k ≡ 0 ⌝ }
+    ensures { λ _. ⌜ _≡_ {A = State} (record { run = run; sigmas = now (sigmas .entry); first = now (first .exit); second = now (second .exit) }) (bandWritten 3 (record { run = run; sigmas = now (sigmas .entry); first = now (first .entry); second = now (second .entry) }) k) ⌝ }
+{
+    let height = run.setup.band_height;
+    let from = k * height;
+    let to = smaller(from + height, row_count(run.setup) as u32);
+    if run.pass % 2 == 0 {
+        pass_rows(run, sigmas, first, second, from, to);
+        return;
+    }
+    pass_rows(run, sigmas, second, first, from, to);
+}
+
+fn marked(run: Run, k: usize) -> Run
+    requires { ⌜ k < 256 ⌝ }
+    ensures { λ r. ⌜ r ≡ marked run k ⌝ }
+{
+    let mut r = run;
+    r.done[k] = true;
+    r
+}
+
+// Band k of the pass: filters or copies its rows of the result from the set that is read into the other, and marks it done.
+pub fn band(run: Run, sigmas: &[f32], first: &mut [f32], second: &mut [f32], k: u32) -> RunAnswer
+    ensures { λ r. ⌜ _≡_ {A = Outcome} (record { number = r .number; state = record { run = r .run; sigmas = now (sigmas .entry); first = now (first .exit); second = now (second .exit) } }) (bandOutcome 3 (record { run = run; sigmas = now (sigmas .entry); first = now (first .entry); second = now (second .entry) }) k) ⌝ }
+{
+    let number = refusal(run, sigmas.len(), first.len(), second.len(), k);
+    if number != ACCEPTED {
+        return RunAnswer { number, run };
+    }
+    filter_band(run, sigmas, first, second, k);
+    let run = marked(run, k as usize);
+    RunAnswer {
+        number: ACCEPTED,
+        run,
+    }
+}
+
+fn advanced(run: Run) -> Run
+    requires { ⌜ run .pass < 4 ⌝ }
+    ensures { λ r. ⌜ r ≡ advanced run ⌝ }
+{
+    let setup = run.setup;
+    let done = [false; 256];
+    Run {
+        setup,
+        pass: run.pass + 1,
+        done,
+    }
+}
+
+// The next pass, or the finish.
+pub fn advance(run: Run) -> RunAnswer
+    ensures { λ r. ⌜ r ≡ advanceOutcome run ⌝ }
+{
+    let number = advance_number(run);
+    if number != ACCEPTED {
+        return RunAnswer { number, run };
+    }
+    let run = advanced(run);
+    RunAnswer {
+        number: ACCEPTED,
+        run,
+    }
+}
