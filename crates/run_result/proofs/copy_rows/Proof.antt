@@ -1,0 +1,72 @@
+-- `run_result::copy_rows` meets its contract. The invariant: y rows are written, and `row` and `o` are where row y starts in either slice. Assumes nothing.
+use mathlib.Core.Path.{_≡_, refl, _∙_}
+use Prim.Native.Nat.{ℕ, _+_, _-_, _*_, _≤_, _<_}
+use native.Mathlib.Nat.{suc-mul, mul-le-mul-right}
+use native.Mathlib.Numerals.{add-one}
+use native.Mathlib.Omega.{arith}
+use lib.ListN.{length}
+use Rattle.planes.specs.declared.Layout.{Layout}
+use Rattle.planes.specs.Rect.{rowsFill, rows-end}
+use Rattle.run_result.specs.Part.{rowsOf, row-next}
+use Rattle.run_result.proofs.copy_rows.Statement.{statement}
+use Rattle.run_result.proofs.copy_rows.Tie as tie
+
+abbrev Inv-loop : tie.InvT-loop
+Inv-loop src from out₀ at l y₀ row₀ o₀ out y row o =
+    (y ≤ l .height) × (row ≡ from + y * l .image .width) × (o ≡ at + y * l .width) × (length out ≡ length out₀)
+    × (out ≡ rowsFill out₀ at (l .width) (l .width) y (rowsOf l from src))
+
+abbrev μ-loop : tie.MeasureT-loop
+μ-loop src from out₀ at l y₀ row₀ o₀ out y row o = l .height - y
+
+loop-holds : tie.Need-loop-holds Inv-loop μ-loop
+unfolding rowsFill
+loop-holds c = (omega arith, omega arith, omega arith, refl, refl)
+
+-- row y of n ends within n rows
+room : (y n w : ℕ) → y < n → y * w + w ≤ n * w
+room y n w p = omega (arith, suc-mul y w, mul-le-mul-right w p)
+
+one-more : (y w : ℕ) → (y + 1) * w ≡ y * w + w
+one-more y w = rw add-one (suc-mul y w)
+
+-- in a turn
+record Turn (l : Layout) (y : ℕ) : Type 0 where
+  pub source : y * l .image .width + l .image .width ≤ l .height * l .image .width
+  pub target : y * l .width + l .width ≤ l .height * l .width
+
+turn : (c : tie.Then1 Inv-loop μ-loop) → Turn (c .before .before .before .before .before .args .l) (c .before .before .loop .y)
+turn c =
+    let l = c .before .before .before .before .before .args .l in
+    let y = c .before .before .loop .y in
+    record { source = room y (l .height) (l .image .width) (c .if1 .taken); target = room y (l .height) (l .width) (c .if1 .taken) }
+
+loop-again : tie.Need-loop-again Inv-loop μ-loop
+loop-again c =
+    let called = c .before .before .before .before in
+    let at-loop = called .before .before .before .before .before in
+    let l = at-loop .before .before .before .args .l in
+    let inv = at-loop .loop .inv in (
+      omega arith,
+      omega (arith, one-more (at-loop .loop .y) (l .image .width)),
+      omega (arith, one-more (at-loop .loop .y) (l .width)),
+      called .copy-row .kept .1 .1 .0 ∙ inv .3,
+      row-next l _ _ _ _ _ _ _ _ _ (inv .4) (inv .1) (inv .2) (called .copy-row .ensures),
+    )
+
+pub copy-rows-spec : {M : Type 1} → statement M
+copy-rows-spec =
+    tie.close
+    (tie.spec
+    Inv-loop
+    μ-loop
+    loop-holds
+    (λ c. omega (arith, turn (c .before)))
+    (λ c κs. omega (arith, turn (c .before .before)))
+    (λ c. omega (arith, turn (c .before .before .before .before .before .before)))
+    (λ c. omega (arith, turn (c .before .before .before .before .before .before .before)))
+    (λ c. omega arith)
+    (λ c. omega arith)
+    loop-again
+    (λ c. c .before .before .loop .inv .3)
+    (λ c. let inv = c .before .before .loop .inv in rows-end _ _ _ _ _ _ _ _ (inv .4) (inv .0) (c .if1 .left)))

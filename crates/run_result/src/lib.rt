@@ -1,0 +1,116 @@
+// The result of a finished run: its part of the set that a next pass would read, copied plane after plane (document 01, "Runs").
+use layout::layout_of;
+use numbers::ACCEPTED;
+use numbers::WRONG_LENGTH;
+use planes::Layout;
+use record::Run;
+use record::Setup;
+use record::result_number;
+use runs::sets_wrong;
+use runs::slice_wrong;
+ghost use mathlib.Core.Path.{_≡_};
+ghost use Prim.Native.Nat.{ℕ, _+_, _*_, _≤_};
+ghost use lib.ListN.{length, getD};
+ghost use lib.Ieee.{nan};
+ghost use Rattle.planes.specs.Fill.{fill};
+ghost use Rattle.planes.specs.Rect.{rowsFill, planesFill};
+ghost use Rattle.planes.specs.Stored.{LayoutFits};
+ghost use Rattle.planes.specs.Band.{inner};
+ghost use Rattle.record.specs.Setup.{layout, setLength, resultLength};
+ghost use Rattle.record.specs.Laws.{SetupFits};
+ghost use Rattle.runs.specs.Result.{ResultOutcome, resultOf, resultOutcome};
+ghost use Rattle.run_result.specs.Part.{partOf, rowsOf};
+
+const PLANES: usize = 3;
+
+// Copies n samples from index `from` of `src` to index `at` of `out`.
+fn copy_row(src: &[f32], from: usize, out: &mut [f32], at: usize, n: usize)
+    requires { ⌜ (from + n ≤ length (now src)) × (at + n ≤ length (now out)) ⌝ }
+    ensures { λ _. ⌜ now (out .exit) ≡ fill (now (out .entry)) at n (λ (x : ℕ). getD (now (src .entry)) (from + x) nan) ⌝ }
+{
+    let mut x = 0;
+    while x < n {
+        out[at + x] = src[from + x];
+        x += 1;
+    }
+}
+
+// The filter region's rows of one plane, from the image's row that starts at index `from` on, to index `at` on.
+fn copy_rows(src: &[f32], from: usize, out: &mut [f32], at: usize, l: Layout)
+    requires { ⌜ LayoutFits l × (from + l .height * l .image .width ≤ length (now src)) × (at + l .height * l .width ≤ length (now out)) ⌝ }
+    ensures { λ _. ⌜ now (out .exit) ≡ rowsFill (now (out .entry)) at (l .width) (l .width) (l .height) (rowsOf l from (now (src .entry))) ⌝ }
+{
+    let mut y = 0;
+    let mut row = from;
+    let mut o = at;
+    while y < l.height {
+        copy_row(src, row + l.left, out, o, l.width);
+        row += l.image.width;
+        o += l.width;
+        y += 1;
+    }
+}
+
+// The filter region of n planes.
+fn copy_planes(src: &[f32], out: &mut [f32], l: Layout, n: usize)
+    requires { ⌜ LayoutFits l ⌝ }
+    requires { ⌜ (n ≤ 3) × (length (now src) ≡ n * l .image .height * l .image .width) × (length (now out) ≡ n * l .height * l .width) ⌝ }
+    ensures { λ _. ⌜ now (out .exit) ≡ planesFill (l .width) (l .height) 0 (l .width) 0 (l .height) (inner l (now (src .entry))) (now (out .entry)) n ⌝ }
+{
+    let mut c = 0;
+    while c < n {
+        let from = (c * l.image.height + l.top) * l.image.width;
+        let at = c * l.height * l.width;
+        copy_rows(src, from, out, at, l);
+        c += 1;
+    }
+}
+
+// The result as the filter region of a layout: the full planes, or the filter region itself.
+fn part_of(l: Layout) -> Layout
+    ensures { λ p. ⌜ p ≡ partOf l ⌝ }
+{
+    if !l.full {
+        return l;
+    }
+    let image = l.image;
+    Layout {
+        image,
+        left: 0,
+        top: 0,
+        width: image.width,
+        height: image.height,
+        full: true,
+    }
+}
+
+fn copy_result(s: Setup, src: &[f32], out: &mut [f32])
+    requires { ⌜ SetupFits s × (length (now src) ≡ setLength 3 s) × (length (now out) ≡ resultLength 3 s) ⌝ }
+    ensures { λ _. ⌜ now (out .exit) ≡ resultOf 3 (layout s) (now (src .entry)) ⌝ }
+{
+    let answer = layout_of(s.image, s.filter, s.preserve_outside);
+    let part = part_of(answer.layout);
+    copy_planes(src, out, part, PLANES)
+}
+
+// Copies the result of a finished run into `out`, from the set that a next pass would read; 7, 9 or 11, and nothing written.
+pub fn result(run: Run, first: &[f32], second: &[f32], out: &mut [f32]) -> u32
+    ensures { λ r. ⌜ _≡_ {A = ResultOutcome} (record { number = r; out = now (out .exit) }) (resultOutcome 3 run (now (first .entry)) (now (second .entry)) (now (out .entry))) ⌝ }
+{
+    if sets_wrong(run.setup, first.len(), second.len()) {
+        return WRONG_LENGTH;
+    }
+    if slice_wrong(run.setup, out.len()) {
+        return WRONG_LENGTH;
+    }
+    let number = result_number(run);
+    if number != ACCEPTED {
+        return number;
+    }
+    if run.pass % 2 == 0 {
+        copy_result(run.setup, first, out);
+        return ACCEPTED;
+    }
+    copy_result(run.setup, second, out);
+    ACCEPTED
+}
