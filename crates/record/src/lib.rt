@@ -17,13 +17,14 @@ ghost use Rattle.groups.specs.Table.{someBelow};
 ghost use Rattle.record.specs.Setup.{rowCount, sized, bandCount, blocksFit, heightFits, setupFits};
 ghost use Rattle.record.specs.Record.{isDone, finished, openBands, runFits, notOpen, openChecks, overChecks, finishedChecks};
 
-const MAX_SIDE: u32 = 16384;
+// Document 01, "Measures" and "Runs".
+pub const MAX_SIDE: u32 = 16384;
 
 const MAX_AREA: u32 = 16777216;
 
-const MAX_ITERS: u32 = 3;
+pub const MAX_ITERS: u32 = 3;
 
-const MAX_BANDS: usize = 256;
+pub const MAX_BANDS: usize = 256;
 
 // What start is told and no call changes. `band_height` is in rows of the result.
 #[repr(C)]

@@ -12,6 +12,9 @@ use numbers::OUT_OF_RANGE;
 use numbers::WRONG_LENGTH;
 use passes::EpfSettings;
 use passes::Settings;
+use record::MAX_BANDS;
+use record::MAX_ITERS;
+use record::MAX_SIDE;
 use record::Run;
 use record::Setup;
 use record::band_count;
@@ -31,12 +34,6 @@ ghost use Rattle.record.specs.Record.{started};
 ghost use Rattle.runs.specs.Start.{Handed, StartOutcome, blocksOf, noSetup, noRun, startOutcome};
 ghost use Rattle.run_start.specs.Lowest.{lowest};
 ghost use Rattle.run_start.specs.Pieces.{runsEpf, sigmasAsked, ownChecks, numberOf};
-
-const MAX_ITERS: u32 = 3;
-
-const MAX_HEIGHT: u32 = 16384;
-
-const MAX_BANDS: usize = 256;
 
 const BLOCK_DIM: usize = 8;
 
@@ -107,7 +104,7 @@ fn told_wrong(s: Setup) -> bool
     if s.band_height < 1 {
         return true;
     }
-    if MAX_HEIGHT < s.band_height {
+    if MAX_SIDE < s.band_height {
         return true;
     }
     MAX_BANDS < band_count(s)

@@ -1,5 +1,6 @@
 // Runs: what calls answer, and the lengths of what they are lent. The outcomes of start, band, advance and result are defined in specs/.
 use groups::blocks_along;
+use record::MAX_ITERS;
 use record::Run;
 use record::Setup;
 use record::sized;
@@ -13,8 +14,6 @@ ghost use Rattle.runs.specs.Band.{setCheck, sigmaCheck};
 ghost use Rattle.runs.specs.Result.{sliceCheck};
 
 const PLANES: usize = 3;
-
-const MAX_ITERS: u32 = 3;
 
 // The record as it is after the call: as it was handed in where a band or an advance is refused, and zeros where start is.
 #[repr(C)]
