@@ -1,5 +1,7 @@
 //! Times of the proved library beside the original's, on the same buffers in one process.
 
+mod run;
+
 use std::{
     hint::black_box,
     time::{Duration, Instant},
@@ -43,6 +45,7 @@ pub fn print() {
             epf(step, side, COPIED);
         }
     }
+    run::print();
     header();
 }
 
@@ -87,21 +90,8 @@ fn gabor(width: u32, height: u32) {
                 enabled: true,
                 weights,
             };
-            // SAFETY: two whole slices are lent.
-            let number = unsafe {
-                boundary::loupe_gabor_pass(
-                    image,
-                    image,
-                    true,
-                    settings,
-                    0,
-                    height,
-                    black_box(&source).as_ptr(),
-                    source.len(),
-                    target.as_mut_ptr(),
-                    target.len(),
-                )
-            };
+            let number =
+                boundary::gabor_pass(all_rows(image), settings, black_box(&source), &mut target);
             assert_eq!(number, 0);
         },
         || {
@@ -120,6 +110,17 @@ fn gabor(width: u32, height: u32) {
     line(&format!("gabor {width}x{height}"), plane, ours, rust);
 }
 
+/// All rows of an image that is filtered whole.
+fn all_rows(image: Region) -> boundary::Rows {
+    boundary::Rows {
+        image,
+        filter: image,
+        preserve_outside: true,
+        from: 0,
+        to: image.height,
+    }
+}
+
 /// A line with both times in ns a sample of the three planes.
 fn line(name: &str, plane: usize, ours: f64, rust: f64) {
     let samples = 3.0 * plane as f64;
@@ -131,15 +132,19 @@ fn line(name: &str, plane: usize, ours: f64, rust: f64) {
     );
 }
 
+/// Samples of three planes that differ little, so that neighbours have weight.
+fn smooth(plane: usize) -> Vec<f32> {
+    let mut random = Random::for_name("bench epf");
+    (0..3 * plane)
+        .map(|_| 0.5 + random.within(0, 1 << 20) as f32 / (1 << 26) as f32)
+        .collect()
+}
+
 /// One edge-preserving step with the default settings, all blocks with the same sigma.
 fn epf(step: u32, side: u32, sigma: f32) {
     let width = side as usize;
     let plane = width * width;
-    let mut random = Random::for_name("bench epf");
-    // Samples differ little, so that neighbours have weight.
-    let source: Vec<f32> = (0..3 * plane)
-        .map(|_| 0.5 + random.within(0, 1 << 20) as f32 / (1 << 26) as f32)
-        .collect();
+    let source = smooth(plane);
     let target = std::cell::RefCell::new(vec![0.0f32; 3 * plane]);
     let sigmas = vec![sigma; width.div_ceil(8).pow(2)];
     let image = Region {
@@ -152,23 +157,9 @@ fn epf(step: u32, side: u32, sigma: f32) {
     let (ours, rust) = best(
         || {
             let mut target = target.borrow_mut();
-            // SAFETY: three whole slices are lent.
-            let number = unsafe {
-                boundary::loupe_epf_pass(
-                    image,
-                    image,
-                    true,
-                    step_of(step, settings),
-                    sigmas.as_ptr(),
-                    sigmas.len(),
-                    0,
-                    side,
-                    black_box(&source).as_ptr(),
-                    source.len(),
-                    target.as_mut_ptr(),
-                    target.len(),
-                )
-            };
+            let step = step_of(step, settings);
+            let source = black_box(&source);
+            let number = boundary::epf_pass(all_rows(image), step, &sigmas, source, &mut target);
             assert_eq!(number, 0);
         },
         || {
@@ -195,10 +186,7 @@ fn header() {
     let bytes = vec![0u8; 65_536];
     let read = |place: usize| {
         for _ in 0..TIMES {
-            // SAFETY: a whole slice is lent.
-            let answer = unsafe {
-                boundary::loupe_read_filters(bytes.as_ptr(), bytes.len(), black_box(place), false)
-            };
+            let answer = boundary::read_filters(&bytes, black_box(place), false);
             assert_eq!(black_box(answer).number, 0);
         }
     };

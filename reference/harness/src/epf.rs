@@ -34,24 +34,10 @@ struct Pass<'a> {
 }
 
 impl Pass<'_> {
-    fn ours(&self, (from, to): Rows, source: &[f32], target: &mut [f32]) -> u32 {
-        // SAFETY: three whole slices are lent.
-        unsafe {
-            boundary::loupe_epf_pass(
-                picture::region(self.place.image),
-                picture::region(self.place.filter),
-                self.place.preserve_outside,
-                step_of(self.step, self.settings),
-                self.sigmas.as_ptr(),
-                self.sigmas.len(),
-                from,
-                to,
-                source.as_ptr(),
-                source.len(),
-                target.as_mut_ptr(),
-                target.len(),
-            )
-        }
+    fn ours(&self, rows: Rows, source: &[f32], target: &mut [f32]) -> u32 {
+        let rows = picture::rows(self.place, rows);
+        let settings = step_of(self.step, self.settings);
+        boundary::epf_pass(rows, settings, self.sigmas, source, target)
     }
 
     /// The result's planes by the original's row function.
@@ -406,7 +392,7 @@ pub const DEFAULTS: oracle::Edge = oracle::Edge {
 };
 
 /// The default settings, plain ones of either sign, defaults with one of any kind, or any floats.
-fn settings(random: &mut Random) -> oracle::Edge {
+pub fn settings(random: &mut Random) -> oracle::Edge {
     let mut floats = [40.0, 5.0, 3.5, 0.9, 6.5, 2.0 / 3.0];
     match random.within(0, 5) {
         0 | 1 => {}
@@ -432,7 +418,7 @@ fn settings(random: &mut Random) -> oracle::Edge {
 }
 
 /// Samples that differ little, so that neighbours have weight, or much; special ones in some sets.
-fn textured(count: usize, random: &mut Random) -> Vec<f32> {
+pub fn textured(count: usize, random: &mut Random) -> Vec<f32> {
     let depth = random.one_of(&[1.0, 0.1, 0.01, 0.01, 0.001]);
     let mut set: Vec<f32> = samples(count, random);
     let base = plain(random);

@@ -7,6 +7,7 @@ pub mod epf;
 pub mod gabor;
 pub mod header;
 mod pass;
+pub mod runs;
 pub mod sigma;
 
 /// A side, left or top outside the measures, given or resulting.

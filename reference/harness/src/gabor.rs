@@ -16,6 +16,9 @@ const SIDES: u32 = 20;
 /// Heights of bands.
 const BANDS: u32 = 9;
 
+/// The default weights of a header.
+pub const DEFAULT_WEIGHTS: oracle::Weights = [[0.115_169_525, 0.061_248_592]; 3];
+
 const NAME: &str = "gabor rows";
 
 /// What a pass is handed but the slices.
@@ -26,25 +29,12 @@ struct Pass {
 }
 
 impl Pass {
-    fn ours(&self, (from, to): Rows, source: &[f32], target: &mut [f32]) -> u32 {
-        // SAFETY: two whole slices are lent.
-        unsafe {
-            boundary::loupe_gabor_pass(
-                picture::region(self.place.image),
-                picture::region(self.place.filter),
-                self.place.preserve_outside,
-                boundary::Gabor {
-                    enabled: true,
-                    weights: self.weights,
-                },
-                from,
-                to,
-                source.as_ptr(),
-                source.len(),
-                target.as_mut_ptr(),
-                target.len(),
-            )
-        }
+    fn ours(&self, rows: Rows, source: &[f32], target: &mut [f32]) -> u32 {
+        let settings = boundary::Gabor {
+            enabled: true,
+            weights: self.weights,
+        };
+        boundary::gabor_pass(picture::rows(self.place, rows), settings, source, target)
     }
 
     /// The result's planes by the original.
@@ -201,9 +191,9 @@ fn refusals(random: &mut Random, report: &mut Report) {
 }
 
 /// The default weights, plain ones, or any float.
-fn weights(random: &mut Random) -> oracle::Weights {
+pub fn weights(random: &mut Random) -> oracle::Weights {
     match random.within(0, 3) {
-        0 => [[0.115169525, 0.061248592]; 3],
+        0 => DEFAULT_WEIGHTS,
         1 => core::array::from_fn(|_| core::array::from_fn(|_| special(random))),
         _ => core::array::from_fn(|_| core::array::from_fn(|_| plain(random))),
     }

@@ -48,8 +48,7 @@ pub const READERS: [Reader; 4] = [
         form: "f",
         encoded: false,
         ours: |(bytes, place, _)| {
-            // SAFETY: a whole slice is lent.
-            let a = unsafe { boundary::loupe_read_half(bytes.as_ptr(), bytes.len(), place) };
+            let a = boundary::read_half(bytes, place);
             given(a.number, vec![a.value.to_bits()], a.next)
         },
         rule: |(bytes, place, _)| expected::half(bytes, place),
@@ -63,8 +62,7 @@ pub const READERS: [Reader; 4] = [
         form: "nffffff",
         encoded: false,
         ours: |(bytes, place, _)| {
-            // SAFETY: a whole slice is lent.
-            let a = unsafe { boundary::loupe_read_gabor(bytes.as_ptr(), bytes.len(), place) };
+            let a = boundary::read_gabor(bytes, place);
             given(a.number, gabor_fields(&a.gabor), a.next)
         },
         rule: |(bytes, place, _)| expected::gabor(bytes, place),
@@ -78,9 +76,7 @@ pub const READERS: [Reader; 4] = [
         form: "nnffffffffffffffff",
         encoded: true,
         ours: |(bytes, place, modular)| {
-            let (first, len) = (bytes.as_ptr(), bytes.len());
-            // SAFETY: a whole slice is lent.
-            let a = unsafe { boundary::loupe_read_epf(first, len, place, modular) };
+            let a = boundary::read_epf(bytes, place, modular);
             given(a.number, epf_fields(&a.epf), a.next)
         },
         rule: |(bytes, place, modular)| expected::epf(bytes, place, modular),
@@ -94,9 +90,7 @@ pub const READERS: [Reader; 4] = [
         form: "nffffffnnffffffffffffffff",
         encoded: true,
         ours: |(bytes, place, modular)| {
-            let (first, len) = (bytes.as_ptr(), bytes.len());
-            // SAFETY: a whole slice is lent.
-            let a = unsafe { boundary::loupe_read_filters(first, len, place, modular) };
+            let a = boundary::read_filters(bytes, place, modular);
             let fields = [gabor_fields(&a.gabor), epf_fields(&a.epf)].concat();
             given(a.number, fields, a.next)
         },

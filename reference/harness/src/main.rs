@@ -16,8 +16,10 @@ mod mirror;
 mod picture;
 mod random;
 mod record;
+mod rectangles;
 mod region;
 mod report;
+mod runs;
 mod sigma;
 mod subject;
 
@@ -73,6 +75,8 @@ fn compare(scale: u64) -> ExitCode {
     gabor::compare(scale, &mut report);
     sigma::compare(scale, &mut report);
     epf::compare(scale, &mut report);
+    runs::compare(scale, &mut report);
+    rectangles::compare(scale, &mut report);
     if report.finish() {
         ExitCode::SUCCESS
     } else {

@@ -99,6 +99,17 @@ pub fn agree(a: f32, b: f32) -> bool {
     a.to_bits() == b.to_bits() || a.is_nan() && b.is_nan()
 }
 
+/// Rows of the result at a place.
+pub fn rows(place: oracle::Place, (from, to): Rows) -> boundary::Rows {
+    boundary::Rows {
+        image: region(place.image),
+        filter: region(place.filter),
+        preserve_outside: place.preserve_outside,
+        from,
+        to,
+    }
+}
+
 pub fn region(r: oracle::Region) -> boundary::Region {
     boundary::Region {
         left: r.left,

@@ -31,6 +31,16 @@ impl Row {
         self.numbers[number as usize] += 1;
     }
 
+    /// Each of these numbers must have been due so many times, or the row counts as differing.
+    pub fn require(&mut self, numbers: &[u32], times: u64) {
+        for &number in numbers {
+            let seen = self.numbers[number as usize];
+            if seen < times {
+                self.differs(&("times that a number was due", number), &seen, &times);
+            }
+        }
+    }
+
     pub fn differs(&mut self, case: &dyn Debug, given: &dyn Debug, due: &dyn Debug) {
         self.differ += 1;
         if self.differ <= SHOWN {

@@ -56,21 +56,9 @@ impl Case {
             lf_level: self.frame.lf_level,
             group_size_shift: self.frame.group_size_shift,
         };
-        // SAFETY: three whole slices are lent.
-        unsafe {
-            boundary::loupe_block_sigmas(
-                on,
-                frame,
-                self.blocks,
-                self.table.as_ptr(),
-                self.table.len(),
-                self.grids.as_ptr(),
-                self.grids.len(),
-                self.modular,
-                sigmas.as_mut_ptr(),
-                sigmas.len(),
-            )
-        }
+        boundary::block_sigmas(
+            on, frame, self.blocks, &self.table, &self.grids, self.modular, sigmas,
+        )
     }
 
     fn handed(&self, on: bool, sigmas: usize) -> rule::Handed<'_> {
@@ -107,20 +95,7 @@ impl Case {
 
     /// The grids of a case that is accepted.
     pub fn rust_grids(&self) -> Vec<Option<oracle::SigmaGrid>> {
-        let mut rest = &self.grids[..];
-        let mut grid = |entry: &[u32]| {
-            let (width, height) = (entry[1] as usize, entry[2] as usize);
-            let cells = rest.split_off(..width * height)?.to_vec();
-            Some(oracle::SigmaGrid {
-                width,
-                height,
-                cells,
-            })
-        };
-        self.table
-            .chunks_exact(3)
-            .map(|entry| if entry[0] == 1 { grid(entry) } else { None })
-            .collect()
+        rust_grids(&self.table, &self.grids)
     }
 
     /// Blocks of the filter region; one where it is larger than any.
@@ -131,6 +106,24 @@ impl Case {
         }
         width.div_ceil(8) * height.div_ceil(8)
     }
+}
+
+/// The grids of a table with its cells, as the original has them.
+pub fn rust_grids(table: &[u32], grids: &[f32]) -> Vec<Option<oracle::SigmaGrid>> {
+    let mut rest = grids;
+    let mut grid = |entry: &[u32]| {
+        let (width, height) = (entry[1] as usize, entry[2] as usize);
+        let cells = rest.split_off(..width * height)?.to_vec();
+        Some(oracle::SigmaGrid {
+            width,
+            height,
+            cells,
+        })
+    };
+    table
+        .chunks_exact(3)
+        .map(|entry| if entry[0] == 1 { grid(entry) } else { None })
+        .collect()
 }
 
 pub fn compare(scale: u64, report: &mut Report) {
@@ -160,17 +153,21 @@ pub fn compare(scale: u64, report: &mut Report) {
         check(&case, true, case.count(), &mut random, &mut row);
     }
     report.add(row);
-    let mut row = Row::new(NAME, "whole frames");
-    for (width, height) in [(16_384, 64), (64, 16_384), (2_040, 1_500), (1_500, 2_044)] {
-        for shift in 0..4 {
-            let case = whole(shift, width, height, &mut random);
-            check(&case, true, case.count(), &mut random, &mut row);
-        }
-    }
-    report.add(row);
+    whole_frames(&mut random, report);
     let mut row = Row::new(NAME, "refusals");
     for _ in 0..DRAWS * scale {
         wrong(&mut random, &mut row);
+    }
+    report.add(row);
+}
+
+fn whole_frames(random: &mut Random, report: &mut Report) {
+    let mut row = Row::new(NAME, "whole frames");
+    for (width, height) in [(16_384, 64), (64, 16_384), (2_040, 1_500), (1_500, 2_044)] {
+        for shift in 0..4 {
+            let case = whole(shift, width, height, random);
+            check(&case, true, case.count(), random, &mut row);
+        }
     }
     report.add(row);
 }
@@ -290,7 +287,7 @@ fn around(dim: u32, groups: u32, random: &mut Random) -> (u32, u32) {
 }
 
 /// A frame that has so many groups each way, with any upsampling and LF level that leave room.
-fn frame(shift: u32, groups: (u32, u32), random: &mut Random) -> oracle::Frame {
+pub fn frame(shift: u32, groups: (u32, u32), random: &mut Random) -> oracle::Frame {
     let group = 1_024 << shift;
     let least = |groups: u32| (groups - 1) * group + 1;
     let largest = least(groups.0.max(groups.1));
@@ -314,7 +311,7 @@ fn frame(shift: u32, groups: (u32, u32), random: &mut Random) -> oracle::Frame {
 }
 
 /// Grids for the blocks: each is missing, just large enough, a little larger, or narrow.
-fn filled(
+pub fn filled(
     frame: oracle::Frame,
     blocks: boundary::Blocks,
     (across, down): (u32, u32),
@@ -351,7 +348,7 @@ fn filled(
 }
 
 /// Cells of a group's grid that the blocks need along one direction.
-fn needed(group: u32, dim: u32, first: u32, side: u32) -> u32 {
+pub fn needed(group: u32, dim: u32, first: u32, side: u32) -> u32 {
     let past = first + side.div_ceil(8);
     let start = group * dim;
     if past <= start || first >= start + dim {
@@ -413,7 +410,7 @@ fn wrong(random: &mut Random, row: &mut Row) {
     check(&case, on, lent, random, row);
 }
 
-fn wrong_frame(frame: &mut oracle::Frame, random: &mut Random) {
+pub fn wrong_frame(frame: &mut oracle::Frame, random: &mut Random) {
     match random.within(0, 4) {
         0 => frame.width = random.one_of(&SIDES),
         1 => frame.height = random.one_of(&SIDES),
@@ -433,7 +430,7 @@ fn wrong_blocks(blocks: &mut boundary::Blocks, random: &mut Random) {
     }
 }
 
-fn wrong_table(table: &mut Vec<u32>, random: &mut Random) {
+pub fn wrong_table(table: &mut Vec<u32>, random: &mut Random) {
     let entry = 3 * random.within(0, table.len() as i128 / 3 - 1).max(0) as usize;
     if table.len() < entry + 3 {
         return;
@@ -448,7 +445,7 @@ fn wrong_table(table: &mut Vec<u32>, random: &mut Random) {
 }
 
 /// Sigmas of so many cells.
-fn sigmas(cells: usize, random: &mut Random) -> Vec<f32> {
+pub fn sigmas(cells: usize, random: &mut Random) -> Vec<f32> {
     let first: Vec<f32> = (0..cells.min(PERIOD)).map(|_| sigma(random)).collect();
     let mut all = Vec::with_capacity(cells);
     while all.len() < cells {

@@ -2,7 +2,7 @@
 
 use super::{BLOCK, Region, Ruled, SETTING, WRONG_LENGTH, blocks, pass};
 
-const NOT_ON_BLOCKS: u32 = 6;
+pub const NOT_ON_BLOCKS: u32 = 6;
 const LAST_STEP: u32 = 2;
 
 /// What a step is handed, with the lengths of its slices.

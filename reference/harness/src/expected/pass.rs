@@ -2,9 +2,9 @@
 
 use super::{FARTHEST, LARGEST_SIDE, OUT_OF_MEASURE, Region, Ruled, SETTING, WRONG_LENGTH};
 
-const NOT_INSIDE: u32 = 5;
+pub const NOT_INSIDE: u32 = 5;
 
-const LARGEST_AREA: i128 = 16_777_216;
+pub const LARGEST_AREA: i128 = 16_777_216;
 
 /// Sides of at least 1, and a limit to the area.
 pub fn measured(r: Region) -> bool {
@@ -16,7 +16,7 @@ pub fn measured(r: Region) -> bool {
         && r.top.abs() <= FARTHEST
 }
 
-fn inside(inner: Region, outer: Region) -> bool {
+pub fn inside(inner: Region, outer: Region) -> bool {
     outer.left <= inner.left
         && outer.top <= inner.top
         && inner.right() <= outer.right()

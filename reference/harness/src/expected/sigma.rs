@@ -5,7 +5,7 @@ use super::{
     pass::measured, split_block,
 };
 
-const NOT_HELD: u32 = 8;
+pub const NOT_HELD: u32 = 8;
 
 const LARGEST_GRID_SIDE: u32 = 1_024;
 
@@ -21,7 +21,7 @@ pub struct Frame {
 
 impl Frame {
     /// Groups per row, per column and in all.
-    fn groups(self) -> Ruled<[i128; 3]> {
+    pub fn groups(self) -> Ruled<[i128; 3]> {
         let [.., across, down, all] = group_sizes(
             self.width,
             self.height,
@@ -80,7 +80,7 @@ fn due_sigmas(handed: Handed) -> i128 {
 }
 
 /// Presence is 0 or 1, a present grid's sides are 1 to 1,024, and the grids have all their cells.
-fn of_entries(handed: Handed) -> Vec<u32> {
+pub fn of_entries(handed: Handed) -> Vec<u32> {
     let mut numbers = Vec::new();
     let mut cells = Some(0);
     for entry in handed.table.chunks_exact(3) {
@@ -115,7 +115,7 @@ fn touched(filter: Region) -> (core::ops::Range<i128>, core::ops::Range<i128>) {
 }
 
 /// Each touched block's group is one of the frame, and its grid, if present, holds it.
-fn all_held(handed: Handed) -> bool {
+pub fn all_held(handed: Handed) -> bool {
     let [across, down, _] = handed.frame.groups().expect("judged before");
     let (columns, rows) = touched(handed.filter);
     rows.clone().all(|by| {

@@ -45,15 +45,39 @@ pub fn epf(
     settings: Edge,
     planes: Planes,
 ) -> Planes {
-    let groups: BTreeMap<u32, LfGroup<i32>> = (0..)
-        .zip(grids)
-        .map(|(index, grid)| (index, group(grid.clone())))
-        .collect();
+    let groups = groups(grids);
     let frame = header(frame);
     let params = params(settings);
     through(place, planes, |input| {
         block_on(apply_epf(input, &groups, &frame, &params, &Tasks))
     })
+}
+
+/// `apply_gabor_like` and then `apply_epf` on one `FilterImage`, each where it has settings; one
+/// at least must have. The conditions of [`epf`] hold here too.
+pub fn filters(
+    place: Place,
+    weights: Option<Weights>,
+    edge: Option<(Edge, Frame, &[Option<SigmaGrid>])>,
+    planes: Planes,
+) -> Planes {
+    through(place, planes, |mut input| {
+        if let Some(weights) = weights {
+            input = block_on(apply_gabor_like(input, weights, &Tasks))?;
+        }
+        if let Some((settings, frame, grids)) = edge {
+            let (frame, params) = (header(frame), params(settings));
+            input = block_on(apply_epf(input, &groups(grids), &frame, &params, &Tasks))?;
+        }
+        Ok(input)
+    })
+}
+
+fn groups(grids: &[Option<SigmaGrid>]) -> BTreeMap<u32, LfGroup<i32>> {
+    (0..)
+        .zip(grids)
+        .map(|(index, grid)| (index, group(grid.clone())))
+        .collect()
 }
 
 /// The sigma rows that `apply_epf` makes of the grids for a filter region, each with its row of

@@ -1,0 +1,249 @@
+//! Which number start, band, advance and result are refused with. Each is a table of checks,
+//! ascending: a number, whether what the condition needs is in range, and the condition.
+
+use super::{
+    BLOCK, LARGEST_SIDE, OUT_OF_MEASURE, Region, SETTING, WRONG_LENGTH, blocks,
+    epf::NOT_ON_BLOCKS,
+    pass::{LARGEST_AREA, NOT_INSIDE, inside, measured},
+    sigma::{self, Frame, NOT_HELD, all_held, of_entries},
+};
+
+const BAND_NOT_OPEN: u32 = 10;
+const PASS_NOT_DONE: u32 = 11;
+
+const MOST_ITERATIONS: i128 = 3;
+const MOST_BANDS: i128 = 256;
+const PLANES: i128 = 3;
+
+type Check<'a> = (u32, bool, &'a dyn Fn() -> bool);
+
+fn first_of(checks: &[Check]) -> u32 {
+    assert!(checks.is_sorted_by_key(|check| check.0));
+    let applies = |&&(_, needs, fault): &&Check| needs && fault();
+    checks.iter().find(applies).map_or(0, |check| check.0)
+}
+
+/// What start is told and a record holds, as far as numbers depend on it.
+#[derive(Debug, Clone, Copy)]
+pub struct Setup {
+    pub image: Region,
+    pub filter: Region,
+    pub preserve_outside: bool,
+    pub gabor: bool,
+    pub iterations: i128,
+    pub band_height: i128,
+}
+
+impl Setup {
+    pub fn result(&self) -> Region {
+        if self.preserve_outside {
+            self.image
+        } else {
+            self.filter
+        }
+    }
+
+    pub fn passes(&self) -> i128 {
+        i128::from(self.gabor) + self.iterations
+    }
+
+    /// How many samples lie between a sample and each cut edge.
+    pub fn margin(&self) -> i128 {
+        i128::from(self.gabor) + [0, 2, 3, 6][self.iterations as usize]
+    }
+
+    /// Bands over the rows of the result; the band height must be in range.
+    pub fn bands(&self) -> i128 {
+        (self.result().height + self.band_height - 1) / self.band_height
+    }
+
+    /// Samples of a set.
+    pub fn set(&self) -> i128 {
+        samples(self.image)
+    }
+
+    /// One sigma a block of the filter region, none with the edge filter off.
+    pub fn sigmas(&self) -> i128 {
+        if self.edge_on() {
+            blocks(self.filter.width) * blocks(self.filter.height)
+        } else {
+            0
+        }
+    }
+
+    fn edge_on(&self) -> bool {
+        self.iterations > 0
+    }
+
+    fn iterations_fit(&self) -> bool {
+        self.iterations <= MOST_ITERATIONS
+    }
+
+    fn on_blocks(&self) -> bool {
+        let on_block = |place: i128| place >= 0 && place % BLOCK == 0;
+        on_block(self.filter.left) && on_block(self.filter.top)
+    }
+
+    fn height_fits(&self) -> bool {
+        (1..=LARGEST_SIDE).contains(&self.band_height)
+    }
+
+    fn wrong_sets(&self, lengths: [usize; 2]) -> bool {
+        lengths.iter().any(|&length| length as i128 != self.set())
+    }
+
+    /// Start would refuse none of it under 4, 5, 6 and 9.
+    fn fits(&self) -> bool {
+        measured(self.image)
+            && measured(self.filter)
+            && inside(self.filter, self.image)
+            && (!self.edge_on() || self.on_blocks())
+            && self.iterations_fit()
+            && self.height_fits()
+            && self.bands() <= MOST_BANDS
+    }
+}
+
+/// Samples of three planes of a region.
+pub fn samples(region: Region) -> i128 {
+    PLANES * region.width * region.height
+}
+
+/// Everything that start is handed, with the lengths of its slices.
+#[derive(Debug, Clone, Copy)]
+pub struct Start<'a> {
+    pub setup: Setup,
+    pub frame: Frame,
+    pub table: &'a [u32],
+    pub grids: usize,
+    pub sets: [usize; 2],
+    pub sigmas: usize,
+}
+
+impl Start<'_> {
+    /// The part that block sigmas are asked with.
+    pub fn sigmas_of(&self) -> sigma::Handed<'_> {
+        sigma::Handed {
+            on: self.setup.edge_on(),
+            frame: self.frame,
+            filter: self.setup.filter,
+            table: self.table,
+            grids: self.grids,
+            sigmas: self.sigmas,
+        }
+    }
+}
+
+/// The number of a start.
+pub fn start(handed: Start) -> u32 {
+    let s = handed.setup;
+    let edge_runs = s.iterations_fit() && s.edge_on();
+    let groups = handed.frame.groups();
+    let length_fits = groups.is_ok_and(|[.., all]| handed.table.len() as i128 == 3 * all);
+    // An entry with a faulty presence has no sides, and then there is no length of the grids.
+    let entries = if length_fits {
+        of_entries(handed.sigmas_of())
+    } else {
+        Vec::new()
+    };
+    first_of(&[
+        (OUT_OF_MEASURE, true, &|| !measured(s.image)),
+        (OUT_OF_MEASURE, true, &|| !measured(s.filter)),
+        (OUT_OF_MEASURE, true, &|| groups == Err(OUT_OF_MEASURE)),
+        (OUT_OF_MEASURE, length_fits, &|| {
+            entries.contains(&OUT_OF_MEASURE)
+        }),
+        (NOT_INSIDE, true, &|| !inside(s.filter, s.image)),
+        (NOT_ON_BLOCKS, edge_runs, &|| !s.on_blocks()),
+        (WRONG_LENGTH, true, &|| s.wrong_sets(handed.sets)),
+        (WRONG_LENGTH, groups.is_ok(), &|| !length_fits),
+        (WRONG_LENGTH, length_fits, &|| {
+            entries.contains(&WRONG_LENGTH)
+        }),
+        (WRONG_LENGTH, s.iterations_fit(), &|| {
+            handed.sigmas as i128 != s.sigmas()
+        }),
+        (NOT_HELD, edge_runs && length_fits, &|| {
+            !all_held(handed.sigmas_of())
+        }),
+        (SETTING, true, &|| !s.iterations_fit()),
+        (SETTING, true, &|| groups == Err(SETTING)),
+        (SETTING, length_fits, &|| entries.contains(&SETTING)),
+        (SETTING, true, &|| !s.height_fits()),
+        (SETTING, s.height_fits(), &|| s.bands() > MOST_BANDS),
+    ])
+}
+
+/// A lent record, which may be anything.
+#[derive(Debug, Clone, Copy)]
+pub struct Record<'a> {
+    pub setup: Setup,
+    pub pass: i128,
+    pub done: &'a [bool],
+}
+
+impl Record<'_> {
+    pub fn finished(&self) -> bool {
+        self.pass == self.setup.passes()
+    }
+
+    /// The setup is in range, and accepted calls lead to the pass and the done bands: a band is
+    /// done where there is one, and none is once the run is finished.
+    fn fits(&self) -> bool {
+        if !self.setup.fits() || self.pass > self.setup.passes() {
+            return false;
+        }
+        let open = if self.finished() {
+            0
+        } else {
+            self.setup.bands()
+        };
+        (0..).zip(self.done).all(|(k, done)| k < open || !done)
+    }
+
+    fn missing(&self) -> bool {
+        (0..self.setup.bands()).any(|k| !self.done[k as usize])
+    }
+}
+
+/// Sides and area are in measure: lengths that depend on the region are known.
+fn sized(r: Region) -> bool {
+    let side = |length| (1..=LARGEST_SIDE).contains(&length);
+    side(r.width) && side(r.height) && r.width * r.height <= LARGEST_AREA
+}
+
+/// The number of a band.
+pub fn band(run: Record, sets: [usize; 2], sigmas: usize, k: i128) -> u32 {
+    let s = run.setup;
+    let sigmas_known = s.iterations_fit() && (!s.edge_on() || sized(s.filter));
+    first_of(&[
+        (WRONG_LENGTH, sized(s.image), &|| s.wrong_sets(sets)),
+        (WRONG_LENGTH, sigmas_known, &|| sigmas as i128 != s.sigmas()),
+        (SETTING, true, &|| !run.fits()),
+        (BAND_NOT_OPEN, true, &|| run.finished()),
+        (BAND_NOT_OPEN, true, &|| k >= s.bands()),
+        (BAND_NOT_OPEN, true, &|| run.done[k as usize]),
+    ])
+}
+
+/// The number of an advance.
+pub fn advance(run: Record) -> u32 {
+    first_of(&[
+        (SETTING, true, &|| !run.fits()),
+        (PASS_NOT_DONE, true, &|| run.finished()),
+        (PASS_NOT_DONE, true, &|| run.missing()),
+    ])
+}
+
+/// The number of a result call.
+pub fn result(run: Record, sets: [usize; 2], out: usize) -> u32 {
+    let s = run.setup;
+    first_of(&[
+        (WRONG_LENGTH, sized(s.image), &|| s.wrong_sets(sets)),
+        (WRONG_LENGTH, sized(s.result()), &|| {
+            out as i128 != samples(s.result())
+        }),
+        (SETTING, true, &|| !run.fits()),
+        (PASS_NOT_DONE, true, &|| !run.finished()),
+    ])
+}

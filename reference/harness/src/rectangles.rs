@@ -1,0 +1,348 @@
+//! Rectangles cut from larger pictures: each is run by itself, with its own image region, band
+//! height, result kind, frame and grids, and its samples that have the margin between them and
+//! each cut edge are the larger picture's, bit for bit. One sample less is wrong.
+
+mod regroup;
+
+use crate::{
+    boundary::{self, Region, Settings},
+    epf::textured,
+    expected::runs::samples as count,
+    picture::{self, agree, samples},
+    random::Random,
+    report::{Report, Row},
+    runs::{self, Handed, Passes, State, place, setup_rule},
+    sigma::sigma,
+};
+
+/// Rectangles, before `--scale`.
+const RECTANGLES: u64 = 10_000;
+/// Sides of larger pictures.
+const SIDES: u32 = 64;
+/// The largest left and top.
+const FARTHEST: i32 = 1_048_576;
+/// Pictures that are tried until one sample less is wrong at each edge.
+const TRIES: u64 = 1_000;
+
+const NAME: &str = "rectangles";
+const EDGES: [&str; 4] = ["left", "top", "right", "bottom"];
+
+pub fn compare(scale: u64, report: &mut Report) {
+    let mut random = Random::for_name(NAME);
+    let mut row = Row::new(NAME, "random");
+    let mut compared = 0;
+    for _ in 0..RECTANGLES * scale {
+        let passes = runs::passes(&mut random);
+        let pair = Pair::draw(passes, &mut random);
+        compared += pair.compare(&mut random, &mut row);
+    }
+    report.add(row);
+    println!("{NAME}: {compared} samples at and beyond the margin");
+    let mut row = Row::new(NAME, "a sample less");
+    for combination in 1..8 {
+        let passes = Passes {
+            gabor: combination % 2 == 1,
+            iterations: combination / 2,
+        };
+        tight(passes, &mut random, &mut row);
+    }
+    report.add(row);
+}
+
+/// Two pictures that agree at each place of the smaller filter region.
+struct Pair {
+    larger: Handed,
+    smaller: Handed,
+    margin: u32,
+}
+
+/// Samples between a place of the smaller filter region and each of its edges that is cut.
+type Between = [Option<u32>; 4];
+
+impl Pair {
+    /// Pictures of which some samples are to be compared.
+    fn draw(passes: Passes, random: &mut Random) -> Self {
+        loop {
+            let larger = runs::with_passes(passes, SIDES, random);
+            let pair = Self::cut(larger, random);
+            if pair.places().any(|at| pair.clear(pair.between(at))) {
+                return pair;
+            }
+        }
+    }
+
+    fn cut(larger: Handed, random: &mut Random) -> Self {
+        let filter = part(&larger, random);
+        let smaller = cut_picture(&larger, filter, random);
+        let margin = setup_rule(&larger.setup).margin() as u32;
+        Self {
+            larger,
+            smaller,
+            margin,
+        }
+    }
+
+    /// Places of the smaller filter region, counted from its corner.
+    fn places(&self) -> impl Iterator<Item = (u32, u32)> + use<> {
+        let Region { width, height, .. } = self.smaller.setup.filter;
+        (0..height).flat_map(move |y| (0..width).map(move |x| (x, y)))
+    }
+
+    fn between(&self, (x, y): (u32, u32)) -> Between {
+        let small = self.smaller.setup.filter;
+        let large = self.larger.setup.filter;
+        let end = |corner: i32, side: u32| i64::from(corner) + i64::from(side);
+        let cuts = [
+            small.left != large.left,
+            small.top != large.top,
+            end(small.left, small.width) != end(large.left, large.width),
+            end(small.top, small.height) != end(large.top, large.height),
+        ];
+        let between = [x, y, small.width - 1 - x, small.height - 1 - y];
+        core::array::from_fn(|edge| cuts[edge].then_some(between[edge]))
+    }
+
+    /// The margin lies between the place and each cut edge.
+    fn clear(&self, between: Between) -> bool {
+        between.into_iter().flatten().all(|n| n >= self.margin)
+    }
+
+    /// One sample less than the margin lies between the place and this edge, at least the margin
+    /// between it and the others.
+    fn short_at(&self, edge: usize, between: Between) -> bool {
+        let mut others = between;
+        others[edge] = None;
+        between[edge].is_some_and(|n| n + 1 == self.margin) && self.clear(others)
+    }
+
+    /// Both results, by lists of calls of their own.
+    fn results(&self, random: &mut Random) -> Result<[Vec<f32>; 2], u32> {
+        let smaller = finished(&self.smaller, random)?;
+        Ok([smaller, finished(&self.larger, random)?])
+    }
+
+    /// The samples of both at a place, plane after plane.
+    fn samples(&self, results: &[Vec<f32>; 2], (x, y): (u32, u32)) -> [[f32; 2]; 3] {
+        let corner = self.smaller.setup.filter;
+        core::array::from_fn(|c| {
+            let at = |handed: &Handed, result: &[f32]| {
+                let part = picture::result(&place(&handed.setup));
+                let column = (corner.left - part.left) as u32 + x;
+                let row = (corner.top - part.top) as u32 + y;
+                let (width, height) = (part.width as usize, part.height as usize);
+                result[(c * height + row as usize) * width + column as usize]
+            };
+            [
+                at(&self.smaller, &results[0]),
+                at(&self.larger, &results[1]),
+            ]
+        })
+    }
+
+    /// How many samples were compared.
+    fn compare(&self, random: &mut Random, row: &mut Row) -> u64 {
+        row.count(0);
+        let case = (&self.smaller, &self.larger);
+        let answered = boundary::loupe_margin(self.smaller.setup.settings);
+        if answered != self.margin {
+            row.differs(&case, &answered, &self.margin);
+        }
+        let results = match self.results(random) {
+            Ok(results) => results,
+            Err(number) => {
+                row.differs(&case, &number, &0);
+                return 0;
+            }
+        };
+        let mut compared = 0;
+        for at in self.places().filter(|&at| self.clear(self.between(at))) {
+            compared += 3;
+            let samples = self.samples(&results, at);
+            if let Some([small, large]) = samples.into_iter().find(|[a, b]| !agree(*a, *b)) {
+                row.differs(&(case, at), &small, &large);
+                return compared;
+            }
+        }
+        compared
+    }
+
+    /// The edges at which some sample with one sample less than the margin differs.
+    fn wrong_edges(&self, random: &mut Random) -> Result<[bool; 4], u32> {
+        let results = self.results(random)?;
+        let differs = |at| {
+            let samples = self.samples(&results, at);
+            samples.into_iter().any(|[a, b]| !agree(a, b))
+        };
+        Ok(core::array::from_fn(|edge| {
+            let mut short = self
+                .places()
+                .filter(|&at| self.short_at(edge, self.between(at)));
+            short.any(differs)
+        }))
+    }
+}
+
+/// For each edge a picture in which one sample less than the margin is wrong.
+fn tight(passes: Passes, random: &mut Random, row: &mut Row) {
+    let mut found = [false; 4];
+    for _ in 0..TRIES {
+        let mut larger = runs::with_passes(passes, SIDES, random);
+        let modular = larger.setup.settings.epf.sigma_for_modular;
+        larger.setup.settings = runs::defaults(passes);
+        larger.setup.settings.epf.sigma_for_modular = modular;
+        let pair = Pair::cut(larger, random);
+        match pair.wrong_edges(random) {
+            Ok(wrong) => found = core::array::from_fn(|edge| found[edge] || wrong[edge]),
+            Err(number) => row.differs(&(&pair.smaller, &pair.larger), &number, &0),
+        }
+        if found == [true; 4] {
+            break;
+        }
+    }
+    for (edge, found) in EDGES.into_iter().zip(found) {
+        row.count(0);
+        if !found {
+            row.differs(&(passes, edge), &"no picture", &"one that needs the margin");
+        }
+    }
+}
+
+/// A part of the filter region, on blocks where the edge filter runs.
+fn part(larger: &Handed, random: &mut Random) -> Region {
+    let filter = larger.setup.filter;
+    let step = if larger.setup.settings.epf.iters > 0 {
+        8
+    } else {
+        1
+    };
+    let mut along = |corner: i32, side: u32| {
+        let before = if random.once_in(4) {
+            0
+        } else {
+            step * random.within(0, ((side - 1) / step).into()) as u32
+        };
+        let before = before.min(corner.abs_diff(FARTHEST));
+        let room = side - before;
+        let length = if random.once_in(4) {
+            room
+        } else {
+            random.within(1, room.into()) as u32
+        };
+        (corner + before as i32, length)
+    };
+    let (left, width) = along(filter.left, filter.width);
+    let (top, height) = along(filter.top, filter.height);
+    Region {
+        left,
+        top,
+        width,
+        height,
+    }
+}
+
+/// A picture of its own that agrees with a larger one at each place of its filter region.
+fn cut_picture(larger: &Handed, filter: Region, random: &mut Random) -> Handed {
+    let mut setup = larger.setup;
+    setup.filter = filter;
+    setup.image = runs::around(filter, SIDES, random);
+    setup.preserve_outside = random.once_in(2);
+    let part = if setup.preserve_outside {
+        setup.image
+    } else {
+        filter
+    };
+    setup.band_height = runs::band_height(part.height, random);
+    setup.settings = agreeing(setup.settings, random);
+    let groups = regroup::groups(larger, filter, &mut setup.settings, random);
+    let rule = setup_rule(&setup);
+    let mut first = textured(rule.set() as usize, random);
+    let here = picture::runs(
+        place(&setup).image,
+        place(&setup).filter,
+        (0, filter.height),
+    );
+    let from = place(&larger.setup).image;
+    let there = picture::runs(from, place(&setup).filter, (0, filter.height));
+    for (here, there) in here.zip(there) {
+        for (sample, &agreed) in first[here].iter_mut().zip(&larger.first[there]) {
+            *sample = alike(agreed, random);
+        }
+    }
+    Handed {
+        setup,
+        frame: groups.frame,
+        table: groups.table,
+        grids: groups.grids,
+        second: samples(first.len(), random),
+        first,
+        sigmas: samples(rule.sigmas() as usize, random),
+    }
+}
+
+/// The same bits, or another NaN for a NaN.
+fn alike(sample: f32, random: &mut Random) -> f32 {
+    if sample.is_nan() {
+        f32::from_bits(sample.to_bits() ^ (random.next() as u32 & 0x803F_FFFF) | 1)
+    } else {
+        sample
+    }
+}
+
+/// Settings that agree in all that the passes read, and in nothing else.
+fn agreeing(settings: Settings, random: &mut Random) -> Settings {
+    let passes = Passes {
+        gabor: settings.gabor.enabled,
+        iterations: settings.epf.iters,
+    };
+    let other = runs::settings(passes, sigma(random), random);
+    let mut own = other;
+    if passes.gabor {
+        own.gabor.weights = settings.gabor.weights;
+    }
+    if passes.iterations > 0 {
+        own.epf.channel_scale = settings.epf.channel_scale;
+        own.epf.sigma.border_sad_mul = settings.epf.sigma.border_sad_mul;
+    }
+    if passes.iterations == 3 {
+        own.epf.sigma.pass0_sigma_scale = settings.epf.sigma.pass0_sigma_scale;
+    }
+    if passes.iterations >= 2 {
+        own.epf.sigma.pass2_sigma_scale = settings.epf.sigma.pass2_sigma_scale;
+    }
+    own
+}
+
+/// The result after a random list of calls, refused ones among them; a number where start or all
+/// of a long list is refused.
+fn finished(handed: &Handed, random: &mut Random) -> Result<Vec<f32>, u32> {
+    let mut lent = handed.clone();
+    let answer = lent.start();
+    if answer.number != 0 {
+        return Err(answer.number);
+    }
+    let mut state = State::new(answer.run, &lent);
+    let rule = setup_rule(&lent.setup);
+    let mut out = samples(count(rule.result()) as usize, random);
+    let mut number = 0;
+    // Each band is drawn many times in so many calls.
+    for _ in 0..1_000 * (1 + rule.bands()) {
+        match random.within(0, 1 + rule.bands()) {
+            0 => state.run = boundary::loupe_advance(state.run).run,
+            1 => {
+                number = boundary::result(state.run, &state.first, &state.second, &mut out);
+                if number == 0 {
+                    return Ok(out);
+                }
+            }
+            _ => any_band(&mut state, rule.bands(), random),
+        }
+    }
+    Err(number)
+}
+
+/// A band, or the one past the last.
+fn any_band(state: &mut State, bands: i128, random: &mut Random) {
+    let k = random.within(0, bands) as u32;
+    let (first, second) = (&mut state.first, &mut state.second);
+    state.run = boundary::band(state.run, &state.sigmas, first, second, k).run;
+}

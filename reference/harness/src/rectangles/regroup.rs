@@ -1,0 +1,148 @@
+//! A frame with groups and grids of its own that give a part of a filter region the same sigmas.
+
+use crate::{
+    boundary::{Region, Settings},
+    picture::agree,
+    random::Random,
+    runs::Handed,
+    sigma::{self, needed, sigma},
+};
+
+/// The largest side of a frame.
+const LARGEST_SIDE: u32 = 16_384;
+
+pub struct Groups {
+    pub frame: oracle::Frame,
+    pub table: Vec<u32>,
+    pub grids: Vec<f32>,
+}
+
+/// Sigmas that the blocks of a filter region have, counted from the frame's corner.
+struct Sigmas {
+    left: u32,
+    top: u32,
+    across: u32,
+    down: u32,
+    cells: Vec<f32>,
+}
+
+impl Sigmas {
+    /// Those of a part of the larger picture's filter region, on blocks.
+    fn of(larger: &Handed, filter: Region) -> Self {
+        let whole = larger.setup.filter;
+        let all = larger.due_sigmas();
+        let stride = whole.width.div_ceil(8);
+        let (left, top) = (filter.left as u32 / 8, filter.top as u32 / 8);
+        let (across, down) = (filter.width.div_ceil(8), filter.height.div_ceil(8));
+        let (right, below) = (left - whole.left as u32 / 8, top - whole.top as u32 / 8);
+        let cells = (0..across * down)
+            .map(|n| (below + n / across) * stride + right + n % across)
+            .map(|at| all[at as usize])
+            .collect();
+        Self {
+            left,
+            top,
+            across,
+            down,
+            cells,
+        }
+    }
+
+    fn at(&self, bx: u32, by: u32) -> f32 {
+        self.cells[((by - self.top) * self.across + bx - self.left) as usize]
+    }
+
+    /// Blocks that lie in a group.
+    fn within(&self, group: (u32, u32), dim: u32) -> Vec<(u32, u32)> {
+        let inside = |block: u32, group: u32| block / dim == group;
+        let columns = (self.left..self.left + self.across).filter(|&bx| inside(bx, group.0));
+        let rows = (self.top..self.top + self.down).filter(|&by| inside(by, group.1));
+        let columns: Vec<u32> = columns.collect();
+        rows.flat_map(|by| columns.iter().map(move |&bx| (bx, by)))
+            .collect()
+    }
+
+    /// Each of the blocks repeats the block above, in the top row `modular`.
+    fn carried(&self, blocks: &[(u32, u32)], modular: f32) -> bool {
+        blocks.iter().all(|&(bx, by)| {
+            let above = if by == self.top {
+                modular
+            } else {
+                self.at(bx, by - 1)
+            };
+            agree(self.at(bx, by), above)
+        })
+    }
+}
+
+/// Groups for the sigmas that the larger picture has in the part; without the edge filter, any.
+pub fn groups(
+    larger: &Handed,
+    filter: Region,
+    settings: &mut Settings,
+    random: &mut Random,
+) -> Groups {
+    if settings.epf.iters == 0 {
+        let case = sigma::meeting(0, (1, 1), false, random);
+        return Groups {
+            frame: case.frame,
+            table: case.table,
+            grids: case.grids,
+        };
+    }
+    let due = Sigmas::of(larger, filter);
+    if random.once_in(2) {
+        settings.epf.sigma_for_modular = due.cells[0];
+    }
+    let (shift, counts) = counts(&due, random);
+    let mut groups = Groups {
+        frame: sigma::frame(shift, counts, random),
+        table: Vec::new(),
+        grids: Vec::new(),
+    };
+    for group in 0..counts.0 * counts.1 {
+        let place = (group % counts.0, group / counts.0);
+        groups.add(&due, place, settings.epf.sigma_for_modular, random);
+    }
+    groups
+}
+
+/// A group size shift, and groups each way that have all blocks and perhaps one more.
+fn counts(due: &Sigmas, random: &mut Random) -> (u32, (u32, u32)) {
+    // Larger groups have larger grids.
+    let shift = random.one_of(&[0, 0, 0, 0, 0, 0, 0, 0, 0, 0, 0, 0, 1, 1, 1, 2]);
+    let mut count = |first: u32, blocks: u32| {
+        let needed = (first + blocks).div_ceil(128 << shift);
+        let most = LARGEST_SIDE.div_ceil(1_024 << shift);
+        (needed + random.within(0, 1) as u32).min(most)
+    };
+    let counts = (count(due.left, due.across), count(due.top, due.down));
+    (shift, counts)
+}
+
+impl Groups {
+    /// The next group's entry: missing where its blocks may repeat those above, else a grid that
+    /// has them.
+    fn add(&mut self, due: &Sigmas, group: (u32, u32), modular: f32, random: &mut Random) {
+        let dim = 128 << self.frame.group_size_shift;
+        let blocks = due.within(group, dim);
+        if due.carried(&blocks, modular) && random.once_in(2) {
+            self.table
+                .extend([0, random.next() as u32, random.next() as u32]);
+            return;
+        }
+        let width = needed(group.0, dim, due.left, 8 * due.across);
+        let height = needed(group.1, dim, due.top, 8 * due.down);
+        let mut side = |need: u32| dim.min(need + random.within(0, 3) as u32).max(1);
+        let (width, height) = (side(width), side(height));
+        self.table.extend([1, width, height]);
+        let start = self.grids.len();
+        let filler = sigma(random);
+        self.grids
+            .resize(start + width as usize * height as usize, filler);
+        for (bx, by) in blocks {
+            let at = (by % dim) * width + bx % dim;
+            self.grids[start + at as usize] = due.at(bx, by);
+        }
+    }
+}

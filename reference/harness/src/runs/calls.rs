@@ -1,0 +1,217 @@
+//! Calls with whatever they are lent: the number, the record and every lent slice are what is due.
+
+use core::fmt::Debug;
+
+use super::handed::{Handed, State, fields, place, record_rule, result_part};
+use crate::{
+    boundary::{self, EpfSettings, EpfSigma, Gabor, Region, Run, Settings, Setup},
+    expected::runs as rule,
+    picture::{self, agree},
+    report::{Report, Row},
+};
+
+/// The numbers that each call can give.
+const START_NUMBERS: [u32; 7] = [0, 4, 5, 6, 7, 8, 9];
+const BAND_NUMBERS: [u32; 4] = [0, 7, 9, 10];
+const ADVANCE_NUMBERS: [u32; 3] = [0, 9, 11];
+const RESULT_NUMBERS: [u32; 4] = [0, 7, 9, 11];
+
+const NO_REGION: Region = Region {
+    left: 0,
+    top: 0,
+    width: 0,
+    height: 0,
+};
+
+/// The record of a refused start.
+const NO_RUN: Run = Run {
+    setup: Setup {
+        image: NO_REGION,
+        filter: NO_REGION,
+        preserve_outside: false,
+        settings: Settings {
+            gabor: Gabor {
+                enabled: false,
+                weights: [[0.0; 2]; 3],
+            },
+            epf: EpfSettings {
+                iters: 0,
+                channel_scale: [0.0; 3],
+                sigma: EpfSigma {
+                    quant_mul: 0.0,
+                    pass0_sigma_scale: 0.0,
+                    pass2_sigma_scale: 0.0,
+                    border_sad_mul: 0.0,
+                },
+                sigma_for_modular: 0.0,
+            },
+        },
+        band_height: 0,
+    },
+    pass: 0,
+    done: [false; 256],
+};
+
+/// A row of the table for each kind of call.
+pub struct Tally {
+    start: Row,
+    band: Row,
+    advance: Row,
+    result: Row,
+}
+
+impl Tally {
+    pub fn new(inputs: &'static str) -> Self {
+        Self {
+            start: Row::new("start", inputs),
+            band: Row::new("band", inputs),
+            advance: Row::new("advance", inputs),
+            result: Row::new("result", inputs),
+        }
+    }
+
+    /// Each number that a call can give must have been due so many times.
+    pub fn require(&mut self, times: u64) {
+        self.start.require(&START_NUMBERS, times);
+        self.band.require(&BAND_NUMBERS, times);
+        self.advance.require(&ADVANCE_NUMBERS, times);
+        self.result.require(&RESULT_NUMBERS, times);
+    }
+
+    pub fn report(self, report: &mut Report) {
+        for row in [self.start, self.band, self.advance, self.result] {
+            report.add(row);
+        }
+    }
+}
+
+/// The number is due, and so is each part that the call may have changed.
+fn judge(row: &mut Row, case: &dyn Debug, given: u32, due: u32, parts: &[(&str, bool)]) {
+    row.count(due);
+    if given != due {
+        row.differs(case, &given, &due);
+    } else if let Some((part, _)) = parts.iter().find(|(_, as_due)| !as_due) {
+        row.differs(case, &format!("number {given}, another {part}"), part);
+    }
+}
+
+fn same_bits(a: &[f32], b: &[f32]) -> bool {
+    let bits = |(a, b): (&f32, &f32)| a.to_bits() == b.to_bits();
+    a.len() == b.len() && a.iter().zip(b).all(bits)
+}
+
+/// The same samples, NaNs alike.
+pub fn same_samples(a: &[f32], b: &[f32]) -> bool {
+    a.len() == b.len() && a.iter().zip(b).all(|(a, b)| agree(*a, *b))
+}
+
+/// The number, and the record that was answered. An accepted start leaves the sets and fills the
+/// sigmas; a refused one changes nothing and answers zeros.
+pub fn start(handed: &mut Handed, tally: &mut Tally) -> (u32, Run) {
+    let before = handed.clone();
+    let due = rule::start(before.rule());
+    let answer = handed.start();
+    let (run, sigmas_due) = if due == 0 {
+        let run = Run {
+            setup: before.setup,
+            ..NO_RUN
+        };
+        (run, same_samples(&handed.sigmas, &before.due_sigmas()))
+    } else {
+        (NO_RUN, same_bits(&handed.sigmas, &before.sigmas))
+    };
+    let parts = [
+        ("record", fields(&answer.run) == fields(&run)),
+        ("table", handed.table == before.table),
+        ("grids", same_bits(&handed.grids, &before.grids)),
+        ("first set", same_bits(&handed.first, &before.first)),
+        ("second set", same_bits(&handed.second, &before.second)),
+        ("sigmas", sigmas_due),
+    ];
+    judge(&mut tally.start, &before, answer.number, due, &parts);
+    (answer.number, answer.run)
+}
+
+/// An accepted band writes its rows of the result in the set that is not read, and marks itself
+/// done. Whether the samples are right is seen in the run's result.
+pub fn band(state: &mut State, k: u32, tally: &mut Tally) -> u32 {
+    let mut before = state.clone();
+    let run = record_rule(&before.run);
+    let due = rule::band(run, before.sets(), before.sigmas.len(), k.into());
+    let answer = boundary::band(
+        state.run,
+        &state.sigmas,
+        &mut state.first,
+        &mut state.second,
+        k,
+    );
+    if due == 0 {
+        rewrite(&mut before, state, k);
+        before.run.done[k as usize] = true;
+    }
+    state.run = answer.run;
+    let parts = [
+        ("record", fields(&state.run) == fields(&before.run)),
+        ("sigmas", same_bits(&state.sigmas, &before.sigmas)),
+        ("first set", same_bits(&state.first, &before.first)),
+        ("second set", same_bits(&state.second, &before.second)),
+    ];
+    let case = (&before, k);
+    judge(&mut tally.band, &case, answer.number, due, &parts);
+    answer.number
+}
+
+/// Takes the band's rows of the set that it writes from the state after it.
+fn rewrite(before: &mut State, after: &mut State, k: u32) {
+    let place = place(&before.run.setup);
+    let part = picture::result(&place);
+    let height = before.run.setup.band_height;
+    let rows = (k * height, part.height.min((k + 1) * height));
+    let ([_, before], [_, after]) = (before.by_turns(), after.by_turns());
+    for run in picture::runs(place.image, part, rows) {
+        before[run.clone()].copy_from_slice(&after[run]);
+    }
+}
+
+/// An accepted advance goes on to the next pass, of which no band is done.
+pub fn advance(run: &mut Run, tally: &mut Tally) -> u32 {
+    let before = *run;
+    let due = rule::advance(record_rule(&before));
+    let answer = boundary::loupe_advance(before);
+    *run = if due == 0 {
+        Run {
+            setup: before.setup,
+            pass: before.pass + 1,
+            done: [false; 256],
+        }
+    } else {
+        before
+    };
+    let parts = [("record", fields(run) == fields(&answer.run))];
+    judge(&mut tally.advance, &before, answer.number, due, &parts);
+    *run = answer.run;
+    answer.number
+}
+
+/// An accepted result call copies the result from the set that a next pass would read.
+pub fn result(state: &mut State, out: &mut [f32], tally: &mut Tally) -> u32 {
+    let (before, lent) = (state.clone(), out.to_vec());
+    let run = record_rule(&before.run);
+    let due = rule::result(run, before.sets(), out.len());
+    let number = boundary::result(state.run, &state.first, &state.second, out);
+    let copied = if due == 0 {
+        let setup = state.run.setup;
+        let [read, _] = state.by_turns();
+        same_samples(out, &result_part(&setup, read))
+    } else {
+        same_bits(out, &lent)
+    };
+    let parts = [
+        ("first set", same_bits(&state.first, &before.first)),
+        ("second set", same_bits(&state.second, &before.second)),
+        ("slice", copied),
+    ];
+    let case = (&before, out.len());
+    judge(&mut tally.result, &case, number, due, &parts);
+    number
+}

@@ -1,0 +1,173 @@
+//! What is lent, with one to four things wrong: every field of a setup and a record, the frame, its
+//! table and grids, and lengths.
+
+use super::handed::{Handed, State, setup_rule};
+use crate::{
+    boundary::{Region, Run, Setup},
+    picture::{any_len, special},
+    random::Random,
+    sigma,
+};
+
+/// Sides and corners at their limits, and sides whose area is.
+const SIDES: [u32; 6] = [0, 1, 8, 16_384, 16_385, u32::MAX];
+const CORNERS: [i32; 8] = [
+    i32::MIN,
+    -1_048_577,
+    -1_048_576,
+    -8,
+    8,
+    1_048_576,
+    1_048_577,
+    i32::MAX,
+];
+const AREAS: [(u32, u32); 6] = [
+    (16_384, 1_024),
+    (16_384, 1_025),
+    (4_096, 4_096),
+    (4_097, 4_096),
+    (16_384, 16_384),
+    (u32::MAX, u32::MAX),
+];
+/// The most samples of a slice that is made as long as a damaged setup says.
+pub const MOST_SAMPLES: i128 = 1 << 16;
+
+/// What start is handed.
+pub fn handed(h: &mut Handed, random: &mut Random) {
+    for _ in 0..random.within(1, 4) {
+        match random.within(0, 11) {
+            0..=4 => setup(&mut h.setup, random),
+            5 => sigma::wrong_frame(&mut h.frame, random),
+            6 => sigma::wrong_table(&mut h.table, random),
+            7 => narrow(h, random),
+            8 => move_both(&mut h.setup, random),
+            9 => resize(&mut h.grids, random),
+            _ => lengths([&mut h.first, &mut h.second, &mut h.sigmas], random),
+        }
+    }
+    if random.once_in(2) {
+        let s = h.setup;
+        refit(&s, [&mut h.first, &mut h.second, &mut h.sigmas]);
+    }
+}
+
+/// What a band, an advance or a result call is lent.
+pub fn state(t: &mut State, random: &mut Random) {
+    for _ in 0..random.within(1, 4) {
+        match random.within(0, 8) {
+            0..=2 => setup(&mut t.run.setup, random),
+            3..=5 => progress(&mut t.run, random),
+            _ => lengths([&mut t.first, &mut t.second, &mut t.sigmas], random),
+        }
+    }
+    if random.once_in(2) {
+        let s = t.run.setup;
+        refit(&s, [&mut t.first, &mut t.second, &mut t.sigmas]);
+    }
+}
+
+fn setup(s: &mut Setup, random: &mut Random) {
+    match random.within(0, 9) {
+        0 | 1 => region(&mut s.image, random),
+        2 | 3 => region(&mut s.filter, random),
+        4 => s.preserve_outside ^= true,
+        5 => s.settings.gabor.enabled ^= true,
+        6 => s.settings.epf.iters = random.one_of(&[0, 1, 2, 3, 4, 5, 1 << 31, u32::MAX]),
+        7 | 8 => s.band_height = random.one_of(&[0, 1, 2, 8, 16_384, 16_385, u32::MAX]),
+        _ => floats(s, random),
+    }
+}
+
+fn region(r: &mut Region, random: &mut Random) {
+    let near = |n: i32, random: &mut Random| n.wrapping_add(random.within(-9, 9) as i32);
+    match random.within(0, 8) {
+        0 => r.left = random.one_of(&CORNERS),
+        1 => r.top = random.one_of(&CORNERS),
+        2 => r.width = random.one_of(&SIDES),
+        3 => r.height = random.one_of(&SIDES),
+        4 => (r.width, r.height) = random.one_of(&AREAS),
+        5 => r.left = near(r.left, random),
+        6 => r.top = near(r.top, random),
+        7 => r.width = near(r.width as i32, random) as u32,
+        _ => r.height = near(r.height as i32, random) as u32,
+    }
+}
+
+/// No number depends on a float.
+fn floats(s: &mut Setup, random: &mut Random) {
+    let settings = &mut s.settings;
+    settings.gabor.weights[random.within(0, 2) as usize][0] = special(random);
+    settings.epf.channel_scale[random.within(0, 2) as usize] = special(random);
+    settings.epf.sigma.border_sad_mul = special(random);
+    settings.epf.sigma_for_modular = special(random);
+}
+
+/// Moves both regions: by some blocks, so that grids do not hold them, or off their blocks.
+fn move_both(s: &mut Setup, random: &mut Random) {
+    let ways = [-8, 8, 16, 40, 1_024, 16_384, -3, 1, 4];
+    let (right, down) = match random.within(0, 2) {
+        0 => (random.one_of(&ways), 0),
+        1 => (0, random.one_of(&ways)),
+        _ => (random.one_of(&ways), random.one_of(&ways)),
+    };
+    for r in [&mut s.image, &mut s.filter] {
+        r.left = r.left.wrapping_add(right);
+        r.top = r.top.wrapping_add(down);
+    }
+}
+
+/// A present grid loses a column or a row, and the grids slice its cells.
+fn narrow(h: &mut Handed, random: &mut Random) {
+    let present = |entry: &&mut [u32]| entry[0] == 1 && entry[1].min(entry[2]) > 1;
+    let entries = h.table.chunks_exact_mut(3);
+    let mut grids: Vec<&mut [u32]> = entries.filter(present).collect();
+    // The largest is one that blocks are in.
+    grids.sort_by_key(|entry| core::cmp::Reverse(u64::from(entry[1]) * u64::from(entry[2])));
+    let Some(entry) = grids.first_mut() else {
+        return;
+    };
+    let side = random.within(1, 2) as usize;
+    entry[side] -= 1;
+    let lost = entry[3 - side] as usize;
+    h.grids.truncate(h.grids.len().saturating_sub(lost));
+}
+
+/// The pass and the done bands.
+fn progress(run: &mut Run, random: &mut Random) {
+    match random.within(0, 5) {
+        0 | 1 => run.pass = random.one_of(&[0, 1, 2, 3, 4, 5, u32::MAX]),
+        2 => run.done[random.within(0, 255) as usize] ^= true,
+        3 => run.done = [random.once_in(2); 256],
+        4 => {
+            // All bands of the pass, or one too many.
+            let s = setup_rule(&run.setup);
+            let bands = if s.band_height > 0 { s.bands() } else { 0 };
+            let bands = bands.min(255) as usize + usize::from(random.once_in(2));
+            run.done = core::array::from_fn(|k| k < bands);
+        }
+        _ => {
+            let k = random.within(0, 7) as usize;
+            run.done[k] ^= true;
+        }
+    }
+}
+
+fn lengths(slices: [&mut Vec<f32>; 3], random: &mut Random) {
+    resize(slices[random.within(0, 2) as usize], random);
+}
+
+pub fn resize(slice: &mut Vec<f32>, random: &mut Random) {
+    let length = any_len(slice.len(), random);
+    slice.resize(length, 1.0);
+}
+
+/// Lengths as the setup has them, so that what else is wrong with it shows.
+fn refit(s: &Setup, slices: [&mut Vec<f32>; 3]) {
+    let rule = setup_rule(s);
+    let dues = [rule.set(), rule.set(), rule.sigmas()];
+    for (slice, due) in slices.into_iter().zip(dues) {
+        if due <= MOST_SAMPLES {
+            slice.resize(due as usize, 1.0);
+        }
+    }
+}

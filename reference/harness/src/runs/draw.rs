@@ -1,0 +1,188 @@
+//! Random pictures that start accepts.
+
+use super::handed::{Handed, epf_settings, setup_rule};
+use crate::{
+    boundary::{Blocks, Gabor, Region, Settings, Setup},
+    epf, gabor,
+    picture::{self, samples},
+    random::Random,
+    sigma,
+};
+
+const FARTHEST: i32 = 1_048_576;
+/// A run has at most so many bands.
+const MOST_BANDS: u32 = 256;
+
+/// Places at which groups of 1,024 to 8,192 samples meet.
+const MEETINGS: [i32; 8] = [-8_192, -1_024, 0, 1_024, 2_048, 8_192, 16_384, 1_040_384];
+
+/// Which passes run: the Gabor-like one or not, and iterations of the edge filter.
+#[derive(Debug, Clone, Copy)]
+pub struct Passes {
+    pub gabor: bool,
+    pub iterations: u32,
+}
+
+pub fn passes(random: &mut Random) -> Passes {
+    Passes {
+        gabor: random.once_in(2),
+        iterations: random.within(0, 3) as u32,
+    }
+}
+
+/// A picture with sides of at most so many samples.
+pub fn picture(most: u32, random: &mut Random) -> Handed {
+    let passes = passes(random);
+    with_passes(passes, most, random)
+}
+
+pub fn with_passes(passes: Passes, most: u32, random: &mut Random) -> Handed {
+    let mut side = || random.within(1, most.into()) as u32;
+    let (width, height) = (side(), side());
+    with_sides(passes, (width, height), most, random)
+}
+
+/// A filter region with such sides in an image region with sides of at most so many samples.
+pub fn with_sides(
+    passes: Passes,
+    (width, height): (u32, u32),
+    most: u32,
+    random: &mut Random,
+) -> Handed {
+    let case = on_blocks(width, height, random);
+    let filter = if passes.iterations > 0 {
+        picture::region(case.filter())
+    } else {
+        anywhere(width, height, random)
+    };
+    let image = around(filter, most, random);
+    let preserve_outside = random.once_in(2);
+    let rows = if preserve_outside { image } else { filter }.height;
+    let setup = Setup {
+        image,
+        filter,
+        preserve_outside,
+        settings: settings(passes, case.modular, random),
+        band_height: band_height(rows, random),
+    };
+    lent(setup, case, random)
+}
+
+/// The picture with slices of due lengths.
+fn lent(setup: Setup, case: sigma::Case, random: &mut Random) -> Handed {
+    let rule = setup_rule(&setup);
+    let set = rule.set() as usize;
+    Handed {
+        setup,
+        frame: case.frame,
+        table: case.table,
+        grids: case.grids,
+        first: epf::textured(set, random),
+        second: samples(set, random),
+        sigmas: samples(rule.sigmas() as usize, random),
+    }
+}
+
+/// The default settings of a header with such passes.
+pub fn defaults(passes: Passes) -> Settings {
+    let mut edge = epf::DEFAULTS;
+    edge.iters = passes.iterations;
+    Settings {
+        gabor: Gabor {
+            enabled: passes.gabor,
+            weights: gabor::DEFAULT_WEIGHTS,
+        },
+        epf: epf_settings(edge),
+    }
+}
+
+pub fn settings(passes: Passes, modular: f32, random: &mut Random) -> Settings {
+    let mut edge = epf::settings(random);
+    edge.iters = passes.iterations;
+    edge.sigma_for_modular = modular;
+    Settings {
+        gabor: Gabor {
+            enabled: passes.gabor,
+            weights: gabor::weights(random),
+        },
+        epf: epf_settings(edge),
+    }
+}
+
+/// Grids and a filter region with such sides around a place where groups meet.
+fn on_blocks(width: u32, height: u32, random: &mut Random) -> sigma::Case {
+    // Larger groups have larger grids.
+    let shift = match random.within(0, 49) {
+        0 => 3,
+        1 | 2 => 2,
+        3..=8 => 1,
+        _ => 0,
+    };
+    let mut groups = || random.within(1, sigma::GROUPS[shift as usize].into()) as u32;
+    let groups = (groups(), groups());
+    let dim = 128 << shift;
+    let mut first = |side: u32, groups: u32| {
+        let count = side.div_ceil(8);
+        let meeting = dim * random.within(0, groups.into()) as u32;
+        let before = random.within(0, count.into()) as u32;
+        meeting.saturating_sub(before).min(groups * dim - count)
+    };
+    let blocks = Blocks {
+        left: first(width, groups.0),
+        top: first(height, groups.1),
+        width,
+        height,
+    };
+    let frame = sigma::frame(shift, groups, random);
+    sigma::filled(frame, blocks, groups, false, random)
+}
+
+/// A region with its corner near zero, where groups would meet, at the ends of the measures, or
+/// anywhere between.
+fn anywhere(width: u32, height: u32, random: &mut Random) -> Region {
+    let mut corner = || match random.within(0, 7) {
+        0..=2 => random.within(-40, 40) as i32,
+        3 | 4 => random.one_of(&MEETINGS) - random.within(0, 40) as i32,
+        5 => random.one_of(&[-FARTHEST, FARTHEST]),
+        _ => random.within((-FARTHEST).into(), FARTHEST.into()) as i32,
+    };
+    Region {
+        left: corner(),
+        top: corner(),
+        width,
+        height,
+    }
+}
+
+/// An image region around a filter region, in one of four pictures the same.
+pub fn around(filter: Region, most: u32, random: &mut Random) -> Region {
+    if random.once_in(4) {
+        return filter;
+    }
+    let mut wider = |corner: i32, side: u32| {
+        let room = most - side;
+        let before = random.within(0, room.into()) as u32;
+        let before = before.min(corner.abs_diff(-FARTHEST));
+        let after = random.within(0, (room - before).into()) as u32;
+        (corner - before as i32, side + before + after)
+    };
+    let (left, width) = wider(filter.left, filter.width);
+    let (top, height) = wider(filter.top, filter.height);
+    Region {
+        left,
+        top,
+        width,
+        height,
+    }
+}
+
+/// Any height that makes at most 256 bands, mostly less than the rows.
+pub fn band_height(rows: u32, random: &mut Random) -> u32 {
+    let least = rows.div_ceil(MOST_BANDS);
+    let most = match random.within(0, 7) {
+        0 => 16_384,
+        1 => 4,
+        _ => rows + 1,
+    };
+    random.within(least.into(), most.max(least).into()) as u32
+}

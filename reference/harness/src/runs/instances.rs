@@ -1,0 +1,122 @@
+//! Document 01's instances of runs.
+
+use super::{
+    calls::{self, Tally},
+    draw::{self, Passes},
+    handed::{Handed, State},
+    refusals,
+};
+use crate::{
+    boundary::Setup,
+    picture::{self, agree, samples},
+    random::Random,
+    report::{Report, Row},
+    sigma,
+};
+
+pub fn compare(report: &mut Report) {
+    let mut random = Random::for_name("instances of runs");
+    let mut tally = Tally::new("named");
+    let mut row = Row::new("runs", "instances");
+    for gabor in [false, true] {
+        for iterations in 0..=3 {
+            let passes = Passes { gabor, iterations };
+            two_bands(passes, &mut random, &mut row, &mut tally);
+        }
+    }
+    for shift in 0..4 {
+        for case in sigma::carried(shift, &mut random) {
+            carry(case, &mut row, &mut tally);
+        }
+    }
+    report.add(row);
+    let mut row = Row::new("runs", "named refusals");
+    refusals::compare(&mut row, &mut tally);
+    report.add(row);
+    tally.report(report);
+}
+
+/// A call gave the number that is written here.
+pub fn expect(what: &str, given: u32, due: u32, row: &mut Row) {
+    row.count(due);
+    if given != due {
+        row.differs(&what, &given, &due);
+    }
+}
+
+/// Band 0 twice: 10. Advance with band 1 missing: 11. A run with no passes is finished at once.
+fn two_bands(passes: Passes, random: &mut Random, row: &mut Row, tally: &mut Tally) {
+    let mut handed = draw::with_sides(passes, (16, 16), 16, random);
+    handed.setup.band_height = 8;
+    let (number, run) = calls::start(&mut handed, tally);
+    expect("start", number, 0, row);
+    let mut state = State::new(run, &handed);
+    let mut out = samples(3 * 16 * 16, random);
+    let count = u32::from(passes.gabor) + passes.iterations;
+    for _ in 0..count {
+        let number = calls::band(&mut state, 0, tally);
+        expect("band 0", number, 0, row);
+        let number = calls::band(&mut state, 0, tally);
+        expect("band 0 twice", number, 10, row);
+        let number = calls::advance(&mut state.run, tally);
+        expect("advance with band 1 missing", number, 11, row);
+        let number = calls::result(&mut state, &mut out, tally);
+        expect("result before the finish", number, 11, row);
+        let number = calls::band(&mut state, 2, tally);
+        expect("no band 2", number, 10, row);
+        let number = calls::band(&mut state, 1, tally);
+        expect("band 1", number, 0, row);
+        let number = calls::advance(&mut state.run, tally);
+        expect("advance", number, 0, row);
+    }
+    let number = calls::band(&mut state, 0, tally);
+    expect("band after the finish", number, 10, row);
+    let number = calls::advance(&mut state.run, tally);
+    expect("advance after the finish", number, 11, row);
+    let number = calls::result(&mut state, &mut out, tally);
+    expect("result", number, 0, row);
+}
+
+/// Group row 0 has grids, row 1 none: its blocks repeat the last row above, where the filter
+/// region has it.
+fn carry(case: sigma::Case, row: &mut Row, tally: &mut Tally) {
+    let (dim, top) = (case.grids.len(), case.blocks.top as usize);
+    let above = if top < dim {
+        case.grids[dim - 1]
+    } else {
+        case.modular
+    };
+    let mut handed = one_iteration(case);
+    let (number, _) = calls::start(&mut handed, tally);
+    expect("start where groups meet", number, 0, row);
+    let missing = &handed.sigmas[dim.saturating_sub(top)..];
+    if missing.is_empty() || !missing.iter().all(|&sigma| agree(sigma, above)) {
+        row.differs(&handed, &missing, &above);
+    }
+}
+
+/// A picture of zeros that is the filter region of a case.
+fn one_iteration(case: sigma::Case) -> Handed {
+    let filter = picture::region(case.filter());
+    let mut settings = draw::defaults(Passes {
+        gabor: false,
+        iterations: 1,
+    });
+    settings.epf.sigma_for_modular = case.modular;
+    let samples = (3 * filter.width * filter.height) as usize;
+    Handed {
+        setup: Setup {
+            image: filter,
+            filter,
+            preserve_outside: false,
+            settings,
+            band_height: 64,
+        },
+        sigmas: vec![0.0; case.count()],
+        frame: case.frame,
+        table: case.table,
+        grids: case.grids,
+        first: vec![0.0; samples],
+        second: vec![0.0; samples],
+    }
+}

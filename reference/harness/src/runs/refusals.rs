@@ -1,0 +1,281 @@
+//! Named refusals: which number is given where several things are wrong, and which conditions a
+//! faulty setting hides.
+
+use super::{
+    calls::{self, Tally},
+    draw::{Passes, defaults},
+    handed::{Handed, State},
+    instances::expect,
+};
+use crate::{
+    boundary::{Region, Setup},
+    report::Row,
+};
+
+/// Two blocks each way, of which the first column lies in one group and the second in the next.
+const REGION: Region = Region {
+    left: 1_016,
+    top: 0,
+    width: 16,
+    height: 16,
+};
+const ALL: Passes = Passes {
+    gabor: true,
+    iterations: 3,
+};
+const SAMPLES: usize = 3 * 16 * 16;
+const BLOCKS: usize = 4;
+
+/// What is wrong, what is due, and how it comes about.
+type Wrong<T, Due> = (&'static str, Due, fn(&mut T));
+
+/// The number that start gives.
+const STARTS: &[Wrong<Handed, u32>] = &[
+    ("nothing", 0, |_| {}),
+    ("an empty filter region", 4, |h| h.setup.filter.width = 0),
+    ("a huge filter region outside the image", 4, |h| {
+        h.setup.filter = Region {
+            left: 4_000,
+            top: 0,
+            width: 16_384,
+            height: 16_384,
+        }
+    }),
+    ("an image side of 16,385, a short set", 4, |h| {
+        h.setup.image.height = 16_385;
+        h.first.pop();
+    }),
+    ("a filter region beside the image", 5, |h| {
+        h.setup.filter.left += 8
+    }),
+    ("regions off their blocks, a short set", 6, |h| {
+        off_blocks(&mut h.setup);
+        h.second.pop();
+    }),
+    ("a negative left, band height 0", 6, |h| {
+        moved(&mut h.setup, -1_024);
+        h.setup.band_height = 0;
+    }),
+    (
+        "4 iterations, off blocks, no sigmas, a narrow grid",
+        9,
+        |h| {
+            h.setup.settings.epf.iters = 4;
+            off_blocks(&mut h.setup);
+            h.sigmas.clear();
+            narrow(h);
+        },
+    ),
+    ("a short second set, band height 0", 7, |h| {
+        h.second.pop();
+        h.setup.band_height = 0;
+    }),
+    ("a sigma too many", 7, |h| h.sigmas.push(0.0)),
+    ("a table of one entry", 7, |h| h.table.truncate(3)),
+    ("a cell too few", 7, |h| {
+        h.grids.pop();
+    }),
+    ("shift 4, a short table, no grids", 9, |h| {
+        h.frame.group_size_shift = 4;
+        h.table.truncate(2);
+        h.grids.clear();
+    }),
+    ("upsampling 3, no table", 9, |h| {
+        h.frame.upsampling = 3;
+        h.table.clear();
+    }),
+    ("LF level 5, presence 2, grid side 1,025", 9, |h| {
+        h.frame.lf_level = 5;
+        h.table = vec![2, 1, 1, 1, 1_025, 1];
+    }),
+    ("a frame side of 0, no table", 4, |h| {
+        h.frame.height = 0;
+        h.table.clear();
+    }),
+    ("presence 2 with sides of 0, no grids", 9, |h| {
+        h.table[..3].copy_from_slice(&[2, 0, 0]);
+        h.grids.clear();
+    }),
+    ("presence 2, the other grid's side 1,025", 4, |h| {
+        h.table = vec![2, 1, 1, 1, 1_025, 2]
+    }),
+    ("presence 2, the other grid too narrow", 8, |h| {
+        h.table = vec![2, 1, 1, 1, 1, 1]
+    }),
+    ("a grid too narrow", 8, narrow),
+    ("a group past the frame, band height 0", 8, |h| {
+        h.frame.width = 1_024;
+        h.table.truncate(3);
+        h.grids.truncate(256);
+        h.setup.band_height = 0;
+    }),
+    ("band height 16,385", 9, |h| h.setup.band_height = 16_385),
+    ("256 bands", 0, |h| rows(h, 256)),
+    ("257 bands", 9, |h| rows(h, 257)),
+    ("edge filter off, off blocks, a narrow grid", 0, |h| {
+        edge_off(h);
+        moved(&mut h.setup, -1_019);
+        narrow(h);
+    }),
+    ("edge filter off, sigmas lent", 7, |h| {
+        h.setup.settings.epf.iters = 0
+    }),
+    ("edge filter off, a short table", 7, |h| {
+        edge_off(h);
+        h.table.pop();
+    }),
+    ("edge filter off, presence 2", 9, |h| {
+        edge_off(h);
+        h.table[3] = 2;
+    }),
+    ("edge filter off, grid side 1,025", 4, |h| {
+        edge_off(h);
+        h.table[4] = 1_025;
+    }),
+];
+
+/// The numbers that band 0, an advance and the result give.
+const RECORDS: &[Wrong<State, [u32; 3]>] = &[
+    ("nothing", [0, 11, 11], |_| {}),
+    ("a short set, band height 0", [7, 9, 7], |t| {
+        t.first.pop();
+        t.run.setup.band_height = 0;
+    }),
+    ("a short set, a done band too many", [7, 9, 7], |t| {
+        t.second.pop();
+        t.run.done[2] = true;
+    }),
+    ("the set that is not read too long", [7, 11, 7], |t| {
+        t.second.push(0.0)
+    }),
+    ("band height 0", [9, 9, 9], |t| t.run.setup.band_height = 0),
+    ("a done band too many", [9, 9, 9], |t| t.run.done[2] = true),
+    ("the last flag", [9, 9, 9], |t| t.run.done[255] = true),
+    ("a pass past the last", [9, 9, 9], |t| t.run.pass = 5),
+    ("finished", [10, 11, 0], |t| t.run.pass = 4),
+    ("finished with a done band", [9, 9, 9], |t| {
+        t.run.pass = 4;
+        t.run.done[0] = true;
+    }),
+    ("all bands done", [10, 0, 11], |t| {
+        t.run.done[..2].fill(true)
+    }),
+    ("an empty image region, a short set", [9, 9, 9], |t| {
+        t.run.setup.image.width = 0;
+        t.first.pop();
+    }),
+    ("an image region too far, a short set", [7, 9, 7], |t| {
+        t.run.setup.image.left = 1_048_577;
+        t.first.pop();
+    }),
+    ("4 iterations, no sigmas", [9, 9, 9], |t| {
+        t.run.setup.settings.epf.iters = 4;
+        t.sigmas.clear();
+    }),
+    ("an empty filter region, no sigmas", [9, 9, 9], |t| {
+        t.run.setup.filter.height = 0;
+        t.sigmas.clear();
+    }),
+    ("an empty filter region, edge filter off", [7, 9, 9], |t| {
+        t.run.setup.filter.height = 0;
+        t.run.setup.settings.epf.iters = 0;
+    }),
+    ("a huge filter region, full planes", [9, 9, 9], |t| {
+        t.run.setup.filter.width = 16_384;
+        t.run.setup.filter.height = 16_384;
+        t.run.setup.preserve_outside = true;
+    }),
+    ("off blocks, a sigma too few", [7, 9, 9], |t| {
+        off_blocks(&mut t.run.setup);
+        t.sigmas.pop();
+    }),
+    ("edge filter off, sigmas lent", [7, 11, 11], |t| {
+        t.run.setup.settings.epf.iters = 0
+    }),
+];
+
+pub fn compare(row: &mut Row, tally: &mut Tally) {
+    for (what, due, damage) in STARTS {
+        let mut handed = sound();
+        damage(&mut handed);
+        let (number, _) = calls::start(&mut handed, tally);
+        expect(what, number, *due, row);
+    }
+    let mut handed = sound();
+    let (_, run) = calls::start(&mut handed, tally);
+    for (what, dues, damage) in RECORDS {
+        let mut lent = State::new(run, &handed);
+        damage(&mut lent);
+        // The result's slice is as long as it should be, then one shorter.
+        let mut out = vec![0.0; SAMPLES];
+        let number = calls::result(&mut lent, &mut out, tally);
+        expect(what, number, dues[2], row);
+        out.pop();
+        let number = calls::result(&mut lent, &mut out, tally);
+        let known = lent.run.setup.preserve_outside || lent.run.setup.filter.height > 0;
+        expect(what, number, if known { 7 } else { dues[2] }, row);
+        let number = calls::band(&mut lent.clone(), 0, tally);
+        expect(what, number, dues[0], row);
+        let number = calls::advance(&mut lent.run, tally);
+        expect(what, number, dues[1], row);
+    }
+}
+
+/// A picture that start accepts: all passes, two bands of 8 rows.
+fn sound() -> Handed {
+    Handed {
+        setup: Setup {
+            image: REGION,
+            filter: REGION,
+            preserve_outside: false,
+            settings: defaults(ALL),
+            band_height: 8,
+        },
+        frame: oracle::Frame {
+            width: 2_048,
+            height: 1_024,
+            upsampling: 1,
+            lf_level: 0,
+            group_size_shift: 0,
+        },
+        table: vec![1, 128, 2, 1, 1, 2],
+        grids: vec![1.0; 256 + 2],
+        first: vec![0.5; SAMPLES],
+        second: vec![0.25; SAMPLES],
+        sigmas: vec![0.0; BLOCKS],
+    }
+}
+
+fn moved(setup: &mut Setup, right: i32) {
+    setup.image.left += right;
+    setup.filter.left += right;
+}
+
+fn off_blocks(setup: &mut Setup) {
+    moved(setup, 1);
+}
+
+/// The first grid has one row of the two that are needed.
+fn narrow(h: &mut Handed) {
+    h.table[2] = 1;
+    h.grids.truncate(128 + 2);
+}
+
+fn edge_off(h: &mut Handed) {
+    h.setup.settings.epf.iters = 0;
+    h.sigmas.clear();
+}
+
+/// So many rows, each a band.
+fn rows(h: &mut Handed, rows: u32) {
+    h.setup.image.height = rows;
+    h.setup.filter.height = rows;
+    h.setup.band_height = 1;
+    let blocks = rows.div_ceil(8);
+    h.table = vec![1, 128, blocks, 1, 1, blocks];
+    h.grids.resize(129 * blocks as usize, 1.0);
+    let samples = 3 * 16 * rows as usize;
+    h.first.resize(samples, 0.5);
+    h.second.resize(samples, 0.25);
+    h.sigmas.resize(2 * blocks as usize, 0.0);
+}
