@@ -1,87 +1,31 @@
--- Demand 3: a finished run hands over demand 2's samples, and those are the larger picture's beyond the margin. Assumes nothing.
+-- Demand 3: the samples that a finished run hands over are the larger picture's beyond the margin. Assumes nothing.
 use mathlib.Core.Path.{_≡_, _∙_}
-use mathlib.Core.Bool.{Bool, true, false, cond}
-use mathlib.Core.List.{List, []}
 use Prim.Native.Nat.{ℕ, _+_, _*_, _/_, _<_}
 use native.Mathlib.Omega.{arith}
-use borrow.Author.Tests.{eq-eqb}
-use lib.Dec.{T, eqb→eq, lt→ltb}
-use lib.ListN.{drop, drop-of-length-le}
-use lib.Ieee.{Float}
+use lib.Dec.{T, lt→ltb}
 use lib.Ieee.Fits.{and-l, and-r}
 use lib.IntN.{ℤ, pos, natAbs, _+ℤ_, _-ℤ_}
 use Rattle.mirror.specs.Cut.{Deep}
-use Rattle.planes.specs.Sets.{of, setOf, of-setOf}
-use Rattle.planes.specs.Band.{inner}
 use Rattle.region.specs.declared.Region.{Region}
 use Rattle.region.specs.Regions.{columns, rows}
 use Rattle.region.specs.Laws.{Holds}
-use Rattle.layout.specs.Outcome.{layoutOf}
 use Rattle.epf.specs.Blocks.{onBlock}
-use Rattle.passes.specs.Pass.{Area, pass, passes}
+use Rattle.passes.specs.Pass.{Area, passes}
 use Rattle.passes.specs.Cut.{Fits, SameBlocks, SomeStep, cut-same, plan-sound, plan-some-step}
 use Rattle.passes.specs.Plan.{plan, margin, plan-reach}
 use Rattle.record.specs.declared.Setup.{Setup}
-use Rattle.record.specs.Setup.{layout, epfOn, area}
-use Rattle.record.specs.Record.{passCount, started, finished}
-use Rattle.record.specs.Laws.{SetupFits, setup-fits}
+use Rattle.record.specs.Setup.{epfOn, area}
+use Rattle.record.specs.Record.{started}
+use Rattle.record.specs.Laws.{setup-fits}
 use Rattle.runs.specs.Start.{Handed, sigmasFilled}
 use Rattle.runs.specs.Band.{State, source}
-use Rattle.runs.specs.Result.{resultNumber, resultOf, resultOutcome}
-use Rattle.runs.specs.Laws.{PictureFits, picture-fits, result-accepted}
+use Rattle.runs.specs.Laws.{PictureFits, picture-fits}
 use Rattle.calls.specs.Calls.{Calls, startState, end, documentCalls}
-use Rattle.calls.specs.Places.{input, resultAt, Clear}
+use Rattle.calls.specs.Places.{input, Clear}
 use Rattle.calls.specs.Theorem.{CutFrom, Demand3, DocumentDemand3}
-use Rattle.calls.proofs.Sound.{Sound, pass-count, reading}
 use Rattle.calls.proofs.Lists.{after-start}
+use Rattle.calls.proofs.Finished.{filter-sample, run-samples, handed-over}
 use Rattle.calls.proofs.Places.{part-fits, counted, counted-from, deep, nth-held, nth-counted, blocks-apart, Covered, covered}
-
--- ---- the result's slice has the samples of the set that it is copied from
-
-module _ (n : ℕ) (s : Setup) (fits : SetupFits s) (l : List Float) (c : ℕ) (x y : ℤ) (h : c < n) (held : Holds (s .filter) x y) where
-  result-sample : resultAt s (resultOf n (layout s) l) c x y ≡ inner (layout s) l c (natAbs (x -ℤ s .filter .left)) (natAbs (y -ℤ s .filter .top))
-  unfolding resultOf inner layoutOf
-  result-sample = go (s .«preserve_outside»)
-    where
-      v : Covered (s .image) (s .filter)
-      v = covered (s .image) (s .filter) (fits .contained)
-
-      column : natAbs (x -ℤ s .filter .left) < s .filter .width
-      column = counted (s .filter .left) (s .image .left) (s .filter .width) (s .image .width) (v .left) (v .right) x (held .column)
-
-      row : natAbs (y -ℤ s .filter .top) < s .filter .height
-      row = counted (s .filter .top) (s .image .top) (s .filter .height) (s .image .height) (v .top) (v .bottom) y (held .row)
-
-      go : (full : Bool)
-          → of (cond full (s .image) (s .filter) .width) (cond full (s .image) (s .filter) .height)
-          (setOf n (cond full (s .image .width) (s .filter .width)) (cond full (s .image .height) (s .filter .height))
-          (λ c x y. of (s .image .width) (s .image .height) l c (cond full 0 (natAbs (s .filter .left -ℤ s .image .left)) + x) (cond full 0 (natAbs (s .filter .top -ℤ s .image .top)) + y)))
-          c (natAbs (x -ℤ cond full (s .image) (s .filter) .left)) (natAbs (y -ℤ cond full (s .image) (s .filter) .top))
-          ≡ of (s .image .width) (s .image .height) l c (natAbs (s .filter .left -ℤ s .image .left) + natAbs (x -ℤ s .filter .left)) (natAbs (s .filter .top -ℤ s .image .top) + natAbs (y -ℤ s .filter .top))
-      go true =
-          let e = counted-from (s .filter .left) (s .image .left) (s .filter .width) (s .image .width) (v .left) (v .right) x (held .column) in
-          let f = counted-from (s .filter .top) (s .image .top) (s .filter .height) (s .image .height) (v .top) (v .bottom) y (held .row) in
-          let a : natAbs (x -ℤ s .image .left) < s .image .width = omega (arith, column, part-fits (s .filter .left) (s .image .left) (s .filter .width) (s .image .width) (v .left) (v .right)) in
-          let b : natAbs (y -ℤ s .image .top) < s .image .height = omega (arith, row, part-fits (s .filter .top) (s .image .top) (s .filter .height) (s .image .height) (v .top) (v .bottom)) in
-          let i : 0 + natAbs (x -ℤ s .image .left) ≡ natAbs (s .filter .left -ℤ s .image .left) + natAbs (x -ℤ s .filter .left) = omega arith in
-          let j : 0 + natAbs (y -ℤ s .image .top) ≡ natAbs (s .filter .top -ℤ s .image .top) + natAbs (y -ℤ s .filter .top) = omega arith in
-          of-setOf n (s .image .width) (s .image .height) _ c (natAbs (x -ℤ s .image .left)) (natAbs (y -ℤ s .image .top)) h a b ∙ rw (i, j)
-      go false = of-setOf n (s .filter .width) (s .filter .height) _ c (natAbs (x -ℤ s .filter .left)) (natAbs (y -ℤ s .filter .top)) h column row
-
--- ---- a finished run has demand 2's samples in the set that is read
-
-no-pass-left : (n : ℕ) (first : List Float) (t : State) → Sound n first t → T (finished (t .run)) → (c x y : ℕ) → c < n → x < t .run .setup .filter .width → y < t .run .setup .filter .height
-    → reading t c x y ≡ passes (area (t .run .setup) (t .sigmas)) (plan n (t .run .setup .settings)) (inner (layout (t .run .setup)) first) c x y
-unfolding passes
-no-pass-left n first t sound z c x y h p q =
-    let e : t .run .pass ≡ passCount (t .run .setup) = eqb→eq (t .run .pass) (passCount (t .run .setup)) z in
-    let none : drop (t .run .pass) (plan n (t .run .setup .settings)) ≡ [] = drop-of-length-le (plan n (t .run .setup .settings)) {i = t .run .pass} (omega (arith, pass-count n (t .run .setup))) in
-    rw none at (sound .left c x y h p q)
-
-run-samples : (n : ℕ) (first : List Float) (t : State) (s : Setup) (sigmas : List Float) → t .run .setup ≡ s → t .sigmas ≡ sigmas → Sound n first t → T (finished (t .run))
-    → (c x y : ℕ) → c < n → x < s .filter .width → y < s .filter .height
-    → inner (layout s) (source t) c x y ≡ passes (area s sigmas) (plan n (s .settings)) (inner (layout s) first) c x y
-run-samples n first t s sigmas e f sound z c x y h p q = rw (← e, ← f) (no-pass-left n first t sound z c x y h (rw e p) (rw e q))
 
 -- ---- the smaller picture's filter region is a cut of the larger's
 
@@ -171,21 +115,19 @@ module _ (n : ℕ) (small large : Handed) (fits : PictureFits n small) (from : C
 -- ---- the theorem
 
 pub demand-3 : (n : ℕ) (K : Calls n) → Demand3 n K
-unfolding started resultOutcome
+unfolding started
 demand-3 n K small large e from cs u z out lo =
     let s : Setup = small .setup in
     let fits = picture-fits n small e in
     let kept = after-start n K small e cs u in
     let t : State = end n K (startState n small) cs in
-    let number : resultNumber n (t .run) (t .first) (t .second) out ≡ 0 =
-    result-accepted n (t .run) (t .first) (t .second) out (kept .sound .first-length) (kept .sound .second-length) (rw (kept .setup) lo) (kept .sound .run) z in
-    let v = covered (large .setup .filter) (s .filter) (from .contained) in (
-      number,
+    let over = handed-over n K small e cs u z out lo in (
+      over .0,
       λ c x y h held clear.
-          let column = counted (s .filter .left) (large .setup .filter .left) (s .filter .width) (large .setup .filter .width) (v .left) (v .right) x (held .column) in
-          let row = counted (s .filter .top) (large .setup .filter .top) (s .filter .height) (large .setup .filter .height) (v .top) (v .bottom) y (held .row) in
-          rw (eq-eqb (resultNumber n (t .run) (t .first) (t .second) out) 0 number, kept .setup)
-          (result-sample n s (setup-fits s (fits .setup)) (source t) c x y h held
+          let column = counted (s .filter .left) (s .filter .width) x (held .column) in
+          let row = counted (s .filter .top) (s .filter .height) y (held .row) in
+          rw (over .1)
+          (filter-sample n s (setup-fits s (fits .setup)) (source t) c x y h held
           ∙ run-samples n (small .first) t s (sigmasFilled n small) (kept .setup) (kept .sigmas) (kept .sound) z c (natAbs (x -ℤ s .filter .left)) (natAbs (y -ℤ s .filter .top)) h column row
           ∙ beyond n small large fits from c x y h held clear),
     )

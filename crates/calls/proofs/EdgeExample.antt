@@ -41,13 +41,13 @@ module _ (p : Picture) (scales : List Float) (border sigma : Float) where
 
   module _ (x y : ℤ) (held : Holds (smaller p scales border sigma .setup .filter) x y) where
     column : natAbs (x -ℤ pos 8) < 4
-    column = counted (pos 8) (pos 0) 4 12 tt tt x (held .column)
+    column = counted (pos 8) 4 x (held .column)
 
     further : natAbs (x -ℤ pos 0) ≡ 8 + natAbs (x -ℤ pos 8)
     further = counted-from (pos 8) (pos 0) 4 12 tt tt x (held .column)
 
     row : natAbs (y -ℤ pos 0) < 1
-    row = counted (pos 0) (pos 0) 1 1 tt tt y (held .row)
+    row = counted (pos 0) 1 y (held .row)
 
     inputs : (c : ℕ) → c < 3 → inputAt 3 (smaller p scales border sigma) c x y ≡ inputAt 3 (larger p scales border sigma) c x y
     unfolding inner layoutOf

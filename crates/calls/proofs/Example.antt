@@ -40,8 +40,8 @@ module _ (p : Picture) (weights : List (List Float)) where
   inputs : (c : ℕ) (x y : ℤ) → c < 3 → Holds (smaller p weights .setup .filter) x y → inputAt 3 (smaller p weights) c x y ≡ inputAt 3 (larger p weights) c x y
   unfolding inner layoutOf
   inputs c x y h held =
-      let column : natAbs (x -ℤ pos 0) < 3 = counted (pos 0) (negsuc 0) 3 4 tt tt x (held .column) in
-      let row : natAbs (y -ℤ pos 0) < 1 = counted (pos 0) (pos 0) 1 1 tt tt y (held .row) in
+      let column : natAbs (x -ℤ pos 0) < 3 = counted (pos 0) 3 x (held .column) in
+      let row : natAbs (y -ℤ pos 0) < 1 = counted (pos 0) 1 y (held .row) in
       let further : natAbs (x -ℤ negsuc 0) ≡ 1 + natAbs (x -ℤ pos 0) = counted-from (pos 0) (negsuc 0) 3 4 tt tt x (held .column) in
       let e : 0 + natAbs (x -ℤ negsuc 0) ≡ suc (0 + natAbs (x -ℤ pos 0)) = omega arith in
       of-setOf 3 3 1 _ c (0 + natAbs (x -ℤ pos 0)) (0 + natAbs (y -ℤ pos 0)) h (omega arith) (omega arith)

@@ -4,6 +4,8 @@ pub mod Lists
 pub mod Count
 pub mod Reached
 pub mod Places
+pub mod Finished
 pub mod Demand3
+pub mod Corollaries
 pub mod Example
 pub mod EdgeExample

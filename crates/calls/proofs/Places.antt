@@ -8,24 +8,42 @@ use lib.IntN.{ℤ, pos, negsuc, natAbs, _+ℤ_, _-ℤ_}
 use lib.Signed.{leZ, ltZ}
 use Rattle.interval.specs.Interval.{spanOf, covers}
 use Rattle.interval.specs.Laws.{In}
-use Rattle.interval.specs.Order.{above, below, le-to, le-of, lt-to, lt-of, sum-is, difference-is, size-is, ahead}
+use Rattle.interval.specs.Order.{above, below, le-to, le-of, lt-to, lt-of, sum-is, difference-is, size-is, ahead, le-trans}
 use Rattle.mirror.specs.Cut.{Deep}
 use Rattle.region.specs.declared.Region.{Region}
 use Rattle.region.specs.Regions.{columns, rows, inside}
 use Rattle.epf.specs.Blocks.{onBlock, ahead as notNegative}
 
--- ---- one axis: n places from a on, inside N places from b on
+-- ---- one axis: n places from a on
+
+-- counted from a each is one of the n
+pub counted : (a : ℤ) (n : ℕ) (x : ℤ) → In (spanOf a n) x → natAbs (x -ℤ a) < n
+counted a n x held = omega (arith, le-to a x (held .from), lt-to x (a +ℤ pos n) (held .before), sum-is a (pos n), difference-is x a, size-is (x -ℤ a), ahead a x (le-to a x (held .from)))
+
+-- ---- inside N places from b on
 
 module _ (a b : ℤ) (n N : ℕ) (start : T (leZ b a)) (stop : T (leZ (a +ℤ pos n) (b +ℤ pos N))) where
   pub part-fits : natAbs (a -ℤ b) + n ≤ N
   part-fits = omega (arith, le-to b a start, le-to (a +ℤ pos n) (b +ℤ pos N) stop, sum-is a (pos n), sum-is b (pos N), difference-is a b, size-is (a -ℤ b), ahead b a (le-to b a start))
 
-  module _ (x : ℤ) (held : In (spanOf a n) x) where
-    -- counted from a it is one of the n,
-    pub counted : natAbs (x -ℤ a) < n
-    counted = omega (arith, le-to a x (held .from), lt-to x (a +ℤ pos n) (held .before), sum-is a (pos n), difference-is x a, size-is (x -ℤ a), ahead a x (le-to a x (held .from)))
+  -- of the N places those are the n that count so far from b
+  pub narrower : (x : ℤ) → In (spanOf b N) x → natAbs (a -ℤ b) ≤ natAbs (x -ℤ b) → natAbs (x -ℤ b) < natAbs (a -ℤ b) + n → In (spanOf a n) x
+  narrower x held low high =
+      let p = le-to b a start in
+      let q = le-to b x (held .from) in
+      record {
+        from = le-of a x (omega (arith, difference-is a b, size-is (a -ℤ b), ahead b a p, difference-is x b, size-is (x -ℤ b), ahead b x q));
+        before = lt-of x (a +ℤ pos n) (omega (arith, sum-is a (pos n), difference-is a b, size-is (a -ℤ b), ahead b a p, difference-is x b, size-is (x -ℤ b), ahead b x q));
+      }
 
-    -- and counted from b it stands as much further as a does
+  module _ (x : ℤ) (held : In (spanOf a n) x) where
+    pub wider : In (spanOf b N) x
+    wider = record {
+      from = le-trans b a x start (held .from);
+      before = lt-of x (b +ℤ pos N) (omega (arith, lt-to x (a +ℤ pos n) (held .before), le-to (a +ℤ pos n) (b +ℤ pos N) stop));
+    }
+
+    -- counted from b it stands as much further as a does
     pub counted-from : natAbs (x -ℤ b) ≡ natAbs (a -ℤ b) + natAbs (x -ℤ a)
     counted-from =
         let p = le-to a x (held .from) in
@@ -39,7 +57,7 @@ module _ (a b : ℤ) (n N : ℕ) (start : T (leZ b a)) (stop : T (leZ (a +ℤ po
     deep m low high =
         let p = le-to a x (held .from) in
         record {
-          inside = counted;
+          inside = counted a n x held;
           left = λ f.
               omega (
                 arith,

@@ -1,101 +1,86 @@
--- What a pass over rows of the result leaves in the filter region: its samples in those rows, and the rest as it was. Assumes nothing.
-use mathlib.Core.Path.{_≡_, refl, _∙_}
-use mathlib.Core.Bool.{Bool, true, false, cond, _&&_}
+-- What a pass over rows of the result leaves at a place of the result: its own sample in those rows, and the rest as it was. Assumes nothing.
+use mathlib.Core.Path.{_≡_}
+use mathlib.Core.Bool.{Bool, true, false, cond}
 use mathlib.Core.List.{List}
-use mathlib.Core.Logic.{_⊎_, inl, inr}
 use Prim.Native.Nat.{ℕ, _+_, _-_, _<_, _≤_}
-use native.Mathlib.Decide.{decLe, decLt}
 use native.Mathlib.Omega.{arith}
-use borrow.Author.Tests.{le-leb, lt-leb, le-ltb, lt-ltb}
-use lib.Dec.{leb, ltb}
+use borrow.Author.Tests.{le-leb, lt-ltb}
 use lib.Ieee.{Float}
 use Rattle.planes.specs.declared.Layout.{Layout}
 use Rattle.planes.specs.Picture.{Picture}
-use Rattle.planes.specs.Sets.{of-setOf}
+use Rattle.planes.specs.Sets.{of, of-setOf}
 use Rattle.planes.specs.Rect.{inRect}
-use Rattle.planes.specs.Band.{resultHeight, inFilter, written, inner, passed}
+use Rattle.planes.specs.Band.{resultLeft, resultTop, resultWidth, resultHeight, inFilter, written, passed}
 use Rattle.planes.specs.Stored.{LayoutFits}
 
--- the row of the result at which row y of the filter region stands
-abbrev pub rowIn : Layout → ℕ → ℕ
-rowIn l y = cond (l .full) (l .top + y) y
+-- a set's samples by columns and rows of the image
+abbrev pub sampleOf : Layout → List Float → Picture
+sampleOf l s = of (l .image .width) (l .image .height) s
 
-pub row-below : (l : Layout) → LayoutFits l → (y : ℕ) → y < l .height → rowIn l y < resultHeight l
-row-below l fits y h = go (l .full)
-  where
-    go : (b : Bool) → cond b (l .top + y) y < cond b (l .image .height) (l .height)
-    go true = omega (arith, fits .down)
-    go false = h
+-- what a pass gives at a place of the result: its samples p in the filter region, and else the one read
+abbrev pub filtered : Layout → Picture → List Float → Picture
+filtered l p src c x y = cond (inFilter l x y) (p c (x - l .left) (y - l .top)) (sampleOf l src c x y)
 
--- ---- places in a rectangle
+-- column x and row y of the image lie in the result
+pub record InResult (l : Layout) (x y : ℕ) : Type 0 where
+  pub left : resultLeft l ≤ x
+  pub right : x < resultLeft l + resultWidth l
+  pub top : resultTop l ≤ y
+  pub bottom : y < resultTop l + resultHeight l
+
+-- ---- one axis: the result is all n places or m of them from a on
+
+module _ (n a m : ℕ) (fits : a + m ≤ n) where
+  in-axis : (full : Bool) (x : ℕ) → x < cond full 0 a + cond full n m → x < n
+  in-axis true x h = omega arith
+  in-axis false x h = omega arith
+
+  part-from : (full : Bool) (x : ℕ) → cond full 0 a ≤ a + x
+  part-from true x = omega arith
+  part-from false x = omega arith
+
+  part-before : (full : Bool) (x : ℕ) → x < m → a + x < cond full 0 a + cond full n m
+  part-before true x h = omega arith
+  part-before false x h = omega arith
 
 in-rect : (left n top m x y : ℕ) → left ≤ x → x < left + n → top ≤ y → y < top + m → inRect left n top m x y ≡ true
 unfolding inRect
 in-rect left n top m x y a b c d = rw (le-leb left x a, lt-ltb x (left + n) b, le-leb top y c, lt-ltb y (top + m) d)
 
-neither-way : (a b : Bool) → (a && (b && false)) ≡ false
-neither-way true true = refl
-neither-way true false = refl
-neither-way false b = refl
+-- ---- both
 
-not-second : (a : Bool) → (a && false) ≡ false
-not-second true = refl
-not-second false = refl
+-- where the result is the full planes, each place of the image is one of it
+pub image-in-result : (l : Layout) (x y : ℕ) → l .full ≡ true → x < l .image .width → y < l .image .height → InResult l x y
+image-in-result l x y e i j = record { left = rw e (omega arith); right = rw e (omega arith); top = rw e (omega arith); bottom = rw e (omega arith) }
 
-out-rect : (left n top m x y : ℕ) → y < top ⊎ top + m ≤ y → inRect left n top m x y ≡ false
-unfolding inRect
-out-rect left n top m x y (inl l) = rw (lt-leb top y l) (not-second (leb left x && ltb x (left + n)))
-out-rect left n top m x y (inr l) = rw (le-ltb y (top + m) l) (neither-way (leb left x && ltb x (left + n)) (leb top y))
+module _ (l : Layout) (fits : LayoutFits l) where
+  -- a place of the filter region is one of the result
+  pub filter-in-result : (x y : ℕ) → x < l .width → y < l .height → InResult l (l .left + x) (l .top + y)
+  filter-in-result x y i j = record {
+    left = part-from (l .image .width) (l .left) (l .width) (fits .across) (l .full) x;
+    right = part-before (l .image .width) (l .left) (l .width) (fits .across) (l .full) x i;
+    top = part-from (l .image .height) (l .top) (l .height) (fits .down) (l .full) y;
+    bottom = part-before (l .image .height) (l .top) (l .height) (fits .down) (l .full) y j;
+  }
 
--- past the last of the rows, which may be none
-past : (top from to y : ℕ) → top + to ≤ y → y < top + from ⊎ top + from + (to - from) ≤ y
-past top from to y h = go (decLt y (top + from))
-  where
-    go : Dec (y < top + from) → y < top + from ⊎ top + from + (to - from) ≤ y
-    go (yes l) = inl l
-    go (no l) = inr (omega arith)
-
--- ---- a sample of the filter region after the pass
-
-module _ (n : ℕ) (l : Layout) (fits : LayoutFits l) (from to : ℕ) (p : Picture) (src dst : List Float) (c x y : ℕ) (h : c < n) (i : x < l .width) (j : y < l .height) where
-  abbrev wrote : Bool
-  wrote = written l from to (l .left + x) (l .top + y)
-
-  sample-after : inner l (passed n l from to p src dst) c x y ≡ cond wrote (p c x y) (inner l dst c x y)
-  unfolding inner passed inFilter
-  sample-after =
+  pub filtered-inside : (p : Picture) (src : List Float) (c x y : ℕ) → x < l .width → y < l .height → filtered l p src c (l .left + x) (l .top + y) ≡ p c x y
+  unfolding inFilter
+  filtered-inside p src c x y i j =
       let a : l .left + x - l .left ≡ x = omega arith in
       let b : l .top + y - l .top ≡ y = omega arith in
-      of-setOf n (l .image .width) (l .image .height) _ c (l .left + x) (l .top + y) h (omega (arith, fits .across)) (omega (arith, fits .down))
-      ∙ rw (in-rect (l .left) (l .width) (l .top) (l .height) (l .left + x) (l .top + y) (omega arith) (omega arith) (omega arith) (omega arith), a, b)
+      rw (in-rect (l .left) (l .width) (l .top) (l .height) (l .left + x) (l .top + y) (omega arith) (omega arith) (omega arith) (omega arith), a, b)
 
-  pub inside-rows : from ≤ rowIn l y → rowIn l y < to → inner l (passed n l from to p src dst) c x y ≡ p c x y
-  unfolding written
-  inside-rows a b = sample-after ∙ rw (go (l .full) a b)
-    where
-      go : (full : Bool) → from ≤ cond full (l .top + y) y → cond full (l .top + y) y < to
-          → inRect (cond full 0 (l .left)) (cond full (l .image .width) (l .width)) (cond full 0 (l .top) + from) (to - from) (l .left + x) (l .top + y) ≡ true
-      go true a b = in-rect 0 (l .image .width) (0 + from) (to - from) (l .left + x) (l .top + y) (omega arith) (omega (arith, fits .across)) (omega arith) (omega arith)
-      go false a b = in-rect (l .left) (l .width) (l .top + from) (to - from) (l .left + x) (l .top + y) (omega arith) (omega arith) (omega arith) (omega arith)
+  module _ (x y : ℕ) (place : InResult l x y) where
+    -- it is written where its row is among those of the pass
+    pub written-at : (from to : ℕ) → from ≤ y - resultTop l → y - resultTop l < to → written l from to x y ≡ true
+    unfolding written
+    written-at from to a b =
+        in-rect (resultLeft l) (resultWidth l) (resultTop l + from) (to - from) x y (place .left) (place .right) (omega (arith, place .top)) (omega (arith, place .top))
 
-  pub outside-rows : rowIn l y < from ⊎ to ≤ rowIn l y → inner l (passed n l from to p src dst) c x y ≡ inner l dst c x y
-  unfolding written
-  outside-rows o = sample-after ∙ rw (go (l .full) o)
-    where
-      go : (full : Bool) → cond full (l .top + y) y < from ⊎ to ≤ cond full (l .top + y) y
-          → inRect (cond full 0 (l .left)) (cond full (l .image .width) (l .width)) (cond full 0 (l .top) + from) (to - from) (l .left + x) (l .top + y) ≡ false
-      go true (inl a) = out-rect 0 (l .image .width) (0 + from) (to - from) (l .left + x) (l .top + y) (inl (omega arith))
-      go true (inr a) = out-rect 0 (l .image .width) (0 + from) (to - from) (l .left + x) (l .top + y) (past 0 from to (l .top + y) (omega arith))
-      go false (inl a) = out-rect (l .left) (l .width) (l .top + from) (to - from) (l .left + x) (l .top + y) (inl (omega arith))
-      go false (inr a) = out-rect (l .left) (l .width) (l .top + from) (to - from) (l .left + x) (l .top + y) (past (l .top) from to (l .top + y) (omega arith))
-
-  -- either the row was written, or the sample is as it was
-  pub rows-after : (inner l (passed n l from to p src dst) c x y ≡ p c x y)
-      ⊎ ((rowIn l y < from ⊎ to ≤ rowIn l y) × (inner l (passed n l from to p src dst) c x y ≡ inner l dst c x y))
-  rows-after = go (decLe from (rowIn l y)) (decLt (rowIn l y) to)
-    where
-      go : Dec (from ≤ rowIn l y) → Dec (rowIn l y < to) → (inner l (passed n l from to p src dst) c x y ≡ p c x y)
-          ⊎ ((rowIn l y < from ⊎ to ≤ rowIn l y) × (inner l (passed n l from to p src dst) c x y ≡ inner l dst c x y))
-      go (yes a) (yes b) = inl (inside-rows a b)
-      go (yes a) (no b) = let o : rowIn l y < from ⊎ to ≤ rowIn l y = inr (omega arith) in inr (o, outside-rows o)
-      go (no a) b = let o : rowIn l y < from ⊎ to ≤ rowIn l y = inl (omega arith) in inr (o, outside-rows o)
+    pub sample-after : (n from to : ℕ) (p : Picture) (src dst : List Float) (c : ℕ) → c < n
+        → sampleOf l (passed n l from to p src dst) c x y ≡ cond (written l from to x y) (filtered l p src c x y) (sampleOf l dst c x y)
+    unfolding passed
+    sample-after n from to p src dst c h =
+        of-setOf n (l .image .width) (l .image .height) _ c x y h
+        (in-axis (l .image .width) (l .left) (l .width) (fits .across) (l .full) x (place .right))
+        (in-axis (l .image .height) (l .top) (l .height) (fits .down) (l .full) y (place .bottom))

@@ -1,10 +1,9 @@
--- What accepted calls keep of the state: the passes that are left take the set that is read to demand 2's samples,
--- and a band that is done has the pass's samples in its rows. Assumes nothing.
-use mathlib.Core.Path.{_≡_, refl, sym, ap, subst, _∙_}
+-- What accepted calls keep of the state: the passes that are left take the set that is read to demand 2's samples, outside the filter region it has
+-- the first set's, and a band that is done has what the pass gives in its rows. Assumes nothing.
+use mathlib.Core.Path.{_≡_, refl, sym, ap, _∙_}
 use mathlib.Core.Bool.{Bool, true, false, false≢true, not, cond}
 use mathlib.Core.List.{List, [], _∷_}
-use mathlib.Core.Logic.{_⊎_, inl, inr, ⊎-elim}
-use Prim.Native.Nat.{ℕ, zero, suc, _/_, _%_, _<_, _≤_}
+use Prim.Native.Nat.{ℕ, zero, suc, _+_, _-_, _/_, _%_, _<_}
 use native.Mathlib.Decide.{ℕ-discrete}
 use native.Mathlib.Omega.{arith}
 use borrow.Author.Tests.{eq-eqb, ne-eqb}
@@ -12,9 +11,10 @@ use lib.Dec.{eqb}
 use lib.ListN.{length, getD, drop, length-set, length-replicate}
 use lib.Seq.{getD-set-other, drop-cons}
 use lib.Ieee.{Float}
+use Rattle.planes.specs.declared.Layout.{Layout}
 use Rattle.planes.specs.Picture.{Picture}
 use Rattle.planes.specs.Sets.{length-setOf}
-use Rattle.planes.specs.Band.{inner, passed}
+use Rattle.planes.specs.Band.{resultTop, inFilter, written, inner, passed}
 use Rattle.layout.specs.Outcome.{layoutOf}
 use Rattle.passes.specs.Pass.{Area, Pass, gaborLike, pass, passes}
 use Rattle.passes.specs.Cut.{AllSound, passes-cong, plan-sound}
@@ -22,12 +22,12 @@ use Rattle.passes.specs.Plan.{plan, plan-length}
 use Rattle.record.specs.declared.Setup.{Setup}
 use Rattle.record.specs.Setup.{layout, area, bandFrom, bandTo, setLength, sigmaLength}
 use Rattle.record.specs.Record.{passCount, isDone, started, marked, advanced}
-use Rattle.record.specs.Laws.{SetupFits, setup-fits, setup-layout, InBand, band-of, RunFits, Open, Over, none-done, pass-left, started-fits, marked-fits, advanced-fits}
+use Rattle.record.specs.Laws.{SetupFits, setup-fits, setup-layout, band-of, RunFits, Open, Over, none-done, pass-left, started-fits, marked-fits, advanced-fits}
 use Rattle.runs.specs.Start.{Handed}
 use Rattle.runs.specs.Band.{State, readsFirst, source, target, nextPass, banded, bandAccepted}
 use Rattle.runs.specs.Laws.{PictureFits, sigmas-length}
 use Rattle.calls.specs.Calls.{startState, advanceAccepted}
-use Rattle.calls.proofs.Rows.{rowIn, row-below, rows-after}
+use Rattle.calls.proofs.Rows.{sampleOf, filtered, InResult, filter-in-result, filtered-inside, written-at, sample-after}
 
 -- two pictures agree in the filter region's n planes
 abbrev pub Same : ℕ → Setup → Picture → Picture → Type 0
@@ -43,6 +43,14 @@ writing t = inner (layout (t .run .setup)) (target t)
 abbrev areaOf : State → Area
 areaOf t = area (t .run .setup) (t .sigmas)
 
+-- what the pass that runs next gives at a place of the result
+abbrev given : ℕ → State → Picture
+given n t = filtered (layout (t .run .setup)) (pass (areaOf t) (nextPass n (t .run)) (reading t)) (source t)
+
+-- column x and row y of the image lie in the rows of band k
+abbrev inBand : Setup → ℕ → ℕ → ℕ → Bool
+inBand s k x y = written (layout s) (bandFrom s k) (bandTo s k) x y
+
 -- `first` is the first set as start left it
 pub record Sound (n : ℕ) (first : List Float) (t : State) : Type 0 where
   pub run : RunFits (t .run)
@@ -53,9 +61,12 @@ pub record Sound (n : ℕ) (first : List Float) (t : State) : Type 0 where
   -- the passes that are left
   pub left : Same n (t .run .setup) (passes (areaOf t) (drop (t .run .pass) (plan n (t .run .setup .settings))) (reading t))
       (passes (areaOf t) (plan n (t .run .setup .settings)) (inner (layout (t .run .setup)) first))
+  -- what the result has beside the filter region
+  pub outside : (c x y : ℕ) → c < n → InResult (layout (t .run .setup)) x y → inFilter (layout (t .run .setup)) x y ≡ false
+      → sampleOf (layout (t .run .setup)) (source t) c x y ≡ sampleOf (layout (t .run .setup)) first c x y
   -- the bands that are done
-  pub done : (k : ℕ) → isDone (t .run) k ≡ true → (c x y : ℕ) → c < n → x < t .run .setup .filter .width → y < t .run .setup .filter .height
-      → InBand (t .run .setup) k (rowIn (layout (t .run .setup)) y) → writing t c x y ≡ pass (areaOf t) (nextPass n (t .run)) (reading t) c x y
+  pub done : (k : ℕ) → isDone (t .run) k ≡ true → (c x y : ℕ) → c < n → InResult (layout (t .run .setup)) x y → inBand (t .run .setup) k x y ≡ true
+      → sampleOf (layout (t .run .setup)) (target t) c x y ≡ given n t c x y
 
 -- ---- at the start
 
@@ -69,6 +80,7 @@ sound-start n h f =
       second-length = f .second;
       sigma-length = sigmas-length n h f;
       left = λ c x y p q r. refl;
+      outside = λ c x y p i o. refl;
       done = λ k d. absurd (false≢true (sym (none-done k) ∙ d));
     }
 
@@ -90,23 +102,20 @@ length-banded : (n : ℕ) (t : State) (k : ℕ) → length (banded n t k) ≡ se
 unfolding banded passed layoutOf
 length-banded n t k = length-setOf n (t .run .setup .image .width) (t .run .setup .image .height) _
 
-not-both : (s : Setup) (k row : ℕ) → InBand s k row → (row < bandFrom s k ⊎ bandTo s k ≤ row) → ⊥
-not-both s k row b (inl o) = omega (arith, b .from)
-not-both s k row b (inr o) = omega (arith, b .to)
-
 module _ (n : ℕ) (first : List Float) (t : State) (k : ℕ) (sound : Sound n first t) (free : Open (t .run) k) where
-  -- after the band its own rows have the pass's samples, and the others are as they were
-  done-after : (j : ℕ) → isDone (marked (t .run) k) j ≡ true → (c x y : ℕ) → c < n → x < t .run .setup .filter .width → y < t .run .setup .filter .height
-      → InBand (t .run .setup) j (rowIn (layout (t .run .setup)) y)
-      → inner (layout (t .run .setup)) (banded n t k) c x y ≡ pass (areaOf t) (nextPass n (t .run)) (reading t) c x y
-  unfolding banded layoutOf isDone marked
-  done-after j d c x y h p q b =
-      let s : Setup = t .run .setup in
-      ⊎-elim (λ e. e)
-      (λ o. o .1 ∙ sound .done j (sym (getD-set-other (t .run .done) k j true false
-      (λ (e : j ≡ k). not-both s k (rowIn (layout s) y) (subst (λ (i : ℕ). InBand s i (rowIn (layout s) y)) e b) (o .0))) ∙ d) c x y h p q b)
-      (rows-after n (layout s) (setup-layout s (setup-fits s (sound .run .setup)) .fits) (bandFrom s k) (bandTo s k)
-      (pass (areaOf t) (nextPass n (t .run)) (reading t)) (source t) (target t) c x y h p q)
+  -- after the band its own rows have what the pass gives, and the others are as they were
+  done-after : (j : ℕ) → isDone (marked (t .run) k) j ≡ true → (c x y : ℕ) → c < n → InResult (layout (t .run .setup)) x y → inBand (t .run .setup) j x y ≡ true
+      → sampleOf (layout (t .run .setup)) (banded n t k) c x y ≡ given n t c x y
+  unfolding banded isDone marked
+  done-after j d c x y h i b = sample-after (layout s) (setup-layout s (setup-fits s (sound .run .setup)) .fits) x y i n (bandFrom s k) (bandTo s k)
+      (pass (areaOf t) (nextPass n (t .run)) (reading t)) (source t) (target t) c h ∙ go (inBand s k x y) refl
+    where
+      s : Setup
+      s = t .run .setup
+
+      go : (wrote : Bool) → inBand s k x y ≡ wrote → cond wrote (given n t c x y) (sampleOf (layout s) (target t) c x y) ≡ given n t c x y
+      go true e = refl
+      go false e = sound .done j (sym (getD-set-other (t .run .done) k j true false (λ (z : j ≡ k). false≢true (sym e ∙ (rw z at b)))) ∙ d) c x y h i b
 
   pub sound-band : Sound n first (bandAccepted n t k)
   unfolding marked readsFirst
@@ -122,7 +131,8 @@ module _ (n : ℕ) (first : List Float) (t : State) (k : ℕ) (sound : Sound n f
         second-length = cond-length e (banded n t k) (t .second) (setLength n s) (length-banded n t k) (sound .second-length);
         sigma-length = sound .sigma-length;
         left = λ c x y h p q. rw src (sound .left c x y h p q);
-        done = λ j d c x y h p q b. rw (src, dst) (done-after j d c x y h p q b);
+        outside = λ c x y h i o. rw src (sound .outside c x y h i o);
+        done = λ j d c x y h i b. rw (src, dst) (done-after j d c x y h i b);
       }
 
 -- ---- an advance exchanges the sets
@@ -156,14 +166,21 @@ module _ (n : ℕ) (first : List Float) (t : State) (sound : Sound n first t) (o
   fits : SetupFits (t .run .setup)
   fits = setup-fits (t .run .setup) (sound .run .setup)
 
-  -- every row of the filter region lies in a band that is done
-  all-done : Same n (t .run .setup) (writing t) (pass (areaOf t) (nextPass n (t .run)) (reading t))
-  unfolding layoutOf
-  all-done c x y h p q =
+  -- every row of the result lies in a band that is done
+  all-done : (c x y : ℕ) → c < n → InResult (layout (t .run .setup)) x y → sampleOf (layout (t .run .setup)) (target t) c x y ≡ given n t c x y
+  all-done c x y h i =
       let s : Setup = t .run .setup in
-      let row : ℕ = rowIn (layout s) y in
-      let b = band-of s fits row (row-below (layout s) (setup-layout s fits .fits) y q) in
-      sound .done (row / s .«band_height») (over .done (row / s .«band_height») (b .0)) c x y h p q (b .1)
+      let row : ℕ = y - resultTop (layout s) in
+      let b = band-of s fits row (omega (arith, i .top, i .bottom)) in
+      sound .done (row / s .«band_height») (over .done (row / s .«band_height») (b .0)) c x y h i (written-at (layout s) (setup-layout s fits .fits) x y i _ _ (b .1 .from) (b .1 .to))
+
+  -- the filter region's among them
+  filter-done : Same n (t .run .setup) (writing t) (pass (areaOf t) (nextPass n (t .run)) (reading t))
+  unfolding inner layoutOf
+  filter-done c x y h p q =
+      let l : Layout = layout (t .run .setup) in
+      let lies = setup-layout (t .run .setup) fits .fits in
+      all-done c (l .left + x) (l .top + y) h (filter-in-result l lies x y p q) ∙ filtered-inside l lies (pass (areaOf t) (nextPass n (t .run)) (reading t)) (source t) c x y p q
 
   pub sound-advance : Sound n first (advanceAccepted t)
   unfolding advanced readsFirst isDone
@@ -179,7 +196,8 @@ module _ (n : ℕ) (first : List Float) (t : State) (sound : Sound n first t) (o
         second-length = sound .second-length;
         sigma-length = sound .sigma-length;
         left = λ c x y h p q. rw src (
-            passes-cong n (areaOf t) (drop (suc (t .run .pass)) ps) (drop-sound n (suc (t .run .pass)) ps (plan-sound n (s .settings))) (writing t) (pass (areaOf t) (nextPass n (t .run)) (reading t)) all-done c x y h p q
+            passes-cong n (areaOf t) (drop (suc (t .run .pass)) ps) (drop-sound n (suc (t .run .pass)) ps (plan-sound n (s .settings))) (writing t) (pass (areaOf t) (nextPass n (t .run)) (reading t)) filter-done c x y h p q
             ∙ ap (λ (g : Picture). g c x y) (passes-drop (areaOf t) ps (t .run .pass) (reading t) more) ∙ sound .left c x y h p q);
+        outside = λ c x y h i o. rw src (all-done c x y h i ∙ rw o (sound .outside c x y h i o));
         done = λ k d. absurd (false≢true (sym (none-done k) ∙ d));
       }

@@ -1,5 +1,6 @@
 pub mod Calls
 pub mod Places
 pub mod Theorem
+pub mod Corollaries
 pub mod Example
 pub mod EdgeExample
