@@ -1,15 +1,16 @@
 // A window on a filter region: rows and columns around a place in each plane, mirrored at the filter region's edges, as planes of 14 rows of 64 columns.
 // This is the one place where a step mirrors. All that it computes afterwards is computed from windows.
+mod row;
+
+use crate::row::load_row;
 use mirror::mirrored;
 use planes::Layout;
 use planes::set_fits;
 ghost use mathlib.Core.Path.{_≡_};
-ghost use Prim.Native.Nat.{ℕ, _+_, _-_, _*_, _<_, _≤_, min};
-ghost use lib.ListN.{length, getD};
-ghost use lib.Ieee.{nan};
-ghost use Rattle.planes.specs.Fill.{fill};
+ghost use Prim.Native.Nat.{ℕ, _+_, _-_, _*_, _<_, _≤_};
+ghost use lib.ListN.{length};
 ghost use Rattle.planes.specs.Rect.{rowsFill, planesFill};
-ghost use Rattle.window.specs.Window.{rowSample, planeSample, windowSample, loaded, WindowFits, RowFits, PlaneFits};
+ghost use Rattle.window.specs.Window.{planeSample, windowSample, loaded, WindowFits, PlaneFits};
 
 // A window starts so many columns left of its place, and so many rows above it.
 const LEFT: usize = 4;
@@ -20,78 +21,6 @@ const ABOVE: usize = 3;
 const COLUMNS: usize = 64;
 
 const ROWS: usize = 14;
-
-fn at_most(x: usize, k: usize) -> usize
-    ensures { λ r. ⌜ r ≡ min x k ⌝ }
-{
-    if x < k {
-        return x;
-    }
-    k
-}
-
-// How much x lacks of k.
-fn short_of(x: usize, k: usize) -> usize
-    ensures { λ r. ⌜ r ≡ k - x ⌝ }
-{
-    if x < k {
-        return k - x;
-    }
-    0
-}
-
-// n samples as they stand.
-fn copy_inside(win: &mut [f32; 2688], at: usize, src: &[f32], from: usize, n: usize)
-    requires { ⌜ (at + n ≤ 2688) × (from + n ≤ length (now src)) ⌝ }
-    ensures { λ _. ⌜ now (win .exit) ≡ fill (now (win .entry)) at n (λ (j : ℕ). getD (now (src .entry)) (from + j) nan) ⌝ }
-{
-    let mut j = 0;
-    while j < n {
-        win[at + j] = src[from + j];
-        j += 1;
-    }
-}
-
-// n samples from four columns left of x on, mirrored in the row of w samples that starts at `row`.
-fn copy_mirrored(
-    win: &mut [f32; 2688],
-    at: usize,
-    src: &[f32],
-    row: usize,
-    x: usize,
-    w: usize,
-    n: usize,
-)
-    requires { ⌜ (at + n ≤ 2688) × (row + w ≤ length (now src)) × (0 < w) × (x ≤ 65536) ⌝ }
-    ensures { λ _. ⌜ now (win .exit) ≡ fill (now (win .entry)) at n (rowSample (now (src .entry)) row x w) ⌝ }
-{
-    let mut j = 0;
-    while j < n {
-        let k = mirrored(x + j, LEFT, w);
-        win[at + j] = src[row + k];
-        j += 1;
-    }
-}
-
-// The same, without a mirror where the row has the samples.
-fn load_row(
-    win: &mut [f32; 2688],
-    at: usize,
-    src: &[f32],
-    row: usize,
-    x: usize,
-    w: usize,
-    cols: usize,
-)
-    requires { ⌜ RowFits at row x w cols (length (now src)) ⌝ }
-    ensures { λ _. ⌜ now (win .exit) ≡ fill (now (win .entry)) at cols (rowSample (now (src .entry)) row x w) ⌝ }
-{
-    let low = short_of(x, LEFT);
-    let high = at_most(w + LEFT - x, cols);
-    copy_mirrored(win, at, src, row, x, w, low);
-    copy_inside(win, at + low, src, row + (x + low - LEFT), high - low);
-    copy_mirrored(win, at + high, src, row, x + high, w, cols - high);
-}
 
 // Rows `top` to top + rows of a window's plane, from a region of w columns and h rows that starts at `start`.
 fn load_plane(

@@ -1,12 +1,12 @@
--- `window::copy_inside` meets its contract. The invariant: j samples of n are there. Assumes nothing.
+-- `window::row::copy_inside` meets its contract. The invariant: j samples of n are there. Assumes nothing.
 use mathlib.Core.Path.{_≡_, refl}
 use Prim.Native.Nat.{ℕ, _+_, _-_, _≤_}
 use native.Mathlib.Omega.{arith}
 use lib.ListN.{getD}
 use lib.Ieee.{nan}
 use Rattle.planes.specs.Fill.{fill, fill-turn, fill-end}
-use Rattle.window.proofs.copy_inside.Statement.{statement}
-use Rattle.window.proofs.copy_inside.Tie as tie
+use Rattle.window.proofs.row.copy_inside.Statement.{statement}
+use Rattle.window.proofs.row.copy_inside.Tie as tie
 
 abbrev Inv-loop : tie.InvT-loop
 Inv-loop win₀ at src from n j₀ win j = (j ≤ n) × (win ≡ fill win₀ at j (λ (i : ℕ). getD src (from + i) nan))

@@ -1,4 +1,4 @@
--- `window::copy_mirrored` meets its contract. The invariant: j samples of n are there. Assumes nothing.
+-- `window::row::copy_mirrored` meets its contract. The invariant: j samples of n are there. Assumes nothing.
 use mathlib.Core.Path.{_≡_, refl}
 use Prim.Native.Nat.{ℕ, _+_, _-_, _≤_, _<_}
 use native.Mathlib.Omega.{arith}
@@ -7,8 +7,8 @@ use lib.IntN.{ℤ}
 use Rattle.mirror.specs.Mirror.{mirror, mirror-lt}
 use Rattle.planes.specs.Fill.{fill, fill-turn, fill-end}
 use Rattle.window.specs.Window.{rowSample}
-use Rattle.window.proofs.copy_mirrored.Statement.{statement}
-use Rattle.window.proofs.copy_mirrored.Tie as tie
+use Rattle.window.proofs.row.copy_mirrored.Statement.{statement}
+use Rattle.window.proofs.row.copy_mirrored.Tie as tie
 
 abbrev Inv-loop : tie.InvT-loop
 Inv-loop win₀ at src row x w n j₀ win j = (j ≤ n) × (win ≡ fill win₀ at j (rowSample src row x w))

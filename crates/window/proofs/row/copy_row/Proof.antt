@@ -1,11 +1,11 @@
--- `window::load_row` meets its contract. Mirrored left of the row, as it stands inside, mirrored right of it. Assumes nothing.
+-- `window::row::copy_row` meets its contract. Mirrored left of the row, as it stands inside, mirrored right of it. Assumes nothing.
 use mathlib.Core.Path.{_≡_, refl}
 use Prim.Native.Nat.{ℕ, _+_, _-_, _≤_, _<_}
 use native.Mathlib.Omega.{arith}
 use borrow.Author.Needs.{needs}
 use Rattle.window.specs.Window.{row-loaded}
-use Rattle.window.proofs.load_row.Statement.{statement}
-use Rattle.window.proofs.load_row.Tie as tie
+use Rattle.window.proofs.row.copy_row.Statement.{statement}
+use Rattle.window.proofs.row.copy_row.Tie as tie
 
 returns : tie.Need-returns
 returns c =
@@ -15,8 +15,8 @@ returns c =
     row-loaded _ (s .args .row) (s .args .x) (s .args .w) _ _ _ _ (s .args .at) (low .result) (high .result) (s .args .cols) _ (omega arith) (omega arith) (omega arith) (omega arith) refl
     (c .before .before .before .before .copy-mirrored .ensures) (c .before .before .copy-inside .ensures) (c .copy-mirrored2 .ensures)
 
-pub load-row-spec : {M : Type 1} → statement M
-load-row-spec = tie.close
+pub copy-row-spec : {M : Type 1} → statement M
+copy-row-spec = tie.close
     (tie.spec
     (λ c κs. search needs)
     (λ c. omega arith)
