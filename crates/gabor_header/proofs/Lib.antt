@@ -1,4 +1,3 @@
 pub mod NearZero
 pub mod GaborCases
-pub mod Instances
 pub mod Field

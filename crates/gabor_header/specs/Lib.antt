@@ -1,2 +1,1 @@
 pub mod Gabor
-pub mod Instances

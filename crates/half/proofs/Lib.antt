@@ -2,4 +2,3 @@ pub mod Significand
 pub mod Fields
 pub mod Widened
 pub mod Judged
-pub mod Instances

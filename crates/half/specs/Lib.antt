@@ -2,4 +2,3 @@ pub mod Outcome
 pub mod Bits
 pub mod Value
 pub mod Half
-pub mod Instances

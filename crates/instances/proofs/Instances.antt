@@ -1,0 +1,80 @@
+-- The table of instances, each row computed. Assumes nothing.
+use mathlib.Core.Path.{refl}
+use lib.Ieee.{ofBits, lt, add, sub, mul, div}
+use Rattle.mirror.specs.Mirror.{mirror}
+use Rattle.interval.specs.Powers.{powerBelow}
+use Rattle.interval.specs.Interval.{place, side}
+use Rattle.region.specs.Regions.{regionOf, shrunkBy, alignedTo, inside}
+use Rattle.region.specs.Measures.{measured, pictured}
+use Rattle.region.specs.Answers.{regionAnswer}
+use Rattle.half.specs.Bits.{u, field}
+use Rattle.half.specs.Value.{valueOf, halfOf}
+use Rattle.half.specs.Half.{f16}
+use Rattle.fields.specs.Fields.{nested, read}
+use Rattle.gabor_header.specs.Gabor.{nearZero, channelFields, channelsFields, weightFields, gaborFields}
+use Rattle.planes.specs.Picture.{around}
+use Rattle.planes.specs.Sets.{of, setOf, tab}
+use Rattle.planes.specs.Rect.{inRect}
+use Rattle.planes.specs.Band.{inFilter, written, inner, passed}
+use Rattle.gabor_kernel.specs.Ends.{stands}
+use Rattle.gabor_kernel.specs.Formula.{value, formula}
+use Rattle.gabor_kernel.specs.Gabor.{alone, scaled, gaborPass}
+use Rattle.gabor_kernel.specs.Instances.{impulse, single-row}
+use Rattle.rounding.specs.Magnitude.{magnitude}
+use Rattle.weights.specs.Steps.{kernel, dists, along, scaledFrom, apart, distance, positive, weightBy, copied, weightAt, blend, divisor, epf, border, multiplier, epfPass}
+use Rattle.frame.specs.Sizes.{sizesOf}
+use Rattle.groups.specs.Table.{cells, gridStart, someBelow}
+use Rattle.sigma.specs.Sigma.{sigmaIn, sigmaOf, aboveAt, sigmaAt, blockSigmas}
+use Rattle.layout.specs.Outcome.{layoutOf}
+use Rattle.passes.specs.Pass.{pass}
+use Rattle.passes.specs.Plan.{scaleOf, stepOf, steps, plan}
+use Rattle.record.specs.Setup.{bandCount, sized, setupFits}
+use Rattle.record.specs.Record.{isDone, started, marked, bandMissing, strayDone, runFits}
+use Rattle.runs.specs.Band.{readsFirst, bandChecks, banded, bandOutcome, advanceChecks, advanceOutcome}
+use Rattle.instances.specs.Instances.{bytesOf, Table}
+
+pub table : Table
+unfolding ofBits lt add sub mul div mirror powerBelow place side regionOf shrunkBy alignedTo inside measured pictured regionAnswer u field valueOf halfOf f16 nested read nearZero channelFields channelsFields weightFields gaborFields bytesOf around of setOf tab inRect inFilter written inner passed stands value formula alone scaled gaborPass magnitude kernel dists along scaledFrom apart distance positive weightBy copied weightAt blend divisor epf border multiplier epfPass sizesOf cells gridStart someBelow sigmaIn sigmaOf aboveAt sigmaAt blockSigmas layoutOf pass scaleOf stepOf steps plan bandCount sized setupFits isDone started marked bandMissing strayDone runFits readsFirst bandChecks banded bandOutcome advanceChecks advanceOutcome
+table = record {
+  mirrorOfOne = refl;
+  mirrorOfTwo = refl;
+  mirrorOfFour = refl;
+  mirrorOfThree = refl;
+  borderSix = refl;
+  borderSeven = refl;
+  borderEight = refl;
+  borderNine = refl;
+  halfLeast = refl;
+  halfSubnormal = refl;
+  halfGreatest = refl;
+  halfMinusZero = refl;
+  halfInfinite = refl;
+  weightsRefused = refl;
+  weightsAccepted = refl;
+  downsampled = refl;
+  aligned = refl;
+  impulse = impulse;
+  singleRow = single-row;
+  copiedBelow = refl;
+  nanSigma = refl;
+  repeated = λ grids modular. (refl, refl);
+  bandOnce = refl;
+  bandTwice = refl;
+  bandMissing = refl;
+  notCopied = refl;
+  nanMinusZero = (refl, refl, refl);
+  nanInfinity = (refl, refl, refl);
+  nanNaN = (refl, refl, refl);
+  cornerZero = refl;
+  cornerZeroAsOne = refl;
+  middleZero = refl;
+  middleZeroAsOne = refl;
+  cornerOne = refl;
+  cornerOneAsZero = refl;
+  middleOne = refl;
+  middleOneAsZero = refl;
+  borderRows = refl;
+  borderRowsFromBand = refl;
+  aroundBand = refl;
+  mirroredAtBand = refl;
+}

@@ -1,0 +1,275 @@
+-- The instances of document 01 ("Instances") in one table, and others that tell its smooth-looking mistakes apart.
+-- Each row is an equation in the definitions that the contracts cite. Definitions only.
+use mathlib.Core.Path.{_≡_}
+use mathlib.Core.Bool.{true, false, cond}
+use mathlib.Core.List.{List, [], _∷_}
+use Prim.Native.Nat.{ℕ, zero, suc, _+_, _*_, _/_, _%_, _^_}
+use lib.Dec.{eqb}
+use lib.IntN.{pos, negsuc}
+use lib.ListN.{getD}
+use lib.Ieee.{Float, nan}
+use Rattle.mirror.specs.declared.MirrorAnswer.{MirrorAnswer}
+use Rattle.mirror.specs.Outcome.{mirrorOutcome}
+use Rattle.region.specs.declared.Region.{Region}
+use Rattle.region.specs.declared.RegionAnswer.{RegionAnswer}
+use Rattle.region.specs.Answers.{downsampleOutcome, alignedOutcome}
+use Rattle.half.specs.Outcome.{Outcome, accepted, refused}
+use Rattle.half.specs.Half.{f16}
+use Rattle.gabor_header.specs.declared.Gabor.{Gabor}
+use Rattle.gabor_header.specs.Gabor.{gaborOff, gaborWith, gaborAt}
+use Rattle.planes.specs.Samples.{bits, b0, b1, b2, b3, b4}
+use Rattle.planes.specs.Picture.{Picture, Around, around}
+use Rattle.planes.specs.Sets.{of, setOf, tab}
+use Rattle.gabor_kernel.specs.Gabor.{gaborPass}
+use Rattle.weights.specs.Steps.{kernel, dists, scaled, copied, standardLimit, epf, multiplier, EpfPass, epfPass}
+use Rattle.sigma.specs.Sigma.{blockSigmas}
+use Rattle.record.specs.declared.Setup.{Setup}
+use Rattle.record.specs.Record.{started}
+use Rattle.runs.specs.Band.{State, bandOutcome, advanceOutcome}
+
+-- ---- numbers that the rows use
+
+-- 1/2 and 1/4
+abbrev oneHalf : Float
+oneHalf = bits 0x3f00_0000
+
+abbrev oneQuarter : Float
+oneQuarter = bits 0x3e80_0000
+
+-- 5.0, 6.0, 12.0, 14.0 and 16.0
+abbrev b5 : Float
+b5 = bits 0x40a0_0000
+
+abbrev b6 : Float
+b6 = bits 0x40c0_0000
+
+abbrev b12 : Float
+b12 = bits 0x4140_0000
+
+abbrev b14 : Float
+b14 = bits 0x4160_0000
+
+abbrev b16 : Float
+b16 = bits 0x4180_0000
+
+-- −0.0 and infinity
+abbrev minusZero : Float
+minusZero = bits 0x8000_0000
+
+abbrev infinity : Float
+infinity = bits 0x7f80_0000
+
+-- 2^-24
+abbrev tiny : Float
+tiny = bits 0x3380_0000
+
+-- ---- mirror and regions
+
+abbrev pub place : ℕ → MirrorAnswer
+place p = record { number = 0; place = p }
+
+-- left and top −3, sides 5
+abbrev pub square : Region
+square = record { left = negsuc 2; top = negsuc 2; width = 5; height = 5 }
+
+-- ---- headers
+
+-- a number as so many bytes, its lowest bit first
+unfoldable pub bytesOf : ℕ → ℕ → List ℕ
+bytesOf zero n = []
+bytesOf (suc k) n = n % 256 ∷ bytesOf k (n / 256)
+
+-- a half alone in a header of two bytes
+abbrev pub half : ℕ → Outcome Float
+half h = f16 (bytesOf 2 h) 0
+
+-- what it is accepted as, by bits
+abbrev pub single : ℕ → Outcome Float
+single b = accepted (bits b) 16
+
+-- a header of 98 bits: the filter on, custom weights, and the same two halves for each channel
+abbrev pub customHeader : ℕ → ℕ → List ℕ
+customHeader w0 w1 = bytesOf 13 (3 + 4 * ((w0 + w1 * 2 ^ 16) * (1 + 2 ^ 32 + 2 ^ 64)))
+
+abbrev pub evenly : Float → Float → Gabor
+evenly w0 w1 = gaborWith (w0 ∷ w1 ∷ []) (w0 ∷ w1 ∷ []) (w0 ∷ w1 ∷ [])
+
+-- ---- the Gabor-like pass over one plane of w columns and h rows, weights 1/2 and 1/4
+
+abbrev pub smoothed : ℕ → ℕ → List Float → List Float
+smoothed w h s = setOf 1 w h (gaborPass ((oneHalf ∷ oneQuarter ∷ []) ∷ []) w h (of w h s))
+
+-- ---- edge-preserving steps over one plane of w columns and h rows from image row 0 on
+
+-- M at nine columns of an image row, the step's scale being 2 and the border multiplier 3
+abbrev at : ℕ → ℕ → Float
+at row col = multiplier b2 b3 row col
+
+abbrev pub across : ℕ → List Float
+across row = at row 0 ∷ at row 1 ∷ at row 2 ∷ at row 3 ∷ at row 4 ∷ at row 5 ∷ at row 6 ∷ at row 7 ∷ at row 8 ∷ []
+
+abbrev pub everywhere : List Float
+everywhere = b6 ∷ b6 ∷ b6 ∷ b6 ∷ b6 ∷ b6 ∷ b6 ∷ b6 ∷ b6 ∷ []
+
+abbrev pub atColumns : List Float
+atColumns = b6 ∷ b2 ∷ b2 ∷ b2 ∷ b2 ∷ b2 ∷ b2 ∷ b6 ∷ b6 ∷ []
+
+-- a step with scales of 1 and a border multiplier
+abbrev plain : ℕ → Float → EpfPass
+plain step borderMul = record { step = step; limit = standardLimit; scales = scaled 1 (b1 ∷ []); multiplier = b1; borderMul = borderMul }
+
+-- the step with one sigma for all blocks
+abbrev pub stepped : ℕ → Float → ℕ → ℕ → List Float → List Float
+stepped step sigma w h s = setOf 1 w h (epfPass (plain step b1) w h 0 (λ _ _. sigma) (of w h s))
+
+abbrev pub EachStep : (ℕ → Type 0) → Type 0
+EachStep P = P 0 × P 1 × P 2
+
+-- ---- steps 0 and 1 in either order of sums, sigma 2
+
+-- 0 0 / 2^-24 1
+abbrev pub twoByTwo : Picture
+twoByTwo = of 2 2 (b0 ∷ b0 ∷ tiny ∷ b1 ∷ [])
+
+-- 0 / 0 / 0 / 2^-24 / 1
+abbrev pub oneByFive : Picture
+oneByFive = of 1 5 (b0 ∷ b0 ∷ b0 ∷ tiny ∷ b1 ∷ [])
+
+-- a step's sample at column 0 and row 0 of the first, and at row 2 of the second
+abbrev pub corner : ℕ → Float
+corner step = epfPass (plain step b1) 2 2 0 (λ _ _. b2) twoByTwo 0 0 0
+
+abbrev pub middle : ℕ → Float
+middle step = epfPass (plain step b1) 1 5 0 (λ _ _. b2) oneByFive 0 0 2
+
+-- the same with the differences summed in the order of step `order`
+abbrev summedAs : ℕ → ℕ → Around → Float
+summedAs order step v = epf (scaled 1 (b1 ∷ [])) (kernel step) (dists order) b2 b1 standardLimit v 0
+
+abbrev pub cornerAs : ℕ → ℕ → Float
+cornerAs order step = summedAs order step (around 2 2 twoByTwo 0 0)
+
+abbrev pub middleAs : ℕ → ℕ → Float
+middleAs order step = summedAs order step (around 1 5 oneByFive 0 2)
+
+-- ---- runs over three planes of w columns and h rows, the filter region being all of them
+
+abbrev setupOf : ℕ → ℕ → Gabor → ℕ → ℕ → Setup
+setupOf w h gabor iters bandHeight = record {
+  image = record { left = pos 0; top = pos 0; width = w; height = h };
+  filter = record { left = pos 0; top = pos 0; width = w; height = h };
+  «preserve_outside» = true;
+  settings = record {
+    gabor = gabor;
+    epf = record {
+      iters = iters;
+      «channel_scale» = b1 ∷ b0 ∷ b0 ∷ [];
+      sigma = record { «quant_mul» = b0; «pass0_sigma_scale» = b0; «pass2_sigma_scale» = b0; «border_sad_mul» = b2 };
+      «sigma_for_modular» = b16;
+    };
+  };
+  «band_height» = bandHeight;
+}
+
+-- 1 in column 0 and 0 in the others
+abbrev stripes : Picture
+stripes = λ c x y. cond (eqb x 0) b1 b0
+
+-- step 1 alone over 2 × 24 samples in bands of 20 rows, the sigma of each block 16, as start leaves it
+abbrev pub begun : State
+begun = record { run = started (setupOf 2 24 gaborOff 1 20); sigmas = b16 ∷ b16 ∷ b16 ∷ []; first = setOf 3 2 24 stripes; second = setOf 3 2 24 (λ c x y. b0) }
+
+-- after band 0
+abbrev pub bandZero : State
+bandZero = bandOutcome 3 begun 0 .state
+
+-- column 1 of image rows 20 to 23 after band 1 alone
+abbrev pub lastRows : List Float
+lastRows = tab 4 (λ y. of 2 24 (bandOutcome 3 begun 1 .state .second) 0 1 (20 + y))
+
+-- the same with image rows counted from the band's first
+abbrev pub lastRowsFromBand : List Float
+lastRowsFromBand = tab 4 (λ y. epfPass (plain 1 b2) 2 4 0 (λ _ _. b16) stripes 0 1 y)
+
+-- Gabor alone over the column 0 16 in bands of one row, as start leaves it
+abbrev column : State
+column = record { run = started (setupOf 1 2 (evenly oneHalf oneQuarter) 0 1); sigmas = []; first = setOf 3 1 2 (λ c x y. cond (eqb y 0) b0 b16); second = setOf 3 1 2 (λ c x y. b0) }
+
+-- row 1 after band 1 alone
+abbrev pub lastSample : Float
+lastSample = of 1 2 (bandOutcome 3 column 1 .state .second) 0 0 1
+
+-- ---- one group across and two down, of 128 blocks a side; the upper one has a grid of one column, the lower none
+
+-- the sigma of block row y of the frame
+abbrev pub blockRow : List Float → Float → ℕ → Float
+blockRow grids modular y =
+    getD
+    (blockSigmas
+    (record { width = 8; height = 1040; upsampling = 1; «lf_level» = 0; «group_size_shift» = 0 })
+    (record { left = 0; top = 0; width = 8; height = 1040 })
+    (1 ∷ 1 ∷ 128 ∷ 0 ∷ 0 ∷ 0 ∷ [])
+    grids
+    modular)
+    y
+    nan
+
+-- ---- the table
+
+pub record Table : Type 0 where
+  -- ★ mirror: −1 of 1 is 0; −3 of 2 is 1; 5 of 4 is 2; 7 of 3 is 1
+  pub mirrorOfOne : mirrorOutcome (negsuc 0) 1 ≡ place 0
+  pub mirrorOfTwo : mirrorOutcome (negsuc 2) 2 ≡ place 1
+  pub mirrorOfFour : mirrorOutcome (pos 5) 4 ≡ place 2
+  pub mirrorOfThree : mirrorOutcome (pos 7) 3 ≡ place 1
+  -- ★ border multiplier: image rows 7 and 8 have it; 6 and 9 only at columns 0 and 7 modulo 8
+  pub borderSix : across 6 ≡ atColumns
+  pub borderSeven : across 7 ≡ everywhere
+  pub borderEight : across 8 ≡ everywhere
+  pub borderNine : across 9 ≡ atColumns
+  -- ★ halves: 0001 to 33800000, 03FF to 387FC000, 7BFF to 477FE000, 8000 to 80000000, 7C00 to refusal 2
+  pub halfLeast : half 0x0001 ≡ single 0x3380_0000
+  pub halfSubnormal : half 0x03ff ≡ single 0x387f_c000
+  pub halfGreatest : half 0x7bff ≡ single 0x477f_e000
+  pub halfMinusZero : half 0x8000 ≡ single 0x8000_0000
+  pub halfInfinite : half 0x7c00 ≡ refused 2
+  -- ★ weights −1/8, −1/8: refusal 3; 1/4, 0: accepted
+  pub weightsRefused : gaborAt (customHeader 0xb000 0xb000) 0 ≡ refused 3
+  pub weightsAccepted : gaborAt (customHeader 0x3400 0x0000) 0 ≡ accepted (evenly oneQuarter b0) 98
+  -- ★ left −3, width 5: downsample 1 gives −2, 3; aligned to 8 gives −8, 16
+  pub downsampled : downsampleOutcome square 1 ≡ record { number = 0; region = record { left = negsuc 1; top = negsuc 1; width = 3; height = 3 } }
+  pub aligned : alignedOutcome square 8 ≡ record { number = 0; region = record { left = negsuc 7; top = negsuc 7; width = 16; height = 16 } }
+  -- ★ weights 1/2, 1/4 on 0 0 0 / 0 16 0 / 0 0 0: 1 2 1 / 2 4 2 / 1 2 1; on the single row 0 16 0: 4 14 4
+  pub impulse : smoothed 3 3 (b0 ∷ b0 ∷ b0 ∷ b0 ∷ b16 ∷ b0 ∷ b0 ∷ b0 ∷ b0 ∷ []) ≡ b1 ∷ b2 ∷ b1 ∷ b2 ∷ b4 ∷ b2 ∷ b1 ∷ b2 ∷ b1 ∷ []
+  pub singleRow : smoothed 3 1 (b0 ∷ b16 ∷ b0 ∷ []) ≡ b4 ∷ b14 ∷ b4 ∷ []
+  -- ★ step 2, sigma 0.25: copied; sigma NaN, centre 5: 5
+  pub copiedBelow : stepped 2 oneQuarter 3 1 (b1 ∷ b5 ∷ b2 ∷ []) ≡ b1 ∷ b5 ∷ b2 ∷ []
+  pub nanSigma : stepped 2 nan 3 1 (b1 ∷ b5 ∷ b2 ∷ []) ≡ b1 ∷ b5 ∷ b2 ∷ []
+  -- group row 0 has grids, row 1 none: block row 128 repeats row 127
+  pub repeated : (grids : List Float) (modular : Float) → (blockRow grids modular 127 ≡ getD grids 127 nan) × (blockRow grids modular 128 ≡ getD grids 127 nan)
+  -- band 0 twice: 10; advance with band 1 missing: 11
+  pub bandOnce : bandOutcome 3 begun 0 .number ≡ 0
+  pub bandTwice : bandOutcome 3 bandZero 0 .number ≡ 10
+  pub bandMissing : advanceOutcome (bandZero .run) .number ≡ 11
+  -- sigma 1 does not copy
+  pub notCopied : copied b1 standardLimit ≡ false
+  -- a NaN sigma filters; copying would leave −0 1, inf 1 and NaN 1
+  pub nanMinusZero : EachStep (λ k. stepped k nan 2 1 (minusZero ∷ b1 ∷ []) ≡ b0 ∷ b1 ∷ [])
+  pub nanInfinity : EachStep (λ k. stepped k nan 2 1 (infinity ∷ b1 ∷ []) ≡ nan ∷ nan ∷ [])
+  pub nanNaN : EachStep (λ k. stepped k nan 2 1 (nan ∷ b1 ∷ []) ≡ nan ∷ nan ∷ [])
+  -- step 0 as it sums, and summed as step 1 is
+  pub cornerZero : corner 0 ≡ bits 0x3100_6d9e
+  pub cornerZeroAsOne : cornerAs 1 0 ≡ bits 0x3100_6d80
+  pub middleZero : middle 0 ≡ bits 0x3034_add2
+  pub middleZeroAsOne : middleAs 1 0 ≡ bits 0x3034_adfd
+  -- step 1 as it sums, and summed as step 0 is
+  pub cornerOne : corner 1 ≡ bits 0x3032_b54e
+  pub cornerOneAsZero : cornerAs 0 1 ≡ bits 0x3032_b578
+  pub middleOne : middle 1 ≡ bits 0x3007_e265
+  pub middleOneAsZero : middleAs 0 1 ≡ bits 0x3007_e245
+  -- image row 23 lies at a border and rows 20 to 22 do not; counted from the band, row 20 would
+  pub borderRows : lastRows ≡ bits 0x3e14_831c ∷ bits 0x3e14_831c ∷ bits 0x3e14_831c ∷ bits 0x3d94_9423 ∷ []
+  pub borderRowsFromBand : lastRowsFromBand ≡ bits 0x3d94_9423 ∷ bits 0x3e14_831c ∷ bits 0x3e14_831c ∷ bits 0x3e14_831c ∷ []
+  -- a band reads the rows around it; mirrored at its own, the one sample would be copied
+  pub aroundBand : lastSample ≡ b12
+  pub mirroredAtBand : smoothed 1 1 (b16 ∷ []) ≡ b16 ∷ []
