@@ -18,6 +18,7 @@ ghost use Rattle.numbers.specs.Checks.{firstOf};
 ghost use Rattle.planes.specs.Band.{passed};
 ghost use Rattle.planes.specs.Stored.{LayoutFits, BandFits};
 ghost use Rattle.layout.specs.Outcome.{PassOutcome};
+ghost use Rattle.weights.specs.Steps.{standardLimit};
 ghost use Rattle.tiles.specs.Tile.{stepOver};
 ghost use Rattle.tiles.specs.Region.{RegionFits};
 ghost use Rattle.epf.specs.Blocks.{ahead as aheadOf, onBlock, onBlocks};
@@ -110,6 +111,17 @@ fn judged(
     ACCEPTED
 }
 
+fn step_of(s: EpfStep) -> Step
+    ensures { λ r. ⌜ r ≡ record { step = s .step; scale = s .multiplier; edge = s .«border_sad_mul»; limit = standardLimit } ⌝ }
+{
+    Step {
+        step: s.step as usize,
+        scale: s.multiplier,
+        edge: s.border_sad_mul,
+        limit: COPYING_LIMIT,
+    }
+}
+
 // Rows `from` up to `to` of the result: copied outside the filter region, then filtered inside it.
 fn epf_band(
     src: &[f32],
@@ -171,12 +183,7 @@ pub fn epf_pass(
         return number;
     }
     let scales = s.channel_scale;
-    let settings = Step {
-        step,
-        scale: s.multiplier,
-        edge: s.border_sad_mul,
-        limit: COPYING_LIMIT,
-    };
+    let settings = step_of(s);
     epf_band(
         src,
         dst,

@@ -112,6 +112,45 @@ fn strips(
     }
 }
 
+// The same, with the local memory of a tile.
+fn with_scratch(
+    dst: &mut [f32],
+    src: &[f32],
+    l: Layout,
+    n: usize,
+    s: Step,
+    scales: &[f32; 3],
+    sigmas: &[f32],
+    top: usize,
+    from: usize,
+    to: usize,
+)
+    requires { ⌜ RegionFits l n s top (length (now dst)) (length (now sigmas)) ⌝ }
+    requires { ⌜ (length (now src) ≡ length (now dst)) × (from ≤ to) × (to ≤ l .height) ⌝ }
+    ensures { λ _. ⌜ now (dst .exit) ≡ planesFill (l .image .width) (l .image .height) (l .left) (l .width) (l .top + from) (to - from) (λ (c : ℕ) (i : ℕ) (r : ℕ). stepOver n l s (now (scales .entry)) top (now (sigmas .entry)) (now (src .entry)) c i (from + r)) (now (dst .entry)) n ⌝ }
+{
+    let mut win = [0.0; 2688];
+    let mut e = [0.0; 5376];
+    let mut sl = [0.0; 128];
+    let mut out = [0.0; 1536];
+    strips(
+        dst,
+        src,
+        l,
+        n,
+        s,
+        scales,
+        sigmas,
+        top,
+        from,
+        to,
+        &mut win,
+        &mut e,
+        &mut sl,
+        &mut out,
+    );
+}
+
 // Rows `from` up to `to` of the filter region, in n planes; row 0 of it is row `top` of the image. Sigmas stand row of blocks after row of blocks.
 // Nothing where sets, sigmas, step or rows do not fit.
 pub fn filter_region(
@@ -149,24 +188,5 @@ pub fn filter_region(
     if l.height < to {
         return;
     }
-    let mut win = [0.0; 2688];
-    let mut e = [0.0; 5376];
-    let mut sl = [0.0; 128];
-    let mut out = [0.0; 1536];
-    strips(
-        dst,
-        src,
-        l,
-        n,
-        s,
-        scales,
-        sigmas,
-        top,
-        from,
-        to,
-        &mut win,
-        &mut e,
-        &mut sl,
-        &mut out,
-    );
+    with_scratch(dst, src, l, n, s, scales, sigmas, top, from, to);
 }

@@ -1,10 +1,11 @@
 -- `epf::epf_pass` meets its contract. Each test gives its number and leaves `dst`, and else the band is what the definition says. Assumes nothing.
-use mathlib.Core.Path.{_≡_, refl, sym, _∙_}
+use mathlib.Core.Path.{_≡_, sym, ap, _∙_}
 use native.Mathlib.Omega.{arith}
 use borrow.Author.Needs.{needs}
 use mir.Facts.{toZ-ofZ}
 use denote.Ref.{now}
 use lib.ListN.{length}
+use Rattle.tiles.specs.declared.Step.{Step}
 use Rattle.tiles.specs.Tile.{stepOver}
 use Rattle.layout.specs.Fits.{Accepted}
 use Rattle.epf.specs.Fits.{StepFits, step-fits, band-fits, not-placed, layout-held, refused, done}
@@ -27,9 +28,9 @@ module _ (c : tie.Else2) where
 returns-3 : tie.Need-returns-3
 unfolding stepOver
 returns-3 c =
-    let s = c .before .before .before .before .before .before .before .before .before .before .before .before .before .before .before .before .before in let a = s .args in let l = c .before .before .before .before .before .before .before .before .before .before .before .before .before .layout-of in
-    done (a .image) (a .filter) (a .preserve-outside) (a .s) (now (a .sigmas)) (a .from) (a .to) (now (a .src)) (now (a .dst)) (l .result) (l .ensures) (c .before .before .before .before .before .before .before .before .before .before .before .before .if1 .left) (c .before .before .before .before .before .before .before .before .before .judged .result) (c .before .before .before .before .before .before .before .before .before .judged .ensures) (c .before .before .before .before .before .before .before .before .if2 .left) _
-    (rw (c .before .before .before .ahead .ensures .0, toZ-ofZ (record { sfits = c .before .before .before .before .struct-told .given .1 .0 .1 })) at (c .before .before .epf-band .ensures))
+    let s = c .before .before .before .before .before .before .before .before .before .before .before .before .before .before .before .before .before .before in let a = s .args in let l = c .before .before .before .before .before .before .before .before .before .before .before .before .before .before .layout-of in let j = c .before .before .before .before .before .before .before .before .before .before .judged in
+    done (a .image) (a .filter) (a .preserve-outside) (a .s) (now (a .sigmas)) (a .from) (a .to) (now (a .src)) (now (a .dst)) (l .result) (l .ensures) (c .before .before .before .before .before .before .before .before .before .before .before .before .before .if1 .left) (j .result) (j .ensures) (c .before .before .before .before .before .before .before .before .before .if2 .left) _
+    (rw (c .before .before .before .ahead .ensures .0, toZ-ofZ (record { sfits = c .before .before .before .before .struct-told .given .1 .0 .1 }), c .before .before .before .before .before .before .before .step-of .ensures) at (c .before .before .epf-band .ensures))
 
 pub epf-pass-spec : {M : Type 1} → statement M
 epf-pass-spec = tie.close
@@ -40,7 +41,9 @@ epf-pass-spec = tie.close
     (λ c κs. held (c .before .before) .fits)
     (λ c. let s = c .before .before .before .before .before .before .before .before .before .args in let l = c .before .before .before .before .before .layout-of in refused (s .image) (s .filter) (s .preserve-outside) (s .s) (now (s .sigmas)) (s .from) (s .to) (now (s .src)) (now (s .dst)) (l .result) (l .ensures) (c .before .before .before .before .if1 .left) (c .before .judged .result) (c .before .judged .ensures) (c .if2 .taken))
     (λ c κs. search needs)
-    (λ c κs. let d = c .before .before .before .before .before in let f = fits d in let g = held (c .before .before .before .before .before .before .before .before .before) .fits in
-    (band-fits 3 _ _ _ _ _ _ _ (omega arith) g f, record { layout = g; planes = omega arith; set = f .target; sigmas = f .blocks; low = omega (arith, f .low); place = c .ahead .ensures .1 }))
+    (λ c κs. search needs)
+    (λ c κs. let d = c .before .before .before .before .before .before in let f = fits d in let g = held (c .before .before .before .before .before .before .before .before .before .before) .fits in
+    let step = ap (λ (z : Step). z .step) (c .before .before .before .before .step-of .ensures) in
+    (band-fits 3 _ _ _ _ _ _ _ (omega arith) g f, record { layout = g; planes = omega arith; set = f .target; sigmas = f .blocks; low = omega (arith, f .low, step); place = c .ahead .ensures .1 }))
     (λ c. search needs)
     returns-3)

@@ -1,5 +1,5 @@
 -- `tiles::region::filter_region` meets its contract. Where a test fails `dst` is as it was. Assumes nothing.
-use mathlib.Core.Path.{_≡_, refl, sym, _∙_}
+use mathlib.Core.Path.{_≡_, sym, _∙_}
 use mathlib.Core.Bool.{true}
 use native.Mathlib.Omega.{arith}
 use borrow.Author.Needs.{needs}
@@ -49,8 +49,7 @@ filter-region-spec = tie.close
     (λ c. no-top _ _ _ _ _ _ _ _ _ _ (c .if5 .taken))
     (λ c. no-order _ _ _ _ _ _ _ _ _ _ (c .if6 .taken))
     (λ c. no-rows _ _ _ _ _ _ _ _ _ _ (c .if7 .taken))
+    (λ c κs. let d = c .before in (fits d .0, (fits d .1, omega (arith, d .before .before .if6 .left), d .if7 .left)))
     (λ c. search needs)
-    (λ c κs. let d = c .before .before .before .before .before in (fits d .0, ((fits d .1, omega (arith, d .before .before .if6 .left), d .if7 .left), record { windows = refl; fields = refl; slopes = refl; lanes = refl })))
-    (λ c. search needs)
-    (λ c. let d = c .before .before .before .before .before .before .before .before .before in let s = first d .args in c .before .before .before .strips .ensures
+    (λ c. let d = c .before .before .before .before in let s = first d .args in c .before .before .with-scratch .ensures
     ∙ sym (region-done (s .n) (s .l) (s .s) (now (s .scales)) (s .top) (s .from) (s .to) (now (s .sigmas)) (now (s .src)) (now (s .dst)) (fits d .0) (fits d .1) (omega (arith, d .before .before .if6 .left)) (d .if7 .left))))
