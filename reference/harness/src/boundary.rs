@@ -117,6 +117,17 @@ mod header {
         pub border_sad_mul: f32,
     }
 
+    impl From<oracle::Sigma> for EpfSigma {
+        fn from(sigma: oracle::Sigma) -> Self {
+            Self {
+                quant_mul: sigma.quant_mul,
+                pass0_sigma_scale: sigma.pass0_sigma_scale,
+                pass2_sigma_scale: sigma.pass2_sigma_scale,
+                border_sad_mul: sigma.border_sad_mul,
+            }
+        }
+    }
+
     #[repr(C)]
     pub struct EdgePreservingFilter {
         pub enabled: bool,

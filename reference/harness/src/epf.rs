@@ -241,13 +241,7 @@ fn through_apply_epf(scale: u64, report: &mut Report) {
     report.add(row);
     let mut row = Row::new("apply_epf", "groups meet");
     for n in 0..WHOLE * scale {
-        // Larger groups have larger grids.
-        let shift = match n % 40 {
-            0 => 3,
-            1 | 2 => 2,
-            3..=8 => 1,
-            _ => 0,
-        };
+        let shift = sigma::seldom_large(n % 40);
         let mut groups = || random.within(1, sigma::GROUPS[shift as usize].into()) as u32;
         let groups = (groups(), groups());
         let mut case = sigma::meeting(shift, groups, false, &mut random);

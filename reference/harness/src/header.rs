@@ -145,12 +145,7 @@ fn epf_of_rust(edge: Option<oracle::Edge>) -> Vec<u32> {
                 iters: edge.iters,
                 sharp_lut: edge.sharp_lut,
                 channel_scale: edge.channel_scale,
-                sigma: boundary::EpfSigma {
-                    quant_mul: edge.sigma.quant_mul,
-                    pass0_sigma_scale: edge.sigma.pass0_sigma_scale,
-                    pass2_sigma_scale: edge.sigma.pass2_sigma_scale,
-                    border_sad_mul: edge.sigma.border_sad_mul,
-                },
+                sigma: edge.sigma.into(),
                 sigma_for_modular: edge.sigma_for_modular,
             })
         },

@@ -15,6 +15,16 @@ use crate::{
 const MEETINGS: [u64; 4] = [40, 10, 3, 2];
 /// The most groups each way by group size shift.
 pub const GROUPS: [u32; 4] = [4, 4, 4, 2];
+
+/// A group size shift: larger groups have larger grids, so they are drawn less often.
+pub const fn seldom_large(n: u64) -> u32 {
+    match n {
+        0 => 3,
+        1 | 2 => 2,
+        3..=8 => 1,
+        _ => 0,
+    }
+}
 /// Draws of wrong inputs, before `--scale`.
 const DRAWS: u64 = 60_000;
 /// Cells of a grid repeat after so many, a prime that is no sum of few rows.

@@ -111,13 +111,7 @@ pub fn settings(passes: Passes, modular: f32, random: &mut Random) -> Settings {
 
 /// Grids and a filter region with such sides around a place where groups meet.
 fn on_blocks(width: u32, height: u32, random: &mut Random) -> sigma::Case {
-    // Larger groups have larger grids.
-    let shift = match random.within(0, 49) {
-        0 => 3,
-        1 | 2 => 2,
-        3..=8 => 1,
-        _ => 0,
-    };
+    let shift = sigma::seldom_large(random.within(0, 49) as u64);
     let mut groups = || random.within(1, sigma::GROUPS[shift as usize].into()) as u32;
     let groups = (groups(), groups());
     let dim = 128 << shift;

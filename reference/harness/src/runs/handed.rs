@@ -235,12 +235,7 @@ pub fn epf_settings(edge: oracle::Edge) -> boundary::EpfSettings {
     boundary::EpfSettings {
         iters: edge.iters,
         channel_scale: edge.channel_scale,
-        sigma: boundary::EpfSigma {
-            quant_mul: edge.sigma.quant_mul,
-            pass0_sigma_scale: edge.sigma.pass0_sigma_scale,
-            pass2_sigma_scale: edge.sigma.pass2_sigma_scale,
-            border_sad_mul: edge.sigma.border_sad_mul,
-        },
+        sigma: edge.sigma.into(),
         sigma_for_modular: edge.sigma_for_modular,
     }
 }
