@@ -1,0 +1,20 @@
+//! Links the proved library, `libexports.a` in the folder `LOUPE_STATICLIB_DIR` or, where that is
+//! not set, in the repository's `target/staticlib`, where `rt staticlib exports` writes it.
+
+use std::{env, path::PathBuf};
+
+fn main() {
+    println!("cargo:rerun-if-env-changed=LOUPE_STATICLIB_DIR");
+    println!("cargo:rerun-if-changed=build.rs");
+    let folder = env::var_os("LOUPE_STATICLIB_DIR").map_or_else(
+        || PathBuf::from(env!("CARGO_MANIFEST_DIR")).join("../../target/staticlib"),
+        PathBuf::from,
+    );
+    let library = folder.join("libexports.a");
+    if !library.exists() {
+        println!("cargo:warning=no libexports.a: run `rt staticlib exports`");
+    }
+    println!("cargo:rerun-if-changed={}", library.display());
+    println!("cargo:rustc-link-search=native={}", folder.display());
+    println!("cargo:rustc-link-lib=static=exports");
+}

@@ -1,0 +1,73 @@
+//! A frame's groups, and the sigmas of blocks.
+
+use crate::boundary::{answers, entries};
+
+#[repr(C)]
+#[derive(Debug, Clone, Copy, PartialEq, Eq)]
+pub struct Frame {
+    pub width: u32,
+    pub height: u32,
+    pub upsampling: u32,
+    pub lf_level: u32,
+    pub group_size_shift: u32,
+}
+
+#[repr(C)]
+#[derive(Debug, Clone, Copy, PartialEq, Eq)]
+pub struct GroupSizes {
+    pub sample_width: u32,
+    pub sample_height: u32,
+    pub group_dim: u32,
+    pub group_shift: u32,
+    pub groups_per_row: u32,
+    pub groups_per_column: u32,
+    pub num_groups: u32,
+}
+
+/// A filter region that starts at multiples of 8: its left and top in blocks, its sides in samples.
+#[repr(C)]
+#[derive(Debug, Clone, Copy, PartialEq, Eq)]
+pub struct Blocks {
+    pub left: u32,
+    pub top: u32,
+    pub width: u32,
+    pub height: u32,
+}
+
+answers! {
+    FrameAnswer { sizes: GroupSizes }
+    SplitAnswer { group: u32, inner: u32 }
+}
+
+entries! {
+    group_sizes = loupe_group_sizes(frame: Frame) -> FrameAnswer;
+
+    /// The group of a block's column or row, and the cell in it.
+    split_block = loupe_split_block(block: u32, group_size_shift: u32) -> SplitAnswer;
+
+    /// Fills in one sigma a block. The table has three numbers a group: whether it has a grid, the
+    /// grid's width and its height; the grids lie one after another.
+    ///
+    /// ```
+    /// // Document 01, "Instances": group row 0 has grids, row 1 none: block row 128 repeats row 127.
+    /// let frame = loupe::Frame {
+    ///     width: 8,
+    ///     height: 1032,
+    ///     upsampling: 1,
+    ///     lf_level: 0,
+    ///     group_size_shift: 0,
+    /// };
+    /// let blocks = loupe::Blocks { left: 0, top: 0, width: 8, height: 1032 };
+    /// let grid: Vec<f32> = (0..128).map(|row| row as f32).collect();
+    /// let mut sigmas = [0.0; 129];
+    /// let table = [1, 1, 128, 0, 0, 0];
+    /// let number = loupe::block_sigmas(true, frame, blocks, &table, &grid, 1.0, &mut sigmas);
+    /// loupe::accepted(number)?;
+    /// assert_eq!(sigmas[126..], [126.0, 127.0, 127.0]);
+    /// # Ok::<(), loupe::Refusal>(())
+    /// ```
+    block_sigmas = loupe_block_sigmas(
+        on: bool, frame: Frame, blocks: Blocks, table: &[u32], grids: &[f32],
+        sigma_for_modular: f32, sigmas: &mut [f32]
+    ) -> u32;
+}

@@ -1,0 +1,67 @@
+//! Reading a filter header, from a bit place of a slice; the encoding is Modular or else VarDct.
+
+use crate::boundary::{answers, entries};
+
+#[repr(C)]
+#[derive(Debug, Clone, Copy, PartialEq)]
+pub struct Gabor {
+    pub enabled: bool,
+    pub weights: [[f32; 2]; 3],
+}
+
+#[repr(C)]
+#[derive(Debug, Clone, Copy, PartialEq)]
+pub struct EpfSigma {
+    pub quant_mul: f32,
+    pub pass0_sigma_scale: f32,
+    pub pass2_sigma_scale: f32,
+    pub border_sad_mul: f32,
+}
+
+#[repr(C)]
+#[derive(Debug, Clone, Copy, PartialEq)]
+pub struct EdgePreservingFilter {
+    pub enabled: bool,
+    pub iters: u32,
+    pub sharp_lut: [f32; 8],
+    pub channel_scale: [f32; 3],
+    pub sigma: EpfSigma,
+    pub sigma_for_modular: f32,
+}
+
+answers! {
+    HalfAnswer { value: f32, next: usize }
+    GaborAnswer { gabor: Gabor, next: usize }
+    EpfAnswer { epf: EdgePreservingFilter, next: usize }
+    FiltersAnswer { gabor: Gabor, epf: EdgePreservingFilter, next: usize }
+}
+
+entries! {
+    /// ```
+    /// // Document 01, "Instances": halves 0001 and 7C00.
+    /// let (value, next) = loupe::read_half(&[0x01, 0x00], 0).value()?;
+    /// assert_eq!((value.to_bits(), next), (0x3380_0000, 16));
+    /// let refused = loupe::read_half(&[0x00, 0x7C], 0).value();
+    /// assert_eq!(refused, Err(loupe::Refusal::HalfNotFinite));
+    /// # Ok::<(), loupe::Refusal>(())
+    /// ```
+    read_half = loupe_read_half(bytes: &[u8], place: usize) -> HalfAnswer;
+
+    /// ```
+    /// // Document 01, "Instances": weights -1/8, -1/8 and 1/4, 0, after the enabled and custom bits.
+    /// let header = |w0: u128, w1: u128| {
+    ///     let pair = w0 | w1 << 16;
+    ///     (0b11 | pair << 2 | pair << 34 | pair << 66).to_le_bytes()
+    /// };
+    /// let refused = loupe::read_gabor(&header(0xB000, 0xB000), 0).value();
+    /// assert_eq!(refused, Err(loupe::Refusal::KernelNearZero));
+    /// let (gabor, next) = loupe::read_gabor(&header(0x3400, 0), 0).value()?;
+    /// assert_eq!((gabor.weights, next), ([[0.25, 0.0]; 3], 98));
+    /// # Ok::<(), loupe::Refusal>(())
+    /// ```
+    read_gabor = loupe_read_gabor(bytes: &[u8], place: usize) -> GaborAnswer;
+    read_epf = loupe_read_epf(bytes: &[u8], place: usize, modular: bool) -> EpfAnswer;
+
+    /// Both filters, the Gabor-like one first.
+    read_filters = loupe_read_filters(bytes: &[u8], place: usize, modular: bool) -> FiltersAnswer;
+}

@@ -1,0 +1,76 @@
+//! One pass over some rows of its result, which is the full planes or, where `preserve_outside` is
+//! false, the filter region.
+
+use crate::{
+    Gabor, Region,
+    boundary::{answers, entries},
+};
+
+#[repr(C)]
+#[derive(Debug, Clone, Copy, PartialEq)]
+pub struct EpfStep {
+    pub step: u32,
+    pub channel_scale: [f32; 3],
+    pub multiplier: f32,
+    pub border_sad_mul: f32,
+}
+
+answers! {
+    MirrorAnswer { place: usize }
+}
+
+entries! {
+    /// The place that a filter reads for an offset beyond an edge.
+    ///
+    /// ```
+    /// // Document 01, "Instances".
+    /// let places = [(-1, 1, 0), (-3, 2, 1), (5, 4, 2), (7, 3, 1)];
+    /// for (offset, len, place) in places {
+    ///     assert_eq!(loupe::mirror(offset, len).value(), Ok(place));
+    /// }
+    /// ```
+    mirror = loupe_mirror(offset: isize, len: usize) -> MirrorAnswer;
+
+    /// The Gabor-like pass; whether the settings are on is not asked.
+    ///
+    /// ```
+    /// // Document 01, "Instances": weights 1/2, 1/4 on a single sample of 16.
+    /// let image = loupe::Region { left: 0, top: 0, width: 3, height: 3 };
+    /// let settings = loupe::Gabor { enabled: true, weights: [[0.5, 0.25]; 3] };
+    /// let plane = [0.0, 0.0, 0.0, 0.0, 16.0, 0.0, 0.0, 0.0, 0.0];
+    /// let (source, mut target) = ([plane; 3].concat(), [0.0; 27]);
+    /// let number = loupe::gabor_pass(image, image, true, settings, 0, 3, &source, &mut target);
+    /// loupe::accepted(number)?;
+    /// let smooth = [1.0, 2.0, 1.0, 2.0, 4.0, 2.0, 1.0, 2.0, 1.0];
+    /// assert_eq!(target[..], [smooth; 3].concat());
+    /// # Ok::<(), loupe::Refusal>(())
+    /// ```
+    gabor_pass = loupe_gabor_pass(
+        image: Region, filter: Region, preserve_outside: bool, settings: Gabor,
+        from: u32, to: u32, source: &[f32], target: &mut [f32]
+    ) -> u32;
+
+    /// An edge-preserving step.
+    ///
+    /// ```
+    /// // Document 01, "Instances": step 2 copies a block of sigma 0.25.
+    /// let image = loupe::Region { left: 0, top: 0, width: 2, height: 1 };
+    /// let step = loupe::EpfStep {
+    ///     step: 2,
+    ///     channel_scale: [40.0, 5.0, 3.5],
+    ///     multiplier: 6.5,
+    ///     border_sad_mul: 2.0 / 3.0,
+    /// };
+    /// let (source, mut target) = ([5.0, 5.0625, 1.0, 1.0, 1.0, 1.0], [0.0; 6]);
+    /// let mut pass = |sigma| {
+    ///     loupe::epf_pass(image, image, true, step, &[sigma], 0, 1, &source, &mut target)
+    /// };
+    /// loupe::accepted(pass(0.25))?;
+    /// assert_eq!(target, source);
+    /// # Ok::<(), loupe::Refusal>(())
+    /// ```
+    epf_pass = loupe_epf_pass(
+        image: Region, filter: Region, preserve_outside: bool, settings: EpfStep, sigmas: &[f32],
+        from: u32, to: u32, source: &[f32], target: &mut [f32]
+    ) -> u32;
+}

@@ -1,0 +1,43 @@
+//! Regions of a picture.
+
+use crate::boundary::{answers, entries};
+
+#[repr(C)]
+#[derive(Debug, Clone, Copy, PartialEq, Eq)]
+pub struct Region {
+    pub left: i32,
+    pub top: i32,
+    pub width: u32,
+    pub height: u32,
+}
+
+answers! {
+    RegionAnswer { region: Region }
+    BoolAnswer { holds: bool }
+    EdgeAnswer { edge: i32 }
+}
+
+entries! {
+    region_is_empty = loupe_region_is_empty(r: Region) -> BoolAnswer;
+    region_right = loupe_region_right(r: Region) -> EdgeAnswer;
+    region_bottom = loupe_region_bottom(r: Region) -> EdgeAnswer;
+    region_contains = loupe_region_contains(r: Region, target: Region) -> BoolAnswer;
+    region_translate = loupe_region_translate(r: Region, x: i32, y: i32) -> RegionAnswer;
+    region_intersection = loupe_region_intersection(a: Region, b: Region) -> RegionAnswer;
+    region_pad = loupe_region_pad(r: Region, size: u32) -> RegionAnswer;
+
+    /// Sides and corners divided by 2 to the power of the factor, outward.
+    ///
+    /// ```
+    /// // Document 01, "Instances": left -3, width 5.
+    /// let r = loupe::Region { left: -3, top: -3, width: 5, height: 5 };
+    /// let down = loupe::region_downsample(r, 1).value()?;
+    /// assert_eq!((down.left, down.width), (-2, 3));
+    /// let aligned = loupe::region_container_aligned(r, 8).value()?;
+    /// assert_eq!((aligned.left, aligned.width), (-8, 16));
+    /// # Ok::<(), loupe::Refusal>(())
+    /// ```
+    region_downsample = loupe_region_downsample(r: Region, factor: u32) -> RegionAnswer;
+    region_container_aligned =
+        loupe_region_container_aligned(r: Region, grid_dim: u32) -> RegionAnswer;
+}

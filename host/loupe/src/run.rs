@@ -1,0 +1,95 @@
+//! The calls of a run: start, band, advance and result.
+
+use core::fmt;
+
+use crate::{
+    EdgePreservingFilter, EpfSigma, Frame, Gabor, Region,
+    boundary::{answers, entries},
+};
+
+/// The edge filter is on where there are iterations.
+#[repr(C)]
+#[derive(Debug, Clone, Copy, PartialEq)]
+pub struct EpfSettings {
+    pub iters: u32,
+    pub channel_scale: [f32; 3],
+    pub sigma: EpfSigma,
+    pub sigma_for_modular: f32,
+}
+
+impl From<EdgePreservingFilter> for EpfSettings {
+    fn from(read: EdgePreservingFilter) -> Self {
+        Self {
+            iters: read.iters,
+            channel_scale: read.channel_scale,
+            sigma: read.sigma,
+            sigma_for_modular: read.sigma_for_modular,
+        }
+    }
+}
+
+#[repr(C)]
+#[derive(Debug, Clone, Copy, PartialEq)]
+pub struct Settings {
+    pub gabor: Gabor,
+    pub epf: EpfSettings,
+}
+
+#[repr(C)]
+#[derive(Debug, Clone, Copy, PartialEq)]
+pub struct Setup {
+    pub image: Region,
+    pub filter: Region,
+    /// Whether the result is the full planes, or the filter region alone.
+    pub preserve_outside: bool,
+    pub settings: Settings,
+    pub band_height: u32,
+}
+
+/// The record of a run.
+#[repr(C)]
+#[derive(Clone, Copy, PartialEq)]
+pub struct Run {
+    pub setup: Setup,
+    /// How many passes are over.
+    pub pass: u32,
+    /// Which bands of this pass are done.
+    pub done: [bool; 256],
+}
+
+impl fmt::Debug for Run {
+    fn fmt(&self, f: &mut fmt::Formatter) -> fmt::Result {
+        let done: Vec<usize> = (0..self.done.len()).filter(|&k| self.done[k]).collect();
+        f.debug_struct("Run")
+            .field("setup", &self.setup)
+            .field("pass", &self.pass)
+            .field("done", &done)
+            .finish()
+    }
+}
+
+answers! {
+    RunAnswer { run: Run }
+}
+
+entries! {
+    /// How far the passes of a run read beyond a sample.
+    margin = loupe_margin(settings: Settings) -> u32;
+
+    /// Checks everything and fills in the block sigmas; table and grids as in [`crate::block_sigmas`].
+    start = loupe_start(
+        setup: Setup, frame: Frame, table: &[u32], grids: &[f32],
+        first: &mut [f32], second: &[f32], sigmas: &mut [f32]
+    ) -> RunAnswer;
+
+    /// The next pass over the rows of band `k`, from one set into the other.
+    band = loupe_band(
+        run: Run, sigmas: &[f32], first: &mut [f32], second: &mut [f32], k: u32
+    ) -> RunAnswer;
+
+    /// Goes on to the next pass.
+    advance = loupe_advance(run: Run) -> RunAnswer;
+
+    /// Copies the result of a finished run, plane after plane.
+    result = loupe_result(run: Run, first: &[f32], second: &[f32], out: &mut [f32]) -> u32;
+}

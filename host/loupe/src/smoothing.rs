@@ -1,0 +1,118 @@
+//! A run together with what its calls are lent.
+
+use crate::{Frame, Refusal, Region, Run, Setup, accepted, advance, band, result, start};
+
+const CHANNELS: usize = 3;
+const BLOCK: u32 = 8;
+
+/// A run that owns its record, both sets of planes and the block sigmas.
+///
+/// ```
+/// # let region = |width, height| loupe::Region { left: 0, top: 0, width, height };
+/// # let (gabor, epf, _) = loupe::read_filters(&[0b01], 0, false).value()?;
+/// # let settings = loupe::Settings { gabor, epf: epf.into() };
+/// # let (image, filter, preserve_outside) = (region(2, 2), region(2, 2), true);
+/// # let (width, height, upsampling, lf_level, group_size_shift) = (2, 2, 1, 0, 0);
+/// # let frame = loupe::Frame { width, height, upsampling, lf_level, group_size_shift };
+/// // Document 01, "Instances": two bands; band 0 twice, and advance with band 1 missing.
+/// let setup = loupe::Setup { image, filter, preserve_outside, settings, band_height: 1 };
+/// let mut smoothing = loupe::Smoothing::start(setup, frame, &[0; 3], &[], vec![0.5; 12])?;
+/// smoothing.band(0)?;
+/// assert_eq!(smoothing.band(0), Err(loupe::Refusal::BandNotOpen));
+/// assert_eq!(smoothing.advance(), Err(loupe::Refusal::PassNotDone));
+/// # Ok::<(), loupe::Refusal>(())
+/// ```
+#[derive(Debug, Clone)]
+pub struct Smoothing {
+    run: Run,
+    sigmas: Vec<f32>,
+    first: Vec<f32>,
+    second: Vec<f32>,
+}
+
+impl Smoothing {
+    /// Takes three planes of the image region, one after another; table and grids as in
+    /// [`crate::block_sigmas`].
+    pub fn start(
+        setup: Setup,
+        frame: Frame,
+        table: &[u32],
+        grids: &[f32],
+        mut planes: Vec<f32>,
+    ) -> Result<Self, Refusal> {
+        let second = vec![0.0; planes.len()];
+        let mut sigmas = vec![0.0; block_count(&setup, planes.len())];
+        let answer = start(
+            setup, frame, table, grids, &mut planes, &second, &mut sigmas,
+        );
+        Ok(Self {
+            run: answer.value()?,
+            sigmas,
+            first: planes,
+            second,
+        })
+    }
+
+    /// What start was told, how many passes are over and which bands are done.
+    pub fn run(&self) -> &Run {
+        &self.run
+    }
+
+    pub fn band(&mut self, k: u32) -> Result<(), Refusal> {
+        let answer = band(self.run, &self.sigmas, &mut self.first, &mut self.second, k);
+        self.run = answer.value()?;
+        Ok(())
+    }
+
+    pub fn advance(&mut self) -> Result<(), Refusal> {
+        self.run = advance(self.run).value()?;
+        Ok(())
+    }
+
+    /// The planes of a finished run, one after another: the image region's, or the filter region's.
+    pub fn result(&self) -> Result<Vec<f32>, Refusal> {
+        let part = result_region(&self.run.setup);
+        let mut planes = vec![0.0; CHANNELS * part.width as usize * part.height as usize];
+        accepted(result(self.run, &self.first, &self.second, &mut planes))?;
+        Ok(planes)
+    }
+
+    /// All bands and passes that are left, and then the result.
+    pub fn finish(mut self) -> Result<Vec<f32>, Refusal> {
+        let Setup {
+            settings,
+            band_height,
+            ..
+        } = self.run.setup;
+        let passes = u32::from(settings.gabor.enabled) + settings.epf.iters;
+        let bands = result_region(&self.run.setup).height.div_ceil(band_height);
+        while self.run.pass < passes {
+            for k in 0..bands {
+                if !self.run.done[k as usize] {
+                    self.band(k)?;
+                }
+            }
+            self.advance()?;
+        }
+        self.result()
+    }
+}
+
+fn result_region(setup: &Setup) -> Region {
+    if setup.preserve_outside {
+        setup.image
+    } else {
+        setup.filter
+    }
+}
+
+/// Blocks of the filter region, none with the edge filter off. A filter region inside the image has
+/// no more of them than there are samples, so that many serve for one that will be refused.
+fn block_count(setup: &Setup, samples: usize) -> usize {
+    if setup.settings.epf.iters == 0 {
+        return 0;
+    }
+    let along = |side: u32| side.div_ceil(BLOCK) as usize;
+    let blocks = along(setup.filter.width) * along(setup.filter.height);
+    blocks.min(samples)
+}
