@@ -53,20 +53,22 @@ entries! {
     /// An edge-preserving step.
     ///
     /// ```
-    /// // Document 01, "Instances": step 2 copies a block of sigma 0.25.
+    /// // Document 01, "Instances": step 2 copies where the block's sigma is 0.25, not where it is 1.5.
     /// let image = loupe::Region { left: 0, top: 0, width: 2, height: 1 };
     /// let step = loupe::EpfStep {
     ///     step: 2,
-    ///     channel_scale: [40.0, 5.0, 3.5],
-    ///     multiplier: 6.5,
-    ///     border_sad_mul: 2.0 / 3.0,
+    ///     channel_scale: [1.0; 3],
+    ///     multiplier: 1.0,
+    ///     border_sad_mul: 0.5,
     /// };
-    /// let (source, mut target) = ([5.0, 5.0625, 1.0, 1.0, 1.0, 1.0], [0.0; 6]);
-    /// let mut pass = |sigma| {
-    ///     loupe::epf_pass(image, image, true, step, &[sigma], 0, 1, &source, &mut target)
+    /// let source = [5.0, 5.0625, 1.0, 1.0, 1.0, 1.0];
+    /// let pass = |sigma| {
+    ///     let mut target = [0.0; 6];
+    ///     let number = loupe::epf_pass(image, image, true, step, &[sigma], 0, 1, &source, &mut target);
+    ///     loupe::accepted(number).map(|()| target)
     /// };
-    /// loupe::accepted(pass(0.25))?;
-    /// assert_eq!(target, source);
+    /// assert_eq!(pass(0.25)?, source);
+    /// assert_ne!(pass(1.5)?, source);
     /// # Ok::<(), loupe::Refusal>(())
     /// ```
     epf_pass = loupe_epf_pass(

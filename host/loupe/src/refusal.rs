@@ -2,72 +2,52 @@
 
 use core::fmt;
 
-/// Why a call was refused. What it was lent is then as it was.
-#[repr(u32)]
-#[derive(Debug, Clone, Copy, PartialEq, Eq)]
-pub enum Refusal {
-    BitsRunOut = 1,
-    HalfNotFinite,
-    KernelNearZero,
-    OutOfMeasure,
-    NotInside,
-    NotOnBlocks,
-    WrongLength,
-    BlockNotHeld,
-    OutOfRange,
-    BandNotOpen,
-    PassNotDone,
+macro_rules! refusals {
+    ($($number:literal $name:ident $meaning:literal)*) => {
+        /// Why a call was refused. What it was lent is then as it was.
+        #[derive(Debug, Clone, Copy, PartialEq, Eq)]
+        pub enum Refusal {
+            $(#[doc = $meaning] $name = $number,)*
+        }
+
+        impl Refusal {
+            pub fn number(self) -> u32 {
+                self as u32
+            }
+
+            pub fn meaning(self) -> &'static str {
+                match self {
+                    $(Self::$name => $meaning,)*
+                }
+            }
+        }
+
+        /// Whether a call with this number was accepted, and else why not.
+        ///
+        /// # Panics
+        /// Where the library has no such number.
+        pub fn accepted(number: u32) -> Result<(), Refusal> {
+            match number {
+                0 => Ok(()),
+                $($number => Err(Refusal::$name),)*
+                _ => panic!("the library has no number {number}"),
+            }
+        }
+    };
 }
 
-use Refusal::*;
-
-/// Each with what it means, by number.
-const MEANINGS: [(Refusal, &str); 11] = [
-    (BitsRunOut, "the header's bits run out"),
-    (
-        HalfNotFinite,
-        "a half-precision number of the header is not finite",
-    ),
-    (
-        KernelNearZero,
-        "the weights of a channel add up to nearly zero",
-    ),
-    (
-        OutOfMeasure,
-        "a side, an area, a left or a top is outside the measures",
-    ),
-    (
-        NotInside,
-        "the filter region is not inside the image region",
-    ),
-    (
-        NotOnBlocks,
-        "the filter region's left or top is negative or no multiple of 8",
-    ),
-    (WrongLength, "a slice has a wrong length"),
-    (
-        BlockNotHeld,
-        "a block of the filter region has no group, or its group's grid does not hold it",
-    ),
-    (OutOfRange, "a setting is out of range"),
-    (
-        BandNotOpen,
-        "there is no such band, or it is done already, or the run is finished",
-    ),
-    (
-        PassNotDone,
-        "an advance with a band missing or after the finish, or a result before it",
-    ),
-];
-
-impl Refusal {
-    pub fn number(self) -> u32 {
-        self as u32
-    }
-
-    pub fn meaning(self) -> &'static str {
-        MEANINGS[self as usize - 1].1
-    }
+refusals! {
+    1 BitsRunOut "the header's bits run out"
+    2 HalfNotFinite "a half-precision number of the header is not finite"
+    3 KernelNearZero "the weights of a channel and its centre's 1 add up to nearly 0"
+    4 OutOfMeasure "a side, an area, a left or a top is outside the measures"
+    5 NotInside "the filter region is not inside the image region"
+    6 NotOnBlocks "the filter region's left or top is negative or no multiple of 8"
+    7 WrongLength "a slice has a wrong length"
+    8 BlockNotHeld "a block of the filter region has no group, or its group's grid does not hold it"
+    9 OutOfRange "a setting is out of range"
+    10 BandNotOpen "there is no such band, or it is done already, or the run is finished"
+    11 PassNotDone "an advance with a band missing or after the finish, or a result before the finish"
 }
 
 impl fmt::Display for Refusal {
@@ -77,21 +57,3 @@ impl fmt::Display for Refusal {
 }
 
 impl std::error::Error for Refusal {}
-
-/// Whether a call with this number was accepted, and else why not.
-///
-/// # Panics
-/// Where the library has no such number.
-pub fn accepted(number: u32) -> Result<(), Refusal> {
-    match number {
-        0 => Ok(()),
-        _ => Err(MEANINGS[number as usize - 1].0),
-    }
-}
-
-#[test]
-fn numbers() {
-    for (at, (refusal, _)) in (1..).zip(MEANINGS) {
-        assert_eq!(refusal.number(), at);
-    }
-}

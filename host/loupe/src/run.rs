@@ -74,6 +74,15 @@ answers! {
 
 entries! {
     /// How far the passes of a run read beyond a sample.
+    ///
+    /// ```
+    /// // The Gabor-like filter and three iterations with default settings, in seven bits. The margin
+    /// // is 1 + 6 (`crates/passes/specs/Plan.antt`).
+    /// let (gabor, epf, next) = loupe::read_filters(&[0b000_11_01], 0, false).value()?;
+    /// let settings = loupe::Settings { gabor, epf: epf.into() };
+    /// assert_eq!((next, loupe::margin(settings)), (7, 7));
+    /// # Ok::<(), loupe::Refusal>(())
+    /// ```
     margin = loupe_margin(settings: Settings) -> u32;
 
     /// Checks everything and fills in the block sigmas; table and grids as in [`crate::block_sigmas`].

@@ -7,8 +7,9 @@ use std::{
     time::{Duration, Instant},
 };
 
+use loupe::{EpfStep, Gabor, Region};
+
 use crate::{
-    boundary::{self, Region},
     epf::{DEFAULTS, step_of},
     random::Random,
 };
@@ -86,13 +87,11 @@ fn gabor(width: u32, height: u32) {
     let (ours, rust) = best(
         || {
             let mut target = target.borrow_mut();
-            let settings = boundary::Gabor {
+            let settings = Gabor {
                 enabled: true,
                 weights,
             };
-            let number =
-                boundary::gabor_pass(all_rows(image), settings, black_box(&source), &mut target);
-            assert_eq!(number, 0);
+            gabor_pass(image, settings, black_box(&source), &mut target);
         },
         || {
             let mut target = target.borrow_mut();
@@ -111,14 +110,16 @@ fn gabor(width: u32, height: u32) {
 }
 
 /// All rows of an image that is filtered whole.
-fn all_rows(image: Region) -> boundary::Rows {
-    boundary::Rows {
-        image,
-        filter: image,
-        preserve_outside: true,
-        from: 0,
-        to: image.height,
-    }
+fn gabor_pass(image: Region, settings: Gabor, source: &[f32], target: &mut [f32]) {
+    let to = image.height;
+    let number = loupe::gabor_pass(image, image, true, settings, 0, to, source, target);
+    assert_eq!(number, 0);
+}
+
+fn epf_pass(image: Region, step: EpfStep, sigmas: &[f32], source: &[f32], target: &mut [f32]) {
+    let to = image.height;
+    let number = loupe::epf_pass(image, image, true, step, sigmas, 0, to, source, target);
+    assert_eq!(number, 0);
 }
 
 /// A line with both times in ns a sample of the three planes.
@@ -159,8 +160,7 @@ fn epf(step: u32, side: u32, sigma: f32) {
             let mut target = target.borrow_mut();
             let step = step_of(step, settings);
             let source = black_box(&source);
-            let number = boundary::epf_pass(all_rows(image), step, &sigmas, source, &mut target);
-            assert_eq!(number, 0);
+            epf_pass(image, step, &sigmas, source, &mut target);
         },
         || {
             let mut target = target.borrow_mut();
@@ -186,7 +186,7 @@ fn header() {
     let bytes = vec![0u8; 65_536];
     let read = |place: usize| {
         for _ in 0..TIMES {
-            let answer = boundary::read_filters(&bytes, black_box(place), false);
+            let answer = loupe::read_filters(&bytes, black_box(place), false);
             assert_eq!(black_box(answer).number, 0);
         }
     };

@@ -3,9 +3,8 @@
 //! written must keep its bits.
 
 use crate::{
-    boundary,
     expected::epf::{Handed, number},
-    picture::{self, Rows, any_len, judge, plain, samples, special, wide},
+    picture::{self, Rows, any_len, judge, plain, region, samples, special, wide},
     random::Random,
     report::{Report, Row},
     sigma::{self, sigma},
@@ -34,10 +33,14 @@ struct Pass<'a> {
 }
 
 impl Pass<'_> {
-    fn ours(&self, rows: Rows, source: &[f32], target: &mut [f32]) -> u32 {
-        let rows = picture::rows(self.place, rows);
+    fn ours(&self, (from, to): Rows, source: &[f32], target: &mut [f32]) -> u32 {
+        let place = self.place;
+        let (image, filter) = (region(place.image), region(place.filter));
+        let outside = place.preserve_outside;
         let settings = step_of(self.step, self.settings);
-        boundary::epf_pass(rows, settings, self.sigmas, source, target)
+        loupe::epf_pass(
+            image, filter, outside, settings, self.sigmas, from, to, source, target,
+        )
     }
 
     /// The result's planes by the original's row function.
@@ -72,9 +75,18 @@ impl Pass<'_> {
     }
 }
 
+pub fn sigma_settings(sigma: oracle::Sigma) -> loupe::EpfSigma {
+    loupe::EpfSigma {
+        quant_mul: sigma.quant_mul,
+        pass0_sigma_scale: sigma.pass0_sigma_scale,
+        pass2_sigma_scale: sigma.pass2_sigma_scale,
+        border_sad_mul: sigma.border_sad_mul,
+    }
+}
+
 /// What a step reads of the settings; step 1 has no scale of its own.
-pub fn step_of(step: u32, settings: oracle::Edge) -> boundary::EpfStep {
-    boundary::EpfStep {
+pub fn step_of(step: u32, settings: oracle::Edge) -> loupe::EpfStep {
+    loupe::EpfStep {
         step,
         channel_scale: settings.channel_scale,
         multiplier: match step {

@@ -2,7 +2,7 @@
 //! of a block: its column or row and the group size shift.
 
 use crate::{
-    boundary, expected,
+    expected,
     kinds::{BLOCK, FRAME_SIDE, GROUP_SIZE_SHIFT, LF_LEVEL, UPSAMPLING},
     subject::{Answer, Subject},
 };
@@ -18,7 +18,7 @@ pub const GROUP_SIZES: Subject = Subject {
     ],
     outputs: 7,
     ours: |c| {
-        let answer = boundary::loupe_group_sizes(boundary::Frame {
+        let answer = loupe::group_sizes(loupe::Frame {
             width: c[0] as u32,
             height: c[1] as u32,
             upsampling: c[2] as u32,
@@ -84,7 +84,7 @@ pub const SPLIT_BLOCK: Subject = Subject {
     inputs: &[&BLOCK, &GROUP_SIZE_SHIFT],
     outputs: 2,
     ours: |c| {
-        let answer = boundary::loupe_split_block(c[0] as u32, c[1] as u32);
+        let answer = loupe::split_block(c[0] as u32, c[1] as u32);
         Answer::new(answer.number, &[answer.group.into(), answer.inner.into()])
     },
     rule: |c| match expected::split_block(c[0], c[1]) {

@@ -2,9 +2,8 @@
 //! refusals. What is not written must keep its bits.
 
 use crate::{
-    boundary,
     expected::gabor::number,
-    picture::{self, Rows, judge, plain, samples, special, wide},
+    picture::{self, Rows, judge, plain, region, samples, special, wide},
     random::Random,
     report::{Report, Row},
 };
@@ -29,12 +28,15 @@ struct Pass {
 }
 
 impl Pass {
-    fn ours(&self, rows: Rows, source: &[f32], target: &mut [f32]) -> u32 {
-        let settings = boundary::Gabor {
+    fn ours(&self, (from, to): Rows, source: &[f32], target: &mut [f32]) -> u32 {
+        let place = self.place;
+        let (image, filter) = (region(place.image), region(place.filter));
+        let outside = place.preserve_outside;
+        let settings = loupe::Gabor {
             enabled: true,
             weights: self.weights,
         };
-        boundary::gabor_pass(picture::rows(self.place, rows), settings, source, target)
+        loupe::gabor_pass(image, filter, outside, settings, from, to, source, target)
     }
 
     /// The result's planes by the original.

@@ -1,7 +1,9 @@
 //! Reading filter headers: all halves, all short headers, and built ones, whole and cut short.
 
+use loupe::{EdgePreservingFilter, Gabor};
+
 use crate::{
-    boundary::{self, EdgePreservingFilter, Gabor},
+    epf::sigma_settings,
     expected::{Ruled, header as expected},
     random::Random,
     report::{Report, Row},
@@ -48,7 +50,7 @@ pub const READERS: [Reader; 4] = [
         form: "f",
         encoded: false,
         ours: |(bytes, place, _)| {
-            let a = boundary::read_half(bytes, place);
+            let a = loupe::read_half(bytes, place);
             given(a.number, vec![a.value.to_bits()], a.next)
         },
         rule: |(bytes, place, _)| expected::half(bytes, place),
@@ -62,7 +64,7 @@ pub const READERS: [Reader; 4] = [
         form: "nffffff",
         encoded: false,
         ours: |(bytes, place, _)| {
-            let a = boundary::read_gabor(bytes, place);
+            let a = loupe::read_gabor(bytes, place);
             given(a.number, gabor_fields(&a.gabor), a.next)
         },
         rule: |(bytes, place, _)| expected::gabor(bytes, place),
@@ -76,7 +78,7 @@ pub const READERS: [Reader; 4] = [
         form: "nnffffffffffffffff",
         encoded: true,
         ours: |(bytes, place, modular)| {
-            let a = boundary::read_epf(bytes, place, modular);
+            let a = loupe::read_epf(bytes, place, modular);
             given(a.number, epf_fields(&a.epf), a.next)
         },
         rule: |(bytes, place, modular)| expected::epf(bytes, place, modular),
@@ -90,7 +92,7 @@ pub const READERS: [Reader; 4] = [
         form: "nffffffnnffffffffffffffff",
         encoded: true,
         ours: |(bytes, place, modular)| {
-            let a = boundary::read_filters(bytes, place, modular);
+            let a = loupe::read_filters(bytes, place, modular);
             let fields = [gabor_fields(&a.gabor), epf_fields(&a.epf)].concat();
             given(a.number, fields, a.next)
         },
@@ -145,7 +147,7 @@ fn epf_of_rust(edge: Option<oracle::Edge>) -> Vec<u32> {
                 iters: edge.iters,
                 sharp_lut: edge.sharp_lut,
                 channel_scale: edge.channel_scale,
-                sigma: edge.sigma.into(),
+                sigma: sigma_settings(edge.sigma),
                 sigma_for_modular: edge.sigma_for_modular,
             })
         },

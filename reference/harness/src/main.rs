@@ -5,7 +5,6 @@
 //! `harness record` a sample of the original's answers as text.
 
 mod bench;
-mod boundary;
 mod epf;
 mod expected;
 mod frame;

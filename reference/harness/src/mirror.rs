@@ -1,7 +1,7 @@
 //! Mirror: inputs are the offset and the length.
 
 use crate::{
-    boundary, expected,
+    expected,
     kinds::{LENGTH, OFFSET},
     subject::{Answer, Subject},
 };
@@ -11,7 +11,7 @@ pub const MIRROR: Subject = Subject {
     inputs: &[&OFFSET, &LENGTH],
     outputs: 1,
     ours: |c| {
-        let answer = boundary::loupe_mirror(c[0] as isize, c[1] as usize);
+        let answer = loupe::mirror(c[0] as isize, c[1] as usize);
         Answer::new(answer.number, &[answer.place as i128])
     },
     rule: |c| match expected::mirror(c[0], c[1]) {

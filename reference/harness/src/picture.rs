@@ -1,6 +1,6 @@
 //! Pictures that passes are compared on: where they lie, their samples, and what of them is written.
 
-use crate::{boundary, expected, random::Random, report::Row};
+use crate::{expected, random::Random, report::Row};
 
 /// Samples beside ordinary ones: zeros, subnormals, the largest, infinities and NaN.
 const SAMPLES: [u32; 12] = [
@@ -99,19 +99,8 @@ pub fn agree(a: f32, b: f32) -> bool {
     a.to_bits() == b.to_bits() || a.is_nan() && b.is_nan()
 }
 
-/// Rows of the result at a place.
-pub fn rows(place: oracle::Place, (from, to): Rows) -> boundary::Rows {
-    boundary::Rows {
-        image: region(place.image),
-        filter: region(place.filter),
-        preserve_outside: place.preserve_outside,
-        from,
-        to,
-    }
-}
-
-pub fn region(r: oracle::Region) -> boundary::Region {
-    boundary::Region {
+pub fn region(r: oracle::Region) -> loupe::Region {
+    loupe::Region {
         left: r.left,
         top: r.top,
         width: r.width,

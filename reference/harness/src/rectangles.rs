@@ -4,8 +4,9 @@
 
 mod regroup;
 
+use loupe::{Region, Settings};
+
 use crate::{
-    boundary::{self, Region, Settings},
     epf::textured,
     expected::runs::samples as count,
     picture::{self, agree, samples},
@@ -143,7 +144,7 @@ impl Pair {
     fn compare(&self, random: &mut Random, row: &mut Row) -> u64 {
         row.count(0);
         let case = (&self.smaller, &self.larger);
-        let answered = boundary::loupe_margin(self.smaller.setup.settings);
+        let answered = loupe::margin(self.smaller.setup.settings);
         if answered != self.margin {
             row.differs(&case, &answered, &self.margin);
         }
@@ -327,9 +328,9 @@ fn finished(handed: &Handed, random: &mut Random) -> Result<Vec<f32>, u32> {
     // Each band is drawn many times in so many calls.
     for _ in 0..1_000 * (1 + rule.bands()) {
         match random.within(0, 1 + rule.bands()) {
-            0 => state.run = boundary::loupe_advance(state.run).run,
+            0 => state.run = loupe::advance(state.run).run,
             1 => {
-                number = boundary::result(state.run, &state.first, &state.second, &mut out);
+                number = loupe::result(state.run, &state.first, &state.second, &mut out);
                 if number == 0 {
                     return Ok(out);
                 }
@@ -344,5 +345,5 @@ fn finished(handed: &Handed, random: &mut Random) -> Result<Vec<f32>, u32> {
 fn any_band(state: &mut State, bands: i128, random: &mut Random) {
     let k = random.within(0, bands) as u32;
     let (first, second) = (&mut state.first, &mut state.second);
-    state.run = boundary::band(state.run, &state.sigmas, first, second, k).run;
+    state.run = loupe::band(state.run, &state.sigmas, first, second, k).run;
 }

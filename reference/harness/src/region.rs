@@ -1,7 +1,8 @@
 //! Region arithmetic: inputs are left, top, width, height of each region, then the settings.
 
+use loupe::{BoolAnswer, EdgeAnswer, RegionAnswer};
+
 use crate::{
-    boundary::{self, BoolAnswer, EdgeAnswer, RegionAnswer},
     expected::{self, Ruled},
     kinds::{ALIGNMENT, CORNER, FACTOR, Kind, MOVE, PADDING, SIDE},
     subject::{Answer, Subject},
@@ -17,7 +18,7 @@ pub const SUBJECTS: [Subject; 9] = [
         name: "is_empty",
         inputs: ONE,
         outputs: 1,
-        ours: |c| holds(boundary::loupe_region_is_empty(region(c))),
+        ours: |c| holds(loupe::region_is_empty(region(c))),
         rule: |c| ruled(expected::is_empty(wide(c)), |holds| [i128::from(holds)]),
         rust: |c| Answer::new(0, &[i128::from(original(c).is_empty())]),
         near: &[("near zero", &[(-9, 9), (-9, 9), (0, 9), (0, 9)])],
@@ -27,7 +28,7 @@ pub const SUBJECTS: [Subject; 9] = [
         name: "right",
         inputs: ONE,
         outputs: 1,
-        ours: |c| edge(boundary::loupe_region_right(region(c))),
+        ours: |c| edge(loupe::region_right(region(c))),
         rule: |c| ruled(expected::right(wide(c)), |edge| [edge]),
         rust: |c| Answer::new(0, &[original(c).right().into()]),
         near: &[("near zero", &[(-9, 9), (-9, 9), (0, 9), (0, 9)])],
@@ -37,7 +38,7 @@ pub const SUBJECTS: [Subject; 9] = [
         name: "bottom",
         inputs: ONE,
         outputs: 1,
-        ours: |c| edge(boundary::loupe_region_bottom(region(c))),
+        ours: |c| edge(loupe::region_bottom(region(c))),
         rule: |c| ruled(expected::bottom(wide(c)), |edge| [edge]),
         rust: |c| Answer::new(0, &[original(c).bottom().into()]),
         near: &[("near zero", &[(-9, 9), (-9, 9), (0, 9), (0, 9)])],
@@ -47,7 +48,7 @@ pub const SUBJECTS: [Subject; 9] = [
         name: "contains",
         inputs: TWO,
         outputs: 1,
-        ours: |c| holds(boundary::loupe_region_contains(region(c), region(&c[4..]))),
+        ours: |c| holds(loupe::region_contains(region(c), region(&c[4..]))),
         rule: |c| {
             ruled(expected::contains(wide(c), wide(&c[4..])), |holds| {
                 [i128::from(holds)]
@@ -68,7 +69,7 @@ pub const SUBJECTS: [Subject; 9] = [
         outputs: 4,
         ours: |c| {
             let (x, y) = (c[4] as i32, c[5] as i32);
-            whole(boundary::loupe_region_translate(region(c), x, y))
+            whole(loupe::region_translate(region(c), x, y))
         },
         rule: |c| ruled(expected::translate(wide(c), c[4], c[5]), of_wide),
         rust: |c| accepted(original(c).translate(c[4] as i32, c[5] as i32)),
@@ -88,7 +89,7 @@ pub const SUBJECTS: [Subject; 9] = [
         outputs: 4,
         ours: |c| {
             let (a, b) = (region(c), region(&c[4..]));
-            whole(boundary::loupe_region_intersection(a, b))
+            whole(loupe::region_intersection(a, b))
         },
         rule: |c| ruled(expected::intersection(wide(c), wide(&c[4..])), of_wide),
         rust: |c| accepted(original(c).intersection(original(&c[4..]))),
@@ -103,7 +104,7 @@ pub const SUBJECTS: [Subject; 9] = [
         name: "pad",
         inputs: &[&CORNER, &CORNER, &SIDE, &SIDE, &PADDING],
         outputs: 4,
-        ours: |c| whole(boundary::loupe_region_pad(region(c), c[4] as u32)),
+        ours: |c| whole(loupe::region_pad(region(c), c[4] as u32)),
         rule: |c| ruled(expected::pad(wide(c), c[4]), of_wide),
         rust: |c| accepted(original(c).pad(c[4] as u32)),
         near: &[("near zero", &[(-5, 5), (-5, 5), (0, 5), (0, 5), (0, 9)])],
@@ -118,7 +119,7 @@ pub const SUBJECTS: [Subject; 9] = [
         name: "downsample",
         inputs: &[&CORNER, &CORNER, &SIDE, &SIDE, &FACTOR],
         outputs: 4,
-        ours: |c| whole(boundary::loupe_region_downsample(region(c), c[4] as u32)),
+        ours: |c| whole(loupe::region_downsample(region(c), c[4] as u32)),
         rule: |c| ruled(expected::downsample(wide(c), c[4]), of_wide),
         rust: |c| accepted(original(c).downsample(c[4] as u32)),
         near: &[
@@ -139,7 +140,7 @@ pub const SUBJECTS: [Subject; 9] = [
         outputs: 4,
         ours: |c| {
             let dim = c[4] as u32;
-            whole(boundary::loupe_region_container_aligned(region(c), dim))
+            whole(loupe::region_container_aligned(region(c), dim))
         },
         rule: |c| ruled(expected::container_aligned(wide(c), c[4]), of_wide),
         rust: |c| accepted(oracle::container_aligned(original(c), c[4] as u32)),
@@ -168,8 +169,8 @@ const TWO_NEAR: &[(i128, i128)] = &[
     (0, 3),
 ];
 
-fn region(c: &[i128]) -> boundary::Region {
-    boundary::Region {
+fn region(c: &[i128]) -> loupe::Region {
+    loupe::Region {
         left: c[0] as i32,
         top: c[1] as i32,
         width: c[2] as u32,

@@ -4,7 +4,6 @@
 use core::fmt;
 
 use crate::{
-    boundary,
     expected::{self, sigma as rule},
     picture::{agree, any_len, judge, plain, special},
     random::Random,
@@ -40,7 +39,7 @@ const CORNERS: [u32; 5] = [127, 128, 131_072, 131_073, u32::MAX];
 #[derive(Clone)]
 pub struct Case {
     pub frame: oracle::Frame,
-    pub blocks: boundary::Blocks,
+    pub blocks: loupe::Blocks,
     pub table: Vec<u32>,
     pub grids: Vec<f32>,
     pub modular: f32,
@@ -59,14 +58,14 @@ impl fmt::Debug for Case {
 
 impl Case {
     pub fn ours(&self, on: bool, sigmas: &mut [f32]) -> u32 {
-        let frame = boundary::Frame {
+        let frame = loupe::Frame {
             width: self.frame.width,
             height: self.frame.height,
             upsampling: self.frame.upsampling,
             lf_level: self.frame.lf_level,
             group_size_shift: self.frame.group_size_shift,
         };
-        boundary::block_sigmas(
+        loupe::block_sigmas(
             on, frame, self.blocks, &self.table, &self.grids, self.modular, sigmas,
         )
     }
@@ -240,7 +239,7 @@ pub fn carried(shift: u32, random: &mut Random) -> [Case; 4] {
             lf_level: 0,
             group_size_shift: shift,
         },
-        blocks: boundary::Blocks {
+        blocks: loupe::Blocks {
             left: 0,
             top,
             width: 8,
@@ -277,7 +276,7 @@ pub fn meeting(shift: u32, groups: (u32, u32), narrow: bool, random: &mut Random
     let (left, columns) = around(dim, groups.0, random);
     let (top, rows) = around(dim, groups.1, random);
     let part = |random: &mut Random| random.within(0, 7) as u32;
-    let blocks = boundary::Blocks {
+    let blocks = loupe::Blocks {
         left,
         top,
         width: 8 * columns - part(random),
@@ -323,7 +322,7 @@ pub fn frame(shift: u32, groups: (u32, u32), random: &mut Random) -> oracle::Fra
 /// Grids for the blocks: each is missing, just large enough, a little larger, or narrow.
 pub fn filled(
     frame: oracle::Frame,
-    blocks: boundary::Blocks,
+    blocks: loupe::Blocks,
     (across, down): (u32, u32),
     narrow: bool,
     random: &mut Random,
@@ -376,7 +375,7 @@ fn whole(shift: u32, width: u32, height: u32, random: &mut Random) -> Case {
         lf_level: 0,
         group_size_shift: shift,
     };
-    let blocks = boundary::Blocks {
+    let blocks = loupe::Blocks {
         left: 0,
         top: 0,
         width,
@@ -430,7 +429,7 @@ pub fn wrong_frame(frame: &mut oracle::Frame, random: &mut Random) {
     }
 }
 
-fn wrong_blocks(blocks: &mut boundary::Blocks, random: &mut Random) {
+fn wrong_blocks(blocks: &mut loupe::Blocks, random: &mut Random) {
     match random.within(0, 4) {
         0 => blocks.width = random.one_of(&SIDES),
         1 => blocks.height = random.one_of(&SIDES),

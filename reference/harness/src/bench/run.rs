@@ -2,9 +2,10 @@
 
 use std::hint::black_box;
 
-use super::{FILTERED, all_rows, best, line, smooth};
+use loupe::{Region, Run, Setup};
+
+use super::{FILTERED, best, epf_pass, gabor_pass, line, smooth};
 use crate::{
-    boundary::{self, Region, Run, Setup},
     epf::{DEFAULTS, step_of},
     runs::{Handed, Passes, defaults},
 };
@@ -96,9 +97,9 @@ fn to_the_finish(handed: &mut Handed) -> Run {
     for _ in 0..PASSES {
         for k in 0..SIDE.div_ceil(BAND) {
             let sets = (&mut handed.first, &mut handed.second);
-            run = boundary::band(run, &handed.sigmas, sets.0, sets.1, k).run;
+            run = loupe::band(run, &handed.sigmas, sets.0, sets.1, k).run;
         }
-        run = boundary::loupe_advance(run).run;
+        run = loupe::advance(run).run;
     }
     assert_eq!(run.pass, PASSES);
     run
@@ -106,23 +107,20 @@ fn to_the_finish(handed: &mut Handed) -> Run {
 
 fn with_result(handed: &mut Handed, out: &mut [f32]) {
     let run = to_the_finish(handed);
-    let number = boundary::result(run, &handed.first, &handed.second, out);
+    let number = loupe::result(run, &handed.first, &handed.second, out);
     assert_eq!(number, 0);
 }
 
 /// The same four passes, each over all rows at once.
 fn passes(handed: &mut Handed) {
-    let rows = all_rows(handed.setup.image);
+    let image = handed.setup.image;
     let (first, second) = (&mut handed.first[..], &mut handed.second[..]);
     let gabor = handed.setup.settings.gabor;
-    let mut numbers = vec![boundary::gabor_pass(rows, gabor, first, second)];
+    gabor_pass(image, gabor, first, second);
     let (mut source, mut target) = (second, first);
     for step in 0..3 {
         let step = step_of(step, DEFAULTS);
-        numbers.push(boundary::epf_pass(
-            rows, step, &handed.sigmas, source, target,
-        ));
+        epf_pass(image, step, &handed.sigmas, source, target);
         (source, target) = (target, source);
     }
-    assert_eq!(numbers, [0; PASSES as usize]);
 }

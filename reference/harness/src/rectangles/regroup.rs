@@ -1,7 +1,8 @@
 //! A frame with groups and grids of its own that give a part of a filter region the same sigmas.
 
+use loupe::{Region, Settings};
+
 use crate::{
-    boundary::{Region, Settings},
     picture::agree,
     random::Random,
     runs::Handed,

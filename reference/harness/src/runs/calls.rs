@@ -2,9 +2,10 @@
 
 use core::fmt::Debug;
 
+use loupe::{EpfSettings, EpfSigma, Gabor, Region, Run, Settings, Setup};
+
 use super::handed::{Handed, State, fields, place, record_rule, result_part};
 use crate::{
-    boundary::{self, EpfSettings, EpfSigma, Gabor, Region, Run, Settings, Setup},
     expected::runs as rule,
     picture::{self, agree},
     report::{Report, Row},
@@ -138,7 +139,7 @@ pub fn band(state: &mut State, k: u32, tally: &mut Tally) -> u32 {
     let mut before = state.clone();
     let run = record_rule(&before.run);
     let due = rule::band(run, before.sets(), before.sigmas.len(), k.into());
-    let answer = boundary::band(
+    let answer = loupe::band(
         state.run,
         &state.sigmas,
         &mut state.first,
@@ -177,7 +178,7 @@ fn rewrite(before: &mut State, after: &mut State, k: u32) {
 pub fn advance(run: &mut Run, tally: &mut Tally) -> u32 {
     let before = *run;
     let due = rule::advance(record_rule(&before));
-    let answer = boundary::loupe_advance(before);
+    let answer = loupe::advance(before);
     *run = if due == 0 {
         Run {
             setup: before.setup,
@@ -198,7 +199,7 @@ pub fn result(state: &mut State, out: &mut [f32], tally: &mut Tally) -> u32 {
     let (before, lent) = (state.clone(), out.to_vec());
     let run = record_rule(&before.run);
     let due = rule::result(run, before.sets(), out.len());
-    let number = boundary::result(state.run, &state.first, &state.second, out);
+    let number = loupe::result(state.run, &state.first, &state.second, out);
     let copied = if due == 0 {
         let setup = state.run.setup;
         let [read, _] = state.by_turns();

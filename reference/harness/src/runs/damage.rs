@@ -1,9 +1,10 @@
 //! What is lent, with one to four things wrong: every field of a setup and a record, the frame, its
 //! table and grids, and lengths.
 
+use loupe::{Region, Run, Setup};
+
 use super::handed::{Handed, State, setup_rule};
 use crate::{
-    boundary::{Region, Run, Setup},
     picture::{any_len, special},
     random::Random,
     sigma,

@@ -1,8 +1,9 @@
 //! Random pictures that start accepts.
 
+use loupe::{Blocks, Gabor, Region, Settings, Setup};
+
 use super::handed::{Handed, epf_settings, setup_rule};
 use crate::{
-    boundary::{Blocks, Gabor, Region, Settings, Setup},
     epf, gabor,
     picture::{self, samples},
     random::Random,

@@ -2,8 +2,10 @@
 
 use core::fmt;
 
+use loupe::{Run, RunAnswer, Setup};
+
 use crate::{
-    boundary::{self, Run, RunAnswer, Setup},
+    epf,
     expected::{self, runs as rule, sigma::Frame},
     picture, sigma,
 };
@@ -53,14 +55,14 @@ impl Handed {
 
     /// Calls start with it all.
     pub fn start(&mut self) -> RunAnswer {
-        let frame = boundary::Frame {
+        let frame = loupe::Frame {
             width: self.frame.width,
             height: self.frame.height,
             upsampling: self.frame.upsampling,
             lf_level: self.frame.lf_level,
             group_size_shift: self.frame.group_size_shift,
         };
-        boundary::start(
+        loupe::start(
             self.setup,
             frame,
             &self.table,
@@ -159,11 +161,11 @@ pub fn record_rule(run: &Run) -> rule::Record<'_> {
     }
 }
 
-fn wide(r: boundary::Region) -> expected::Region {
+fn wide(r: loupe::Region) -> expected::Region {
     picture::wide(plain(r))
 }
 
-fn plain(r: boundary::Region) -> oracle::Region {
+fn plain(r: loupe::Region) -> oracle::Region {
     oracle::Region {
         left: r.left,
         top: r.top,
@@ -192,7 +194,7 @@ pub fn result_part(s: &Setup, set: &[f32]) -> Vec<f32> {
 /// Every field of a record, floats by their bits.
 pub fn fields(run: &Run) -> Vec<u32> {
     let s = run.setup;
-    let boundary::Settings { gabor, epf } = s.settings;
+    let loupe::Settings { gabor, epf } = s.settings;
     let sigma = epf.sigma;
     let mut all = Vec::with_capacity(300);
     for r in [s.image, s.filter] {
@@ -215,7 +217,7 @@ pub fn fields(run: &Run) -> Vec<u32> {
 }
 
 /// The settings of an edge filter that is on, as the original has them.
-fn edge(epf: boundary::EpfSettings) -> oracle::Edge {
+fn edge(epf: loupe::EpfSettings) -> oracle::Edge {
     oracle::Edge {
         iters: epf.iters,
         sharp_lut: [0.0; 8],
@@ -231,11 +233,11 @@ fn edge(epf: boundary::EpfSettings) -> oracle::Edge {
 }
 
 /// The settings of an edge filter with so many iterations, as they cross the boundary.
-pub fn epf_settings(edge: oracle::Edge) -> boundary::EpfSettings {
-    boundary::EpfSettings {
+pub fn epf_settings(edge: oracle::Edge) -> loupe::EpfSettings {
+    loupe::EpfSettings {
         iters: edge.iters,
         channel_scale: edge.channel_scale,
-        sigma: edge.sigma.into(),
+        sigma: epf::sigma_settings(edge.sigma),
         sigma_for_modular: edge.sigma_for_modular,
     }
 }

@@ -1,5 +1,7 @@
 //! Document 01's instances of runs.
 
+use loupe::Setup;
+
 use super::{
     calls::{self, Tally},
     draw::{self, Passes},
@@ -7,7 +9,6 @@ use super::{
     refusals,
 };
 use crate::{
-    boundary::Setup,
     picture::{self, agree, samples},
     random::Random,
     report::{Report, Row},

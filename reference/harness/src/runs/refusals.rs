@@ -1,16 +1,15 @@
 //! Named refusals: which number is given where several things are wrong, and which conditions a
 //! faulty setting hides.
 
+use loupe::{Region, Setup};
+
 use super::{
     calls::{self, Tally},
     draw::{Passes, defaults},
     handed::{Handed, State},
     instances::expect,
 };
-use crate::{
-    boundary::{Region, Setup},
-    report::Row,
-};
+use crate::report::Row;
 
 /// Two blocks each way, of which the first column lies in one group and the second in the next.
 const REGION: Region = Region {
