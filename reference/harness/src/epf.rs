@@ -6,7 +6,7 @@ use crate::{
     expected::epf::{Handed, number},
     picture::{self, Rows, any_len, judge, plain, region, samples, special, wide},
     random::Random,
-    report::{Report, Row},
+    report::{Amount, Report, Row},
     sigma::{self, sigma},
 };
 
@@ -98,7 +98,7 @@ pub fn step_of(step: u32, settings: oracle::Edge) -> loupe::EpfStep {
     }
 }
 
-pub fn compare(scale: u64, report: &mut Report) {
+pub fn compare(amount: Amount, report: &mut Report) {
     for (step, name) in (0..).zip(NAMES) {
         let mut random = Random::for_name(name);
         let mut row = Row::new(name, "named");
@@ -107,18 +107,18 @@ pub fn compare(scale: u64, report: &mut Report) {
         let mut row = Row::new(name, "all sizes");
         for width in 1..=SIDES {
             for height in 1..=SIDES {
-                all_placements(step, width, height, &mut random, &mut row);
+                all_placements(step, (width, height), amount, &mut random, &mut row);
             }
         }
         report.add(row);
         let mut row = Row::new(name, "random");
-        for _ in 0..PICTURES * scale {
+        while row.draws(PICTURES, amount) {
             random_picture(step, &mut random, &mut row);
         }
         report.add(row);
     }
-    through_apply_epf(scale, report);
-    refusals(report);
+    through_apply_epf(amount, report);
+    refusals(amount, report);
 }
 
 /// Two samples under a NaN sigma, where copying and filtering differ, and sigmas at the limit.
@@ -147,7 +147,13 @@ fn named(step: u32, random: &mut Random, row: &mut Row) {
 
 /// The filter region as the image, in one whose corner is anywhere, and in one that starts before
 /// both axes; both results, by bands of every height.
-fn all_placements(step: u32, width: u32, height: u32, random: &mut Random, row: &mut Row) {
+fn all_placements(
+    step: u32,
+    (width, height): (u32, u32),
+    amount: Amount,
+    random: &mut Random,
+    row: &mut Row,
+) {
     let at = |left, top| oracle::Region {
         left,
         top,
@@ -170,7 +176,9 @@ fn all_placements(step: u32, width: u32, height: u32, random: &mut Random, row: 
                 preserve_outside,
             };
             for band in (1..=BANDS).chain([image.height]) {
-                one_step(place, step, band, random, row);
+                if row.takes(amount) {
+                    one_step(place, step, band, random, row);
+                }
             }
         }
     }
@@ -242,7 +250,7 @@ fn by_bands(pass: &Pass, band: u32, source: &[f32], random: &mut Random, row: &m
 }
 
 /// Grids that are missing below others, and filter regions where groups meet.
-fn through_apply_epf(scale: u64, report: &mut Report) {
+fn through_apply_epf(amount: Amount, report: &mut Report) {
     let mut random = Random::for_name("apply_epf");
     let mut row = Row::new("apply_epf", "instances");
     for shift in 0..4 {
@@ -252,8 +260,10 @@ fn through_apply_epf(scale: u64, report: &mut Report) {
     }
     report.add(row);
     let mut row = Row::new("apply_epf", "groups meet");
-    for n in 0..WHOLE * scale {
-        let shift = sigma::seldom_large(n % 40);
+    for shift in (0..40).cycle().map(sigma::seldom_large) {
+        if !row.draws(WHOLE, amount) {
+            break;
+        }
         let mut groups = || random.within(1, sigma::GROUPS[shift as usize].into()) as u32;
         let groups = (groups(), groups());
         let mut case = sigma::meeting(shift, groups, false, &mut random);
@@ -332,10 +342,10 @@ fn run(
 }
 
 /// Each number at its limits; a refusal writes nothing.
-fn refusals(report: &mut Report) {
+fn refusals(amount: Amount, report: &mut Report) {
     let mut row = Row::new("epf steps", "refusals");
     let random = &mut Random::for_name("epf steps");
-    for _ in 0..DRAWS {
+    while row.draws(DRAWS, amount) {
         wrong(random, &mut row);
     }
     report.add(row);

@@ -5,11 +5,13 @@ use crate::{
     expected::gabor::number,
     picture::{self, Rows, judge, plain, region, samples, special, wide},
     random::Random,
-    report::{Report, Row},
+    report::{Amount, Report, Row},
 };
 
 /// Random pictures, before `--scale`.
 const PICTURES: u64 = 10_000;
+/// Draws of wrong inputs, before `--scale`.
+const DRAWS: u64 = 200_000;
 /// Sides of small pictures.
 const SIDES: u32 = 20;
 /// Heights of bands.
@@ -45,25 +47,25 @@ impl Pass {
     }
 }
 
-pub fn compare(scale: u64, report: &mut Report) {
+pub fn compare(amount: Amount, report: &mut Report) {
     let mut random = Random::for_name(NAME);
     let mut row = Row::new(NAME, "all sizes");
     for width in 1..=SIDES {
         for height in 1..=SIDES {
-            all_placements(width, height, &mut random, &mut row);
+            all_placements(width, height, amount, &mut random, &mut row);
         }
     }
     report.add(row);
     let mut row = Row::new(NAME, "random");
-    for _ in 0..PICTURES * scale {
+    while row.draws(PICTURES, amount) {
         random_picture(&mut random, &mut row);
     }
     report.add(row);
-    refusals(&mut random, report);
+    refusals(amount, &mut random, report);
 }
 
 /// A filter region at every offset in an image that is two larger, and one that is the image.
-fn all_placements(width: u32, height: u32, random: &mut Random, row: &mut Row) {
+fn all_placements(width: u32, height: u32, amount: Amount, random: &mut Random, row: &mut Row) {
     for offset in 0..9 {
         let (right, down) = (offset % 3, offset / 3);
         let image = oracle::Region {
@@ -78,16 +80,25 @@ fn all_placements(width: u32, height: u32, random: &mut Random, row: &mut Row) {
             width,
             height,
         };
-        all_bands(image, filter, random, row);
+        all_bands(image, filter, amount, random, row);
     }
     let whole = oracle::Region::with_size(width, height);
-    all_bands(whole, whole, random, row);
+    all_bands(whole, whole, amount, random, row);
 }
 
 /// Both results by bands of every height.
-fn all_bands(image: oracle::Region, filter: oracle::Region, random: &mut Random, row: &mut Row) {
+fn all_bands(
+    image: oracle::Region,
+    filter: oracle::Region,
+    amount: Amount,
+    random: &mut Random,
+    row: &mut Row,
+) {
     for preserve_outside in [false, true] {
         for band in 1..=BANDS {
+            if !row.takes(amount) {
+                continue;
+            }
             let pass = Pass {
                 place: oracle::Place {
                     image,
@@ -153,10 +164,10 @@ fn by_bands(pass: &Pass, band: u32, random: &mut Random, row: &mut Row) {
 }
 
 /// Each number at its limits; a refusal writes nothing.
-fn refusals(random: &mut Random, report: &mut Report) {
+fn refusals(amount: Amount, random: &mut Random, report: &mut Report) {
     let mut row = Row::new(NAME, "refusals");
     let source = samples(3 * 9 + 1, random);
-    for _ in 0..200_000 {
+    while row.draws(DRAWS, amount) {
         let image = picture::any_region(random);
         let filter = if random.once_in(2) {
             image

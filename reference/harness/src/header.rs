@@ -6,7 +6,7 @@ use crate::{
     epf::sigma_settings,
     expected::{Ruled, header as expected},
     random::Random,
-    report::{Report, Row},
+    report::{Amount, Report, Row},
 };
 
 /// Whole random headers for each reader, before `--scale`.
@@ -195,19 +195,22 @@ fn number_of(error: oracle::Error) -> u32 {
     }
 }
 
-pub fn compare(scale: u64, report: &mut Report) {
-    all_halves(report);
+pub fn compare(amount: Amount, report: &mut Report) {
+    all_halves(amount, report);
     for reader in &READERS {
-        short_headers(reader, report);
+        short_headers(reader, amount, report);
         long_slices(reader, report);
-        built_headers(reader, scale, report);
+        built_headers(reader, amount, report);
     }
 }
 
-fn all_halves(report: &mut Report) {
+fn all_halves(amount: Amount, report: &mut Report) {
     let mut row = Row::new(READERS[0].name, "every half");
     for half in 0..=0xFFFF {
         for place in 0..8 {
+            if !row.takes(amount) {
+                continue;
+            }
             let bytes = pack(place, &[(half, 16)], 0xFF);
             READERS[0].check((&bytes, place, false), &mut row);
         }
@@ -216,10 +219,13 @@ fn all_halves(report: &mut Report) {
 }
 
 /// All headers of 16 bits at several places, and all slices of one byte or none at all places.
-fn short_headers(reader: &Reader, report: &mut Report) {
+fn short_headers(reader: &Reader, amount: Amount, report: &mut Report) {
     let mut row = Row::new(reader.name, "up to 16 bits");
     for header in 0..=0xFFFF {
         for place in [0, 1, 3, 7, 8, 13, 16] {
+            if !row.takes(amount) {
+                continue;
+            }
             let bytes = pack(place, &[(header, 16)], 0xFF);
             for modular in [false, true] {
                 reader.check((&bytes, place, modular), &mut row);
@@ -237,7 +243,9 @@ fn short_headers(reader: &Reader, report: &mut Report) {
         for byte in 0..=255 {
             for bytes in [&[][..], &[byte], &[byte, byte]] {
                 for modular in [false, true] {
-                    reader.check((bytes, place, modular), &mut row);
+                    if row.takes(amount) {
+                        reader.check((bytes, place, modular), &mut row);
+                    }
                 }
             }
         }
@@ -263,17 +271,17 @@ fn long_slices(reader: &Reader, report: &mut Report) {
     report.add(row);
 }
 
-fn built_headers(reader: &Reader, scale: u64, report: &mut Report) {
+fn built_headers(reader: &Reader, amount: Amount, report: &mut Report) {
     let mut random = Random::for_name(reader.name);
     let mut row = Row::new(reader.name, "random");
-    for _ in 0..WHOLE * scale {
+    while row.draws(WHOLE, amount) {
         let (place, modular) = place_and_encoding(&mut random);
         let bytes = pack(place, &header(&mut random, modular), random.next() as u8);
         reader.check((&bytes, place, modular), &mut row);
     }
     report.add(row);
     let mut row = Row::new(reader.name, "cut short");
-    for _ in 0..CUT * scale {
+    while row.draws(CUT, amount) {
         let (place, modular) = place_and_encoding(&mut random);
         let bytes = pack(place, &header(&mut random, modular), 0);
         for len in 0..=bytes.len() {
@@ -282,7 +290,7 @@ fn built_headers(reader: &Reader, scale: u64, report: &mut Report) {
     }
     report.add(row);
     let mut row = Row::new(reader.name, "other halves");
-    for _ in 0..REPLACED * scale {
+    while row.draws(REPLACED, amount) {
         let (place, modular) = place_and_encoding(&mut random);
         let mut fields = header(&mut random, modular);
         for at in 0..fields.len() {

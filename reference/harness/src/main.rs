@@ -1,7 +1,7 @@
 //! Compares the proved library with the original Rust on the same inputs.
 //!
 //! `harness [--scale N]` prints a table of what was compared and fails if anything differs;
-//! N multiplies the random cases. `harness bench` prints times beside the original's, and
+//! N multiplies the random cases. `harness --some` compares about a thousand cases of each row. `harness bench` prints times beside the original's, and
 //! `harness record` a sample of the original's answers as text.
 
 mod bench;
@@ -24,7 +24,7 @@ mod subject;
 
 use std::process::ExitCode;
 
-use report::Report;
+use report::{Amount, Report};
 use subject::Subject;
 
 /// Random cases over all subjects, before `--scale`.
@@ -34,9 +34,10 @@ fn main() -> ExitCode {
     let arguments: Vec<String> = std::env::args().skip(1).collect();
     let arguments: Vec<&str> = arguments.iter().map(String::as_str).collect();
     match arguments[..] {
-        [] => compare(1),
+        [] => compare(Amount::All(1)),
+        ["--some"] => compare(Amount::Some),
         ["--scale", scale] => match scale.parse() {
-            Ok(scale) => compare(scale),
+            Ok(scale) => compare(Amount::All(scale)),
             Err(_) => usage(),
         },
         ["bench"] => {
@@ -52,7 +53,7 @@ fn main() -> ExitCode {
 }
 
 fn usage() -> ExitCode {
-    eprintln!("usage: harness [--scale N] | harness bench | harness record");
+    eprintln!("usage: harness [--scale N | --some] | harness bench | harness record");
     ExitCode::from(2)
 }
 
@@ -63,19 +64,19 @@ fn subjects() -> Vec<&'static Subject> {
         .collect()
 }
 
-fn compare(scale: u64) -> ExitCode {
+fn compare(amount: Amount) -> ExitCode {
     let subjects = subjects();
-    let random = (RANDOM_CASES * scale).div_ceil(subjects.len() as u64);
+    let random = RANDOM_CASES.div_ceil(subjects.len() as u64);
     let mut report = Report::new();
     for subject in subjects {
-        subject.compare(random, &mut report);
+        subject.compare(random, amount, &mut report);
     }
-    header::compare(scale, &mut report);
-    gabor::compare(scale, &mut report);
-    sigma::compare(scale, &mut report);
-    epf::compare(scale, &mut report);
-    runs::compare(scale, &mut report);
-    rectangles::compare(scale, &mut report);
+    header::compare(amount, &mut report);
+    gabor::compare(amount, &mut report);
+    sigma::compare(amount, &mut report);
+    epf::compare(amount, &mut report);
+    runs::compare(amount, &mut report);
+    rectangles::compare(amount, &mut report);
     if report.finish() {
         ExitCode::SUCCESS
     } else {

@@ -11,7 +11,7 @@ use crate::{
     expected::runs::samples as count,
     picture::{self, agree, samples},
     random::Random,
-    report::{Report, Row},
+    report::{Amount, Report, Row},
     runs::{self, Handed, Passes, State, place, setup_rule},
     sigma::sigma,
 };
@@ -28,11 +28,11 @@ const TRIES: u64 = 1_000;
 const NAME: &str = "rectangles";
 const EDGES: [&str; 4] = ["left", "top", "right", "bottom"];
 
-pub fn compare(scale: u64, report: &mut Report) {
+pub fn compare(amount: Amount, report: &mut Report) {
     let mut random = Random::for_name(NAME);
     let mut row = Row::new(NAME, "random");
     let mut compared = 0;
-    for _ in 0..RECTANGLES * scale {
+    while row.draws(RECTANGLES, amount) {
         let passes = runs::passes(&mut random);
         let pair = Pair::draw(passes, &mut random);
         compared += pair.compare(&mut random, &mut row);

@@ -5,10 +5,36 @@ use std::{fmt::Debug, time::Instant};
 /// Differences that are written out for a row.
 const SHOWN: u64 = 5;
 
+/// How much is compared.
+#[derive(Clone, Copy)]
+pub enum Amount {
+    /// All cases, and so many times the random ones.
+    All(u64),
+    /// A thousand cases or more of each row that has them, for a run under valgrind.
+    Some,
+}
+
+impl Amount {
+    /// So many cases that are all compared, random ones by the scale.
+    pub fn times(self, cases: u64) -> u64 {
+        match self {
+            Self::All(scale) => cases * scale,
+            Self::Some => cases,
+        }
+    }
+}
+
+/// With some cases, random ones of a row.
+const ENOUGH: u64 = 1_000;
+/// With some cases, those of a row before any is passed over.
+const UNTHINNED: u64 = 500;
+
 /// One line of the table.
 pub struct Row {
     subject: &'static str,
     inputs: &'static str,
+    /// Cases at hand or draws so far, whether they are compared or not.
+    offered: u64,
     cases: u64,
     differ: u64,
     /// How often each of document 01's numbers was due; 0 is an accepted call.
@@ -20,9 +46,30 @@ impl Row {
         Self {
             subject,
             inputs,
+            offered: 0,
             cases: 0,
             differ: 0,
             numbers: [0; 12],
+        }
+    }
+
+    /// Whether the next of the cases at hand is compared: of some cases the first five hundred, of
+    /// those up to a thousand each second, of those up to two thousand each fourth, and so on.
+    pub fn takes(&mut self, amount: Amount) -> bool {
+        let n = self.offered;
+        self.offered += 1;
+        match amount {
+            Amount::All(_) => true,
+            Amount::Some => n.is_multiple_of((n / UNTHINNED + 1).next_power_of_two()),
+        }
+    }
+
+    /// Whether another random draw is made, of so many before `--scale`.
+    pub fn draws(&mut self, draws: u64, amount: Amount) -> bool {
+        self.offered += 1;
+        match amount {
+            Amount::All(scale) => self.offered <= draws * scale,
+            Amount::Some => self.offered <= draws && self.cases < ENOUGH,
         }
     }
 

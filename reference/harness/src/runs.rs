@@ -17,7 +17,7 @@ use crate::{
     expected::runs::samples as count,
     picture::{agree, samples},
     random::Random,
-    report::{Report, Row},
+    report::{Amount, Report, Row},
 };
 
 /// Runs of small pictures and of large ones, before `--scale`.
@@ -31,18 +31,18 @@ const LARGE_IMAGE: u32 = 310;
 /// Each number that a call can give is due so many times.
 const SEEN: u64 = 1_000;
 
-pub fn compare(scale: u64, report: &mut Report) {
+pub fn compare(amount: Amount, report: &mut Report) {
     instances::compare(report);
     let mut random = Random::for_name("whole runs");
     let mut tally = Tally::new("in runs");
     let mut row = Row::new("whole runs", "small");
-    for _ in 0..RUNS * scale {
+    while row.draws(RUNS, amount) {
         let handed = draw::picture(SMALL, &mut random);
         whole(handed, &mut random, &mut row, &mut tally);
     }
     report.add(row);
     let mut row = Row::new("whole runs", "large");
-    for n in 0..LARGE_RUNS * scale {
+    for n in 0..amount.times(LARGE_RUNS) {
         let passes = Passes {
             gabor: n % 2 == 0,
             iterations: (n / 2 % 4) as u32,
@@ -51,7 +51,9 @@ pub fn compare(scale: u64, report: &mut Report) {
         whole(handed, &mut random, &mut row, &mut tally);
     }
     report.add(row);
-    tally.require(SEEN);
+    if let Amount::All(_) = amount {
+        tally.require(SEEN);
+    }
     tally.report(report);
 }
 

@@ -7,7 +7,7 @@ use crate::{
     expected::{self, sigma as rule},
     picture::{agree, any_len, judge, plain, special},
     random::Random,
-    report::{Report, Row},
+    report::{Amount, Report, Row},
 };
 
 /// Filter regions where groups meet for each count of groups, before `--scale`, by group size shift.
@@ -24,6 +24,9 @@ pub const fn seldom_large(n: u64) -> u32 {
         _ => 0,
     }
 }
+
+/// Frames with narrow grids, before `--scale`.
+const NARROW: u64 = 2_000;
 /// Draws of wrong inputs, before `--scale`.
 const DRAWS: u64 = 60_000;
 /// Cells of a grid repeat after so many, a prime that is no sum of few rows.
@@ -135,7 +138,7 @@ pub fn rust_grids(table: &[u32], grids: &[f32]) -> Vec<Option<oracle::SigmaGrid>
         .collect()
 }
 
-pub fn compare(scale: u64, report: &mut Report) {
+pub fn compare(amount: Amount, report: &mut Report) {
     let mut random = Random::for_name(NAME);
     let mut row = Row::new(NAME, "instances");
     for shift in 0..4 {
@@ -148,7 +151,7 @@ pub fn compare(scale: u64, report: &mut Report) {
     for (shift, (most, cases)) in (0..).zip(GROUPS.into_iter().zip(MEETINGS)) {
         for groups in 0..most * most {
             let groups = (1 + groups % most, 1 + groups / most);
-            for _ in 0..cases * scale {
+            for _ in 0..amount.times(cases) {
                 let case = meeting(shift, groups, false, &mut random);
                 check(&case, true, case.count(), &mut random, &mut row);
             }
@@ -156,7 +159,7 @@ pub fn compare(scale: u64, report: &mut Report) {
     }
     report.add(row);
     let mut row = Row::new(NAME, "narrow grids");
-    for _ in 0..2_000 * scale {
+    while row.draws(NARROW, amount) {
         let groups = (random.within(1, 4) as u32, random.within(1, 4) as u32);
         let case = meeting(0, groups, true, &mut random);
         check(&case, true, case.count(), &mut random, &mut row);
@@ -164,7 +167,7 @@ pub fn compare(scale: u64, report: &mut Report) {
     report.add(row);
     whole_frames(&mut random, report);
     let mut row = Row::new(NAME, "refusals");
-    for _ in 0..DRAWS * scale {
+    while row.draws(DRAWS, amount) {
         wrong(&mut random, &mut row);
     }
     report.add(row);

@@ -3,7 +3,7 @@
 use crate::{
     kinds::{Draw, Kind},
     random::Random,
-    report::{Report, Row},
+    report::{Amount, Report, Row},
 };
 
 /// The most cases that a cross of all limits may have.
@@ -63,21 +63,27 @@ impl Subject {
         }
     }
 
-    pub fn compare(&self, random_cases: u64, report: &mut Report) {
+    pub fn compare(&self, random_cases: u64, amount: Amount, report: &mut Report) {
         for &(label, ranges) in self.near {
             let mut row = Row::new(self.name, label);
-            for_each_in(ranges, &mut |case| self.check(case, &mut row));
+            for_each_in(ranges, &mut |case| self.check_some(case, amount, &mut row));
             report.add(row);
         }
         let mut row = Row::new(self.name, "at the limits");
-        self.for_each_limit(&mut |case| self.check(case, &mut row));
+        self.for_each_limit(&mut |case| self.check_some(case, amount, &mut row));
         report.add(row);
         let mut row = Row::new(self.name, "random");
         let mut random = Random::for_name(self.name);
-        for _ in 0..random_cases {
+        while row.draws(random_cases, amount) {
             self.check(&self.draw(&mut random), &mut row);
         }
         report.add(row);
+    }
+
+    fn check_some(&self, case: &[i128], amount: Amount, row: &mut Row) {
+        if row.takes(amount) {
+            self.check(case, row);
+        }
     }
 
     fn check(&self, case: &[i128], row: &mut Row) {
