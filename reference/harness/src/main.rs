@@ -1,7 +1,8 @@
 //! Compares the proved library with the original Rust on the same inputs.
 //!
 //! `harness [--scale N]` prints a table of what was compared and fails if anything differs;
-//! N multiplies the random cases. `harness --some` compares about a thousand cases of each row. `harness bench` prints times beside the original's, and
+//! N multiplies the random cases, and `harness --some` takes about a thousand of each row.
+//! `harness bench [SECTION...]` prints times beside the original's and the memory of a run, and
 //! `harness record` a sample of the original's answers as text.
 
 mod bench;
@@ -40,10 +41,7 @@ fn main() -> ExitCode {
             Ok(scale) => compare(Amount::All(scale)),
             Err(_) => usage(),
         },
-        ["bench"] => {
-            bench::print();
-            ExitCode::SUCCESS
-        }
+        ["bench", ref sections @ ..] if bench::print(sections) => ExitCode::SUCCESS,
         ["record"] => {
             record::print(&subjects());
             ExitCode::SUCCESS
@@ -53,7 +51,7 @@ fn main() -> ExitCode {
 }
 
 fn usage() -> ExitCode {
-    eprintln!("usage: harness [--scale N | --some] | harness bench | harness record");
+    eprintln!("usage: harness [--scale N | --some] | harness bench [SECTION...] | harness record");
     ExitCode::from(2)
 }
 

@@ -15,19 +15,21 @@ pub enum Amount {
 }
 
 impl Amount {
-    /// So many cases that are all compared, random ones by the scale.
-    pub fn times(self, cases: u64) -> u64 {
+    /// Of so many large cases.
+    pub fn large(self, cases: u64) -> u64 {
         match self {
             Self::All(scale) => cases * scale,
-            Self::Some => cases,
+            Self::Some => cases.min(FEW),
         }
     }
 }
 
+/// With some cases, large ones of a kind.
+const FEW: u64 = 4;
 /// With some cases, random ones of a row.
 const ENOUGH: u64 = 1_000;
 /// With some cases, those of a row before any is passed over.
-const UNTHINNED: u64 = 500;
+const UNTHINNED: u64 = 256;
 
 /// One line of the table.
 pub struct Row {
@@ -53,8 +55,8 @@ impl Row {
         }
     }
 
-    /// Whether the next of the cases at hand is compared: of some cases the first five hundred, of
-    /// those up to a thousand each second, of those up to two thousand each fourth, and so on.
+    /// Whether the next of the cases at hand is compared: of some cases the first 256, of the
+    /// next 256 each second, of the next 512 each fourth, and so on.
     pub fn takes(&mut self, amount: Amount) -> bool {
         let n = self.offered;
         self.offered += 1;

@@ -2,9 +2,13 @@
 
 use std::hint::black_box;
 
-use loupe::{Region, Run, Setup};
+use loupe::{Run, Setup};
 
-use super::{FILTERED, best, epf_pass, gabor_pass, line, smooth};
+use super::{
+    FILTERED, Times, best, head,
+    passes::{epf_pass, gabor_pass},
+    region, row, smooth,
+};
 use crate::{
     epf::{DEFAULTS, step_of},
     runs::{Handed, Passes, defaults},
@@ -12,74 +16,67 @@ use crate::{
 
 const SIDE: u32 = 504;
 const BAND: u32 = 64;
+/// With this group size shift the largest picture, of 4080 by 4080, has one group.
+const ONE_GROUP: u32 = 2;
 /// Gabor and three iterations.
-const PASSES: u32 = 4;
+pub const PASSES: u32 = 4;
 const ALL: Passes = Passes {
     gabor: true,
     iterations: 3,
 };
 
+/// A run by bands beside the same passes, each over all rows at once.
 pub fn print() {
-    let plane = (SIDE * SIDE) as usize;
-    let mut handed = handed(plane);
+    let mut handed = handed(SIDE);
     let mut alone = handed.clone();
-    let mut out = vec![0.0; 3 * plane];
-    let times = best(
-        || {
-            to_the_finish(black_box(&mut handed));
-        },
-        || passes(black_box(&mut alone)),
-    );
-    beside("run", times, plane);
-    let times = best(
-        || with_result(black_box(&mut handed), &mut out),
-        || passes(black_box(&mut alone)),
-    );
-    beside("run and result", times, plane);
-    let (ours, rust) = best(
-        || with_result(black_box(&mut handed), &mut out),
-        || {
-            black_box(alone.rust());
-        },
-    );
-    line(&format!("run and result {SIDE}x{SIDE}"), plane, ours, rust);
+    let mut out = result_slice(SIDE);
+    head(&[
+        "calls",
+        "picture",
+        "bands, ns",
+        "all rows at once, ns",
+        "ratio",
+    ]);
+    let run = || {
+        to_the_finish(black_box(&mut handed));
+    };
+    let times = best(run, || passes(black_box(&mut alone)));
+    row("start, bands, advances", (SIDE, SIDE), times);
+    let run = || with_result(black_box(&mut handed), &mut out);
+    let times = best(run, || passes(black_box(&mut alone)));
+    row("with the result", (SIDE, SIDE), times);
 }
 
-/// A line with both times in ns a sample of the three planes.
-fn beside(name: &str, (ours, passes): (f64, f64), plane: usize) {
-    let samples = 3.0 * plane as f64;
-    println!(
-        "{name} {SIDE}x{SIDE} bands={BAND} ours={:.2}ns passes={:.2}ns ratio={:.3}",
-        ours / samples,
-        passes / samples,
-        ours / passes
-    );
+/// Start, all bands and advances, and the result, beside `apply_gabor_like` and `apply_epf`.
+pub fn beside_rust(side: u32) -> Times {
+    let mut handed = handed(side);
+    let given = handed.clone();
+    let mut out = result_slice(side);
+    best(
+        || with_result(black_box(&mut handed), &mut out),
+        || drop(black_box(given.rust())),
+    )
 }
 
 /// The Gabor-like pass and three iterations over a whole image of one group.
-fn handed(plane: usize) -> Handed {
-    let image = Region {
-        left: 0,
-        top: 0,
-        width: SIDE,
-        height: SIDE,
-    };
-    let blocks = SIDE.div_ceil(8);
+pub fn handed(side: u32) -> Handed {
+    let plane = (side * side) as usize;
+    let blocks = side.div_ceil(8);
     let cells = (blocks * blocks) as usize;
     Handed {
         setup: Setup {
-            image,
-            filter: image,
+            image: region(side, side),
+            filter: region(side, side),
             preserve_outside: true,
             settings: defaults(ALL),
             band_height: BAND,
         },
         frame: oracle::Frame {
-            width: SIDE,
-            height: SIDE,
+            width: side,
+            height: side,
             upsampling: 1,
             lf_level: 0,
-            group_size_shift: 0,
+            group_size_shift: ONE_GROUP,
         },
         table: vec![1, blocks, blocks],
         grids: vec![FILTERED; cells],
@@ -89,13 +86,18 @@ fn handed(plane: usize) -> Handed {
     }
 }
 
+pub fn result_slice(side: u32) -> Vec<f32> {
+    vec![0.0; 3 * (side * side) as usize]
+}
+
 /// Start, and all bands and advances.
 fn to_the_finish(handed: &mut Handed) -> Run {
     let answer = handed.start();
     assert_eq!(answer.number, 0);
     let mut run = answer.run;
+    let bands = run.setup.image.height.div_ceil(BAND);
     for _ in 0..PASSES {
-        for k in 0..SIDE.div_ceil(BAND) {
+        for k in 0..bands {
             let sets = (&mut handed.first, &mut handed.second);
             run = loupe::band(run, &handed.sigmas, sets.0, sets.1, k).run;
         }
@@ -105,7 +107,7 @@ fn to_the_finish(handed: &mut Handed) -> Run {
     run
 }
 
-fn with_result(handed: &mut Handed, out: &mut [f32]) {
+pub fn with_result(handed: &mut Handed, out: &mut [f32]) {
     let run = to_the_finish(handed);
     let number = loupe::result(run, &handed.first, &handed.second, out);
     assert_eq!(number, 0);
@@ -115,8 +117,7 @@ fn with_result(handed: &mut Handed, out: &mut [f32]) {
 fn passes(handed: &mut Handed) {
     let image = handed.setup.image;
     let (first, second) = (&mut handed.first[..], &mut handed.second[..]);
-    let gabor = handed.setup.settings.gabor;
-    gabor_pass(image, gabor, first, second);
+    gabor_pass(image, handed.setup.settings.gabor, first, second);
     let (mut source, mut target) = (second, first);
     for step in 0..3 {
         let step = step_of(step, DEFAULTS);

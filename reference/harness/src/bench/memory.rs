@@ -1,0 +1,142 @@
+//! The memory of a run: what is lent to it, and the stack that its calls use.
+
+use std::{arch::asm, fs, hint::black_box, thread};
+
+use loupe::Run;
+
+use super::{head, run};
+
+/// The largest picture that the plot has.
+const LARGEST: u32 = 4080;
+/// Pictures of which the stack is measured.
+const SIDES: [u32; 3] = [64, 504, LARGEST];
+const CALLS: [&str; 7] = [
+    "start",
+    "band, Gabor-like",
+    "band, step 0",
+    "band, step 1",
+    "band, step 2",
+    "advance",
+    "result",
+];
+const START: usize = 0;
+const FIRST_PASS: usize = 1;
+const ADVANCE: usize = 5;
+const RESULT: usize = 6;
+
+/// Bytes of stack that are painted, and those next to the painter, which are left alone.
+const PAINTED: usize = 1 << 18;
+const LEFT_ALONE: usize = 1 << 9;
+const PAINT: u8 = 0xA5;
+/// The stack of the thread that makes the calls.
+const STACK: usize = 1 << 21;
+
+pub fn print() {
+    lent();
+    println!();
+    let stacks = thread::Builder::new()
+        .stack_size(STACK)
+        .spawn(|| SIDES.map(stacks))
+        .expect("a thread")
+        .join()
+        .expect("accepted calls");
+    head(&["stack, bytes", "64 × 64", "504 × 504", "4080 × 4080"]);
+    for (call, name) in CALLS.iter().enumerate() {
+        let [small, middle, large] = stacks.map(|stack| stack[call]);
+        println!("| {name} | {small} | {middle} | {large} |");
+    }
+}
+
+/// What is lent to a run of the largest picture as computed, and what the process has of it.
+fn lent() {
+    let before = resident();
+    let mut handed = run::handed(LARGEST);
+    let mut out = run::result_slice(LARGEST);
+    handed.second.fill(black_box(1.0));
+    out.fill(black_box(1.0));
+    let made = resident();
+    clear_peak();
+    run::with_result(&mut handed, &mut out);
+    let after = peak();
+    let sets = handed.first.len() + handed.second.len();
+    let blocks = handed.sigmas.len() + handed.grids.len() + handed.table.len();
+    let mib = |samples: usize| 4.0 * samples as f64 / f64::from(1 << 20);
+    head(&[&format!("lent, {LARGEST} × {LARGEST}"), "MiB"]);
+    println!("| both sets | {:.2} |", mib(sets));
+    println!("| block sigmas, grids and table | {:.2} |", mib(blocks));
+    println!("| the result's slice | {:.2} |", mib(out.len()));
+    println!("| together | {:.2} |", mib(sets + blocks + out.len()));
+    println!(
+        "| measured: the process grew by | {:.2} |",
+        (made - before) / 1024.0
+    );
+    println!(
+        "| measured: the run's peak above that | {:.2} |",
+        (after - made) / 1024.0
+    );
+    println!("\nThe record has {} bytes.", size_of::<Run>());
+}
+
+/// KiB of this process in memory, and the most there were.
+fn resident() -> f64 {
+    status("VmRSS:")
+}
+
+fn peak() -> f64 {
+    status("VmHWM:")
+}
+
+fn clear_peak() {
+    fs::write("/proc/self/clear_refs", "5").expect("Linux clears the peak");
+}
+
+fn status(name: &str) -> f64 {
+    let text = fs::read_to_string("/proc/self/status").expect("Linux tells");
+    let line = text.lines().find_map(|line| line.strip_prefix(name));
+    let mut words = line.expect("a line a name").split_whitespace();
+    words
+        .next()
+        .and_then(|word| word.parse().ok())
+        .expect("a number")
+}
+
+/// The most stack that each call of a whole run uses.
+fn stacks(side: u32) -> [usize; CALLS.len()] {
+    let mut handed = run::handed(side);
+    let mut out = run::result_slice(side);
+    let mut most = [0; CALLS.len()];
+    let mut answer = None;
+    most[START] = stack_of(|| answer = Some(handed.start()));
+    let mut run = answer.and_then(|a| a.value().ok()).expect("accepted");
+    for pass in 0..run::PASSES as usize {
+        for k in 0..side.div_ceil(run.setup.band_height) {
+            let sets = (&mut handed.first, &mut handed.second);
+            let used = stack_of(|| run = loupe::band(run, &handed.sigmas, sets.0, sets.1, k).run);
+            most[FIRST_PASS + pass] = used.max(most[FIRST_PASS + pass]);
+        }
+        most[ADVANCE] = stack_of(|| run = loupe::advance(run).run);
+    }
+    let mut number = 1;
+    most[RESULT] =
+        stack_of(|| number = loupe::result(run, &handed.first, &handed.second, &mut out));
+    assert_eq!(number, 0);
+    most
+}
+
+/// Bytes of stack that a call uses: those below are painted, and afterwards it is seen how far down
+/// the paint is gone.
+#[inline(never)]
+fn stack_of(call: impl FnOnce()) -> usize {
+    let here: usize;
+    // SAFETY: the stack pointer is read.
+    unsafe { asm!("mov {}, rsp", out(reg) here, options(nomem, nostack, preserves_flags)) };
+    let lowest = (here - LEFT_ALONE - PAINTED) as *mut u8;
+    for at in 0..PAINTED {
+        // SAFETY: this thread's stack reaches farther down, and nothing in it is in use there.
+        unsafe { lowest.add(at).write_volatile(PAINT) };
+    }
+    call();
+    // SAFETY: as above.
+    let painted = |at: &usize| unsafe { lowest.add(*at).read_volatile() } == PAINT;
+    PAINTED + LEFT_ALONE - (0..PAINTED).take_while(painted).count()
+}
