@@ -1,0 +1,90 @@
+//! Smooths a picture by the proved library: one of its own, to show that rectangles laid edge to
+//! edge are the whole picture's samples, or a PFM file.
+
+mod engraving;
+mod lettering;
+mod number;
+mod options;
+#[cfg(feature = "original")]
+mod original;
+mod pfm;
+mod picture;
+mod png;
+mod refused;
+mod show;
+mod smooth;
+mod store;
+
+use std::{
+    env,
+    fs::File,
+    io::{self, Read},
+    path::Path,
+    process::ExitCode,
+};
+
+use loupe::Region;
+use options::{Command, Job};
+use picture::CHANNELS;
+use refused::{Asked, Refused};
+use smooth::Filters;
+
+/// More bytes than the file of any picture that is taken: its samples, and a header.
+const MOST_BYTES: u64 = 4 * CHANNELS as u64 * 16_777_216 + 65_536;
+
+const DIFFERENT: u8 = 1;
+const REFUSED: u8 = 2;
+
+fn main() -> ExitCode {
+    match run() {
+        Ok(true) => ExitCode::SUCCESS,
+        Ok(false) => DIFFERENT.into(),
+        Err(refused) => {
+            eprintln!("demo: {refused}");
+            REFUSED.into()
+        }
+    }
+}
+
+/// Whether all samples that were compared agree.
+fn run() -> Result<bool, Refused> {
+    match options::parse(env::args_os().skip(1))? {
+        Command::Help => print!("{}", options::HELP),
+        Command::Show(folder) => return show::show(&folder),
+        Command::Smooth(job) => smooth_file(&job)?,
+    }
+    Ok(true)
+}
+
+fn smooth_file(job: &Job) -> Result<(), Refused> {
+    let bytes = read(&job.input).map_err(|error| {
+        let what = format!("{:?} cannot be read: {error}", job.input);
+        Refused::setting(what)
+    })?;
+    let mut file = pfm::parse(&bytes)?;
+    let part = job.rect.unwrap_or(file.region);
+    smooth::judge(file.region, part, &mut file.samples).asked(|| {
+        let samples = file.samples.len();
+        let (picture, part) = (placed(file.region), placed(part));
+        format!("picture {picture} with {samples} samples, rectangle {part}")
+    })?;
+    let picture = file.picture()?;
+    let smooth = smooth::settings(&job.filters)
+        .and_then(|settings| Filters::of_one_sigma(picture.region, settings))
+        .and_then(|filters| filters.smooth_part(&picture, part, filters.margin()))
+        .asked(|| format!("{:?}", job.filters))?;
+    let bytes = pfm::bytes(&smooth, &file.scale);
+    store::all(&[(job.output.clone(), bytes)])?;
+    println!("{}: {:?}", placed(part), job.output);
+    Ok(())
+}
+
+fn placed(r: Region) -> String {
+    format!("{} x {} at {}, {}", r.width, r.height, r.left, r.top)
+}
+
+fn read(path: &Path) -> io::Result<Vec<u8>> {
+    let mut bytes = Vec::new();
+    File::open(path)?.take(MOST_BYTES).read_to_end(&mut bytes)?;
+    Ok(bytes)
+}

@@ -1,0 +1,68 @@
+//! Whole numbers as text.
+
+use std::num::IntErrorKind;
+
+/// A whole number of any size; one beyond 128 bits is the largest or the smallest of them.
+pub fn whole(text: &str) -> Option<i128> {
+    match text.parse() {
+        Ok(number) => Some(number),
+        Err(error) => match error.kind() {
+            IntErrorKind::PosOverflow => Some(i128::MAX),
+            IntErrorKind::NegOverflow => Some(i128::MIN),
+            _ => None,
+        },
+    }
+}
+
+/// A side, iterations: a number that the type does not hold becomes the type's nearest, which the
+/// library refuses.
+pub fn count(text: &str) -> Option<u32> {
+    let number = whole(text)?.clamp(0, u32::MAX.into());
+    Some(number as u32)
+}
+
+/// A left or top, in the same way.
+pub fn corner(text: &str) -> Option<i32> {
+    let number = whole(text)?.clamp(i32::MIN.into(), i32::MAX.into());
+    Some(number as i32)
+}
+
+/// A number as it is printed: `1,179,648`.
+pub fn grouped(number: usize) -> String {
+    let digits = number.to_string();
+    let mut text = String::new();
+    for (place, digit) in digits.chars().enumerate() {
+        if place > 0 && (digits.len() - place).is_multiple_of(3) {
+            text.push(',');
+        }
+        text.push(digit);
+    }
+    text
+}
+
+#[cfg(test)]
+mod tests {
+    use super::*;
+
+    #[test]
+    fn every_whole_number_is_taken() {
+        let ten_to_30 = "1000000000000000000000000000000";
+        assert_eq!(count(ten_to_30), Some(u32::MAX));
+        assert_eq!(count(&ten_to_30.repeat(3)), Some(u32::MAX));
+        assert_eq!(count("-1"), Some(0));
+        assert_eq!(count("16385"), Some(16_385));
+        assert_eq!(corner("-2147483649"), Some(i32::MIN));
+        assert_eq!(corner(&format!("-{}", ten_to_30.repeat(2))), Some(i32::MIN));
+        for wrong in ["", "-", "1.0", "1e3", " 1", "x"] {
+            assert_eq!(whole(wrong), None, "{wrong:?}");
+        }
+    }
+
+    #[test]
+    fn digits_are_grouped_by_three() {
+        assert_eq!(grouped(0), "0");
+        assert_eq!(grouped(999), "999");
+        assert_eq!(grouped(1_000), "1,000");
+        assert_eq!(grouped(1_179_648), "1,179,648");
+    }
+}

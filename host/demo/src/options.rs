@@ -1,0 +1,154 @@
+//! What the tool was asked for.
+
+use std::{
+    ffi::{OsStr, OsString},
+    path::PathBuf,
+};
+
+use loupe::Region;
+
+use crate::{number, refused::Refused};
+
+pub const HELP: &str = "\
+demo [-o FOLDER]
+    smooths a picture of its own, whole and in rectangles, compares, and writes PNG files (demo-out)
+demo PICTURE.pfm [OPTION]...
+    smooths a picture of three planes (PFM, PF)
+    --rect LEFT,TOP,WIDTH,HEIGHT  that rectangle alone, as it is in the whole smoothed picture
+    --gabor SIDE,CORNER           weights of the Gabor-like filter, or six, two a plane; --no-gabor: off
+    --iters N                     iterations of the edge-preserving filter, 0 (off) to 3 (if not given)
+    --sigma X                     its sigma (1); under 0.3 it copies
+    -o OUT.pfm                    the file to write (PICTURE-smoothed.pfm)
+What is refused is said in a line with document 01's number; the exit status is then 2.
+";
+
+pub enum Command {
+    Help,
+    /// The picture of its own, and the folder for its files.
+    Show(PathBuf),
+    Smooth(Job),
+}
+
+/// A file to smooth.
+#[derive(Debug, PartialEq)]
+pub struct Job {
+    pub input: PathBuf,
+    pub output: PathBuf,
+    pub rect: Option<Region>,
+    pub filters: Chosen,
+}
+
+/// Settings that were given; the others are a header's defaults.
+#[derive(Debug, Default, PartialEq)]
+pub struct Chosen {
+    pub gabor: Option<GaborChoice>,
+    pub iters: Option<u32>,
+    pub sigma: Option<f32>,
+}
+
+#[derive(Debug, PartialEq)]
+pub enum GaborChoice {
+    Off,
+    Weights([[f32; 2]; 3]),
+}
+
+#[derive(Default)]
+struct Given {
+    help: bool,
+    input: Option<PathBuf>,
+    output: Option<PathBuf>,
+    rect: Option<Region>,
+    filters: Chosen,
+}
+
+pub fn parse(mut words: impl Iterator<Item = OsString>) -> Result<Command, Refused> {
+    let mut given = Given::default();
+    while let Some(word) = words.next() {
+        given.take(&word, &mut words)?;
+    }
+    given.command()
+}
+
+impl Given {
+    fn take(
+        &mut self,
+        word: &OsStr,
+        rest: &mut dyn Iterator<Item = OsString>,
+    ) -> Result<(), Refused> {
+        let mut value = || {
+            let missing = || Refused::setting(format!("{word:?} needs a value"));
+            rest.next().ok_or_else(missing)
+        };
+        match word.as_encoded_bytes() {
+            b"--help" | b"-h" => self.help = true,
+            b"-o" => self.output = Some(value()?.into()),
+            b"--rect" => self.rect = Some(read(word, &value()?, rect)?),
+            b"--gabor" => self.filters.gabor = Some(read(word, &value()?, weights)?),
+            b"--no-gabor" => self.filters.gabor = Some(GaborChoice::Off),
+            b"--iters" => self.filters.iters = Some(read(word, &value()?, number::count)?),
+            b"--sigma" => self.filters.sigma = Some(read(word, &value()?, float)?),
+            [b'-', ..] => return Err(Refused::setting(format!("there is no option {word:?}"))),
+            _ if self.input.is_some() => {
+                return Err(Refused::setting(format!("a second picture, {word:?}")));
+            }
+            _ => self.input = Some(word.into()),
+        }
+        Ok(())
+    }
+
+    fn command(self) -> Result<Command, Refused> {
+        if self.help {
+            return Ok(Command::Help);
+        }
+        let Some(input) = self.input else {
+            if self.rect.is_some() || self.filters != Chosen::default() {
+                return Err(Refused::setting("without a picture -o is the only option"));
+            }
+            return Ok(Command::Show(self.output.unwrap_or("demo-out".into())));
+        };
+        let output = self.output.unwrap_or_else(|| {
+            let mut name = input.file_stem().unwrap_or_default().to_os_string();
+            name.push("-smoothed.pfm");
+            input.with_file_name(name)
+        });
+        Ok(Command::Smooth(Job {
+            input,
+            output,
+            rect: self.rect,
+            filters: self.filters,
+        }))
+    }
+}
+
+/// The value of an option.
+fn read<T>(option: &OsStr, value: &OsStr, form: impl Fn(&str) -> Option<T>) -> Result<T, Refused> {
+    let wrong = || Refused::setting(format!("{option:?} does not take {value:?}"));
+    value.to_str().and_then(form).ok_or_else(wrong)
+}
+
+fn rect(text: &str) -> Option<Region> {
+    let words: Vec<&str> = text.split(',').collect();
+    let [left, top, width, height] = words[..] else {
+        return None;
+    };
+    Some(Region {
+        left: number::corner(left)?,
+        top: number::corner(top)?,
+        width: number::count(width)?,
+        height: number::count(height)?,
+    })
+}
+
+fn weights(text: &str) -> Option<GaborChoice> {
+    let numbers: Option<Vec<f32>> = text.split(',').map(float).collect();
+    let weights = match numbers?[..] {
+        [side, corner] => [[side, corner]; 3],
+        [a, b, c, d, e, f] => [[a, b], [c, d], [e, f]],
+        _ => return None,
+    };
+    Some(GaborChoice::Weights(weights))
+}
+
+fn float(text: &str) -> Option<f32> {
+    text.parse().ok()
+}

@@ -1,0 +1,202 @@
+//! A picture of its own, smoothed whole and in rectangles laid edge to edge.
+
+use std::{hint::black_box, iter, path::Path, time::Instant};
+
+use loupe::{Refusal, Region};
+
+use crate::{
+    engraving,
+    number::grouped,
+    options::Chosen,
+    picture::{CHANNELS, Picture, differing},
+    png,
+    refused::{Asked, Refused},
+    smooth::{self, Filters},
+    store,
+};
+
+/// Sides of a rectangle, and those of the first one. All but the first begin 6 samples into a
+/// block: for a margin of 6, which is one too small, aligning to blocks then adds nothing.
+const RECTANGLE: (u32, u32) = (128, 96);
+const FIRST: (u32, u32) = (94, 62);
+/// Times are the best of so many runs.
+const RUNS: u32 = 5;
+/// How bright the picture under the seams is, and the least seam.
+const DARK: f32 = 0.3;
+const FAINT: f32 = 0.4;
+
+/// Whether all samples that were compared agree.
+pub fn show(folder: &Path) -> Result<bool, Refused> {
+    store::folder(folder)?;
+    let refused = || "the picture of its own".into();
+    let picture = engraving::picture();
+    let filters = filters(&picture).asked(refused)?;
+    say_settings(&picture, &filters);
+    let whole = whole(&picture, &filters).asked(refused)?;
+    let rectangles = in_rectangles(&picture, &filters, &whole).asked(refused)?;
+    let original = by_original(&picture, &filters, &whole);
+    let seams = seams(&picture, &filters, &whole).asked(refused)?;
+    let file = |name: &str, pixels: Vec<_>| {
+        let bytes = png::bytes(picture.region.width, &pixels);
+        (folder.join(name), bytes)
+    };
+    store::all(&[
+        file("before.png", pixels(&picture)),
+        file("after.png", pixels(&whole)),
+        file("seams.png", seams),
+    ])?;
+    println!("written     before.png, after.png, seams.png in {folder:?}");
+    Ok(rectangles && original)
+}
+
+fn filters(picture: &Picture) -> Result<Filters, Refusal> {
+    let (width, height, cells) = engraving::sigmas();
+    Ok(Filters {
+        settings: smooth::settings(&Chosen::default())?,
+        frame: smooth::frame(picture.region),
+        table: vec![1, width, height],
+        grids: cells,
+    })
+}
+
+fn say_settings(picture: &Picture, filters: &Filters) {
+    let Region { width, height, .. } = picture.region;
+    let loupe::Settings { gabor, epf } = filters.settings;
+    let [side, corner] = gabor.weights[0];
+    let sigmas = filters.grids.iter().copied();
+    let least = sigmas.clone().fold(f32::INFINITY, f32::min);
+    let most = sigmas.fold(0.0, f32::max);
+    println!("picture     {width} x {height}, three planes: noisy sky, hatching, lettering");
+    println!("settings    Gabor-like filter, weights {side} and {corner}");
+    println!(
+        "            edge-preserving filter, {} iterations, sigma {least} to {most} by block",
+        epf.iters
+    );
+    println!("            margin {}", filters.margin());
+}
+
+fn whole(picture: &Picture, filters: &Filters) -> Result<Picture, Refusal> {
+    let (whole, time) = timed(|| filters.smooth(picture.clone()));
+    println!("whole       {time:.1} ms");
+    whole
+}
+
+fn in_rectangles(picture: &Picture, filters: &Filters, whole: &Picture) -> Result<bool, Refusal> {
+    let margin = filters.margin();
+    let (laid, time) = timed(|| lay(picture, filters, margin));
+    let count = rectangles(picture.region).len();
+    let (width, height) = RECTANGLE;
+    println!(
+        "rectangles  {count} of up to {width} x {height}, each widened by {margin} and to blocks of 8: {time:.1} ms"
+    );
+    Ok(compared(
+        "compared",
+        "with the whole picture's",
+        &laid?,
+        whole,
+    ))
+}
+
+/// Prints how many samples differ; none should.
+fn compared(name: &str, with: &str, given: &Picture, whole: &Picture) -> bool {
+    let differing = differing(&given.planes, &whole.planes);
+    let samples = grouped(whole.planes.len());
+    println!("{name:12}{samples} samples {with}, bit by bit; differing: {differing}");
+    differing == 0
+}
+
+/// All rectangles of a picture, smoothed one by one and laid edge to edge.
+fn lay(picture: &Picture, filters: &Filters, margin: u32) -> Result<Picture, Refusal> {
+    let mut laid = Picture {
+        region: picture.region,
+        planes: vec![f32::NAN; picture.planes.len()],
+    };
+    for part in rectangles(picture.region) {
+        laid.lay(&filters.smooth_part(picture, part, margin)?);
+    }
+    Ok(laid)
+}
+
+fn rectangles(picture: Region) -> Vec<Region> {
+    let columns = cuts(picture.width, FIRST.0, RECTANGLE.0);
+    let rows = cuts(picture.height, FIRST.1, RECTANGLE.1);
+    let row = |&(top, height): &(u32, u32)| {
+        let part = move |&(left, width): &(u32, u32)| Region {
+            left: left as i32,
+            top: top as i32,
+            width,
+            height,
+        };
+        columns.iter().map(part).collect::<Vec<_>>()
+    };
+    rows.iter().flat_map(row).collect()
+}
+
+/// Starts and lengths along a side.
+fn cuts(side: u32, first: u32, length: u32) -> Vec<(u32, u32)> {
+    let starts = (first..side).step_by(length as usize);
+    let cut = |start| (start, length.min(side - start));
+    iter::once((0, first)).chain(starts.map(cut)).collect()
+}
+
+#[cfg(feature = "original")]
+fn by_original(picture: &Picture, filters: &Filters, whole: &Picture) -> bool {
+    let (given, time) = timed(|| crate::original::smooth(filters, picture));
+    println!("the Rust    {time:.1} ms for the whole");
+    compared("", "with the Rust's", &given, whole)
+}
+
+#[cfg(not(feature = "original"))]
+fn by_original(_: &Picture, _: &Filters, _: &Picture) -> bool {
+    println!("the Rust    is not here: no time and no samples to compare with");
+    true
+}
+
+/// What a margin one too small leaves, over the smoothed picture made dark.
+fn seams(picture: &Picture, filters: &Filters, whole: &Picture) -> Result<Vec<[u8; 3]>, Refusal> {
+    let margin = filters.margin() - 1;
+    let laid = lay(picture, filters, margin)?;
+    let apart: Vec<f32> = laid.pixels().zip(whole.pixels()).map(apart).collect();
+    let most = apart.iter().copied().fold(0.0, f32::max);
+    let differing = grouped(differing(&laid.planes, &whole.planes));
+    println!("margin {margin}    one too small: {differing} samples differ, by up to {most:.1e}");
+    let seam = |([red, green, blue], apart): ([f32; 3], f32)| {
+        let seam = if apart > 0.0 {
+            FAINT + apart / most
+        } else {
+            0.0
+        };
+        [DARK * red + seam, DARK * green, DARK * blue].map(level)
+    };
+    Ok(whole.pixels().zip(apart).map(seam).collect())
+}
+
+/// The largest difference at a place.
+fn apart((a, b): ([f32; CHANNELS], [f32; CHANNELS])) -> f32 {
+    let apart = a.iter().zip(b).map(|(a, b)| (a - b).abs());
+    apart.fold(0.0, f32::max)
+}
+
+fn pixels(picture: &Picture) -> Vec<[u8; CHANNELS]> {
+    picture.pixels().map(|pixel| pixel.map(level)).collect()
+}
+
+/// A sample from 0 to 1 as a byte.
+fn level(sample: f32) -> u8 {
+    (sample.clamp(0.0, 1.0) * 255.0).round() as u8
+}
+
+/// An outcome and the shortest of several times, in milliseconds.
+fn timed<T>(mut run: impl FnMut() -> T) -> (T, f64) {
+    let mut shortest = f64::INFINITY;
+    let mut once = || {
+        let began = Instant::now();
+        let outcome = black_box(run());
+        shortest = shortest.min(began.elapsed().as_secs_f64() * 1e3);
+        outcome
+    };
+    for _ in 1..RUNS {
+        once();
+    }
+    (once(), shortest)
+}

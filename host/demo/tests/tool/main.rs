@@ -1,0 +1,58 @@
+//! The built tool, run in a folder of its own.
+
+mod refused;
+mod shown;
+mod smoothed;
+
+use std::{
+    fs,
+    path::{Path, PathBuf},
+    process::{Command, Output},
+};
+
+/// A folder that is there while a test runs.
+struct Folder(PathBuf);
+
+impl Folder {
+    fn new(test: &str) -> Self {
+        let folder = Path::new(env!("CARGO_TARGET_TMPDIR")).join(test);
+        let _ = fs::remove_dir_all(&folder);
+        fs::create_dir_all(&folder).unwrap();
+        Self(folder)
+    }
+
+    fn write(&self, name: &str, bytes: &[u8]) {
+        fs::write(self.0.join(name), bytes).unwrap();
+    }
+
+    fn read(&self, name: &str) -> Vec<u8> {
+        fs::read(self.0.join(name)).unwrap()
+    }
+
+    /// The names in it, in order.
+    fn names(&self) -> Vec<String> {
+        let entries = fs::read_dir(&self.0).unwrap();
+        let name = |entry: fs::DirEntry| entry.file_name().into_string().unwrap();
+        let mut names: Vec<String> = entries.map(|entry| name(entry.unwrap())).collect();
+        names.sort();
+        names
+    }
+
+    fn run(&self, words: &[&str]) -> Output {
+        let mut tool = Command::new(env!("CARGO_BIN_EXE_demo"));
+        tool.current_dir(&self.0).args(words).output().unwrap()
+    }
+}
+
+impl Drop for Folder {
+    fn drop(&mut self) {
+        let _ = fs::remove_dir_all(&self.0);
+    }
+}
+
+/// A PFM file whose samples are these bits, little-endian.
+fn pfm(width: usize, height: usize, samples: impl IntoIterator<Item = u32>) -> Vec<u8> {
+    let mut file = format!("PF\n{width} {height}\n-1.0\n").into_bytes();
+    file.extend(samples.into_iter().flat_map(u32::to_le_bytes));
+    file
+}
