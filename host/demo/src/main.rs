@@ -10,6 +10,7 @@ mod original;
 mod pfm;
 mod picture;
 mod png;
+mod rectangles;
 mod refused;
 mod show;
 mod smooth;

@@ -1,6 +1,6 @@
 //! A picture of its own, smoothed whole and in rectangles laid edge to edge.
 
-use std::{hint::black_box, iter, path::Path, time::Instant};
+use std::{hint::black_box, path::Path, time::Instant};
 
 use loupe::{Refusal, Region};
 
@@ -10,15 +10,12 @@ use crate::{
     options::Chosen,
     picture::{CHANNELS, Picture, differing},
     png,
+    rectangles::{SIDES, lay, rectangles},
     refused::{Asked, Refused},
     smooth::{self, Filters},
     store,
 };
 
-/// Sides of a rectangle, and those of the first one. All but the first begin 6 samples into a
-/// block: for a margin of 6, which is one too small, aligning to blocks then adds nothing.
-const RECTANGLE: (u32, u32) = (128, 96);
-const FIRST: (u32, u32) = (94, 62);
 /// Times are the best of so many runs.
 const RUNS: u32 = 5;
 /// How bright the picture under the seams is, and the least seam.
@@ -45,7 +42,9 @@ pub fn show(folder: &Path) -> Result<bool, Refused> {
         file("after.png", pixels(&whole)),
         file("seams.png", seams),
     ])?;
-    println!("written     before.png, after.png, seams.png in {folder:?}");
+    println!(
+        "written     before.png, after.png, seams.png (these differences in red) in {folder:?}"
+    );
     Ok(rectangles && original)
 }
 
@@ -67,12 +66,12 @@ fn say_settings(picture: &Picture, filters: &Filters) {
     let least = sigmas.clone().fold(f32::INFINITY, f32::min);
     let most = sigmas.fold(0.0, f32::max);
     println!("picture     {width} x {height}, three planes: noisy sky, hatching, lettering");
-    println!("settings    Gabor-like filter, weights {side} and {corner}");
+    println!("settings    Gabor-like filter: weights {side} and {corner}");
     println!(
-        "            edge-preserving filter, {} iterations, sigma {least} to {most} by block",
+        "            edge-preserving filter: {} iterations, sigma {least} to {most} by block",
         epf.iters
     );
-    println!("            margin {}", filters.margin());
+    println!("            margin: {} samples", filters.margin());
 }
 
 fn whole(picture: &Picture, filters: &Filters) -> Result<Picture, Refusal> {
@@ -85,16 +84,10 @@ fn in_rectangles(picture: &Picture, filters: &Filters, whole: &Picture) -> Resul
     let margin = filters.margin();
     let (laid, time) = timed(|| lay(picture, filters, margin));
     let count = rectangles(picture.region).len();
-    let (width, height) = RECTANGLE;
-    println!(
-        "rectangles  {count} of up to {width} x {height}, each widened by {margin} and to blocks of 8: {time:.1} ms"
-    );
-    Ok(compared(
-        "compared",
-        "with the whole picture's",
-        &laid?,
-        whole,
-    ))
+    let (width, height) = SIDES;
+    println!("rectangles  {count} of up to {width} x {height}, edge to edge: {time:.1} ms");
+    println!("            each widened by the margin, from block to block, and cut back");
+    Ok(compared("compared", "with the whole's", &laid?, whole))
 }
 
 /// Prints how many samples differ; none should.
@@ -103,40 +96,6 @@ fn compared(name: &str, with: &str, given: &Picture, whole: &Picture) -> bool {
     let samples = grouped(whole.planes.len());
     println!("{name:12}{samples} samples {with}, bit by bit; differing: {differing}");
     differing == 0
-}
-
-/// All rectangles of a picture, smoothed one by one and laid edge to edge.
-fn lay(picture: &Picture, filters: &Filters, margin: u32) -> Result<Picture, Refusal> {
-    let mut laid = Picture {
-        region: picture.region,
-        planes: vec![f32::NAN; picture.planes.len()],
-    };
-    for part in rectangles(picture.region) {
-        laid.lay(&filters.smooth_part(picture, part, margin)?);
-    }
-    Ok(laid)
-}
-
-fn rectangles(picture: Region) -> Vec<Region> {
-    let columns = cuts(picture.width, FIRST.0, RECTANGLE.0);
-    let rows = cuts(picture.height, FIRST.1, RECTANGLE.1);
-    let row = |&(top, height): &(u32, u32)| {
-        let part = move |&(left, width): &(u32, u32)| Region {
-            left: left as i32,
-            top: top as i32,
-            width,
-            height,
-        };
-        columns.iter().map(part).collect::<Vec<_>>()
-    };
-    rows.iter().flat_map(row).collect()
-}
-
-/// Starts and lengths along a side.
-fn cuts(side: u32, first: u32, length: u32) -> Vec<(u32, u32)> {
-    let starts = (first..side).step_by(length as usize);
-    let cut = |start| (start, length.min(side - start));
-    iter::once((0, first)).chain(starts.map(cut)).collect()
 }
 
 #[cfg(feature = "original")]
