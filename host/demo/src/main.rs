@@ -65,15 +65,17 @@ fn smooth_file(job: &Job) -> Result<(), Refused> {
     let mut file = pfm::parse(&bytes)?;
     let part = job.rect.unwrap_or(file.region);
     smooth::judge(file.region, part, &mut file.samples).asked(|| {
-        let samples = file.samples.len();
-        let (picture, part) = (placed(file.region), placed(part));
-        format!("picture {picture} with {samples} samples, rectangle {part}")
+        let (picture, samples) = (placed(file.region), file.samples.len());
+        let rect = job
+            .rect
+            .map_or_else(String::new, |r| format!(", rectangle {}", placed(r)));
+        format!("picture {picture} with {samples} samples{rect}")
     })?;
     let picture = file.picture()?;
-    let smooth = smooth::settings(&job.filters)
-        .and_then(|settings| Filters::of_one_sigma(picture.region, settings))
+    let settings = smooth::settings(&job.filters);
+    let smooth = Filters::of_one_sigma(picture.region, settings)
         .and_then(|filters| filters.smooth_part(&picture, part, filters.margin()))
-        .asked(|| format!("{:?}", job.filters))?;
+        .asked(|| format!("{} iterations", settings.epf.iters))?;
     let bytes = pfm::bytes(&smooth, &file.scale);
     store::all(&[(job.output.clone(), bytes)])?;
     println!("{}: {:?}", placed(part), job.output);

@@ -14,17 +14,17 @@ pub fn whole(text: &str) -> Option<i128> {
     }
 }
 
-/// A side, iterations: a number that the type does not hold becomes the type's nearest, which the
-/// library refuses.
+/// A side or iterations: a number that the type does not hold becomes its largest, which the library
+/// refuses as well.
 pub fn count(text: &str) -> Option<u32> {
-    let number = whole(text)?.clamp(0, u32::MAX.into());
-    Some(number as u32)
+    let number = whole(text)?;
+    Some(number.try_into().unwrap_or(u32::MAX))
 }
 
 /// A left or top, in the same way.
 pub fn corner(text: &str) -> Option<i32> {
-    let number = whole(text)?.clamp(i32::MIN.into(), i32::MAX.into());
-    Some(number as i32)
+    let number = whole(text)?;
+    Some(number.try_into().unwrap_or(i32::MAX))
 }
 
 /// A number as it is printed: `1,179,648`.
@@ -49,10 +49,11 @@ mod tests {
         let ten_to_30 = "1000000000000000000000000000000";
         assert_eq!(count(ten_to_30), Some(u32::MAX));
         assert_eq!(count(&ten_to_30.repeat(3)), Some(u32::MAX));
-        assert_eq!(count("-1"), Some(0));
+        assert_eq!(count("-1"), Some(u32::MAX));
         assert_eq!(count("16385"), Some(16_385));
-        assert_eq!(corner("-2147483649"), Some(i32::MIN));
-        assert_eq!(corner(&format!("-{}", ten_to_30.repeat(2))), Some(i32::MIN));
+        assert_eq!(corner("-2147483649"), Some(i32::MAX));
+        assert_eq!(corner(&format!("-{}", ten_to_30.repeat(2))), Some(i32::MAX));
+        assert_eq!(corner("-1048576"), Some(-1_048_576));
         for wrong in ["", "-", "1.0", "1e3", " 1", "x"] {
             assert_eq!(whole(wrong), None, "{wrong:?}");
         }

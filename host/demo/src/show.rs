@@ -17,7 +17,7 @@ use crate::{
 };
 
 /// Times are the best of so many runs.
-const RUNS: u32 = 5;
+const RUNS: u32 = 10;
 /// How bright the picture under the seams is, and the least seam.
 const DARK: f32 = 0.3;
 const FAINT: f32 = 0.4;
@@ -27,7 +27,7 @@ pub fn show(folder: &Path) -> Result<bool, Refused> {
     store::folder(folder)?;
     let refused = || "the picture of its own".into();
     let picture = engraving::picture();
-    let filters = filters(&picture).asked(refused)?;
+    let filters = filters(&picture);
     say_settings(&picture, &filters);
     let whole = whole(&picture, &filters).asked(refused)?;
     let rectangles = in_rectangles(&picture, &filters, &whole).asked(refused)?;
@@ -48,14 +48,14 @@ pub fn show(folder: &Path) -> Result<bool, Refused> {
     Ok(rectangles && original)
 }
 
-fn filters(picture: &Picture) -> Result<Filters, Refusal> {
+fn filters(picture: &Picture) -> Filters {
     let (width, height, cells) = engraving::sigmas();
-    Ok(Filters {
-        settings: smooth::settings(&Chosen::default())?,
+    Filters {
+        settings: smooth::settings(&Chosen::default()),
         frame: smooth::frame(picture.region),
         table: vec![1, width, height],
         grids: cells,
-    })
+    }
 }
 
 fn say_settings(picture: &Picture, filters: &Filters) {

@@ -1,6 +1,6 @@
 //! Smoothing by the proved library, of whole pictures and of rectangles.
 
-use loupe::{Frame, Gabor, Refusal, Region, Settings, Setup, Smoothing};
+use loupe::{Frame, Refusal, Region, Settings, Setup, Smoothing};
 
 use crate::{
     options::{Chosen, GaborChoice},
@@ -12,9 +12,9 @@ const BAND_HEIGHT: u32 = 64;
 const BLOCK: u32 = 8;
 
 /// A header in which the Gabor-like filter and three iterations are on and all else is default.
-const DEFAULTS: [u8; 1] = [0b1101];
+const DEFAULTS: u8 = 0b1101;
 /// A header in which both filters are off.
-const OFF: [u8; 1] = [0];
+const OFF: u8 = 0;
 
 /// Settings of a picture and its sigmas, which hold for each part of it.
 pub struct Filters {
@@ -79,33 +79,33 @@ impl Filters {
     }
 }
 
-/// A header's settings with what was chosen.
-pub fn settings(chosen: &Chosen) -> Result<Settings, Refusal> {
-    let (mut gabor, epf, _) = loupe::read_filters(&DEFAULTS, 0, false).value()?;
+/// The default settings with what was chosen.
+pub fn settings(chosen: &Chosen) -> Settings {
+    let mut settings = header(DEFAULTS);
     match chosen.gabor {
-        Some(GaborChoice::Off) => gabor.enabled = false,
-        Some(GaborChoice::Weights(weights)) => {
-            gabor = Gabor {
-                enabled: true,
-                weights,
-            }
-        }
+        Some(GaborChoice::Off) => settings.gabor.enabled = false,
+        Some(GaborChoice::Weights(weights)) => settings.gabor.weights = weights,
         None => {}
     }
-    let mut epf: loupe::EpfSettings = epf.into();
+    let epf = &mut settings.epf;
     epf.iters = chosen.iters.unwrap_or(epf.iters);
     epf.sigma_for_modular = chosen.sigma.unwrap_or(epf.sigma_for_modular);
-    Ok(Settings { gabor, epf })
+    settings
+}
+
+fn header(bits: u8) -> Settings {
+    let (gabor, epf, _) = loupe::read_filters(&[bits], 0, false)
+        .value()
+        .expect("a header of seven bits");
+    Settings {
+        gabor,
+        epf: epf.into(),
+    }
 }
 
 /// Whether samples are a picture with these sides and a part lies inside it: start says so.
 pub fn judge(picture: Region, part: Region, samples: &mut [f32]) -> Result<(), Refusal> {
-    let (gabor, epf, _) = loupe::read_filters(&OFF, 0, false).value()?;
-    let settings = Settings {
-        gabor,
-        epf: epf.into(),
-    };
-    let setup = setup(picture, part, settings);
+    let setup = setup(picture, part, header(OFF));
     let second = vec![0.0; samples.len()];
     let (frame, table) = (frame(at_corner(1, 1)), [0; 3]);
     loupe::start(setup, frame, &table, &[], samples, &second, &mut []).value()?;

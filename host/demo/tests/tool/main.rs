@@ -42,6 +42,14 @@ impl Folder {
         let mut tool = Command::new(env!("CARGO_BIN_EXE_demo"));
         tool.current_dir(&self.0).args(words).output().unwrap()
     }
+
+    /// Where a file cannot grow beyond 1,024 bytes.
+    fn run_with_short_files(&self, words: &[&str]) -> Output {
+        let limited = "trap '' XFSZ; ulimit -f 1; exec \"$0\" \"$@\"";
+        let mut shell = Command::new("bash");
+        shell.args(["-c", limited, env!("CARGO_BIN_EXE_demo")]);
+        shell.current_dir(&self.0).args(words).output().unwrap()
+    }
 }
 
 impl Drop for Folder {

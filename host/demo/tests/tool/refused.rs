@@ -1,5 +1,7 @@
 //! What the tool refuses: exit status 2, one line with the number, no file left.
 
+use std::process::Output;
+
 use crate::{Folder, pfm};
 
 const PICTURE: &str = "picture.pfm";
@@ -7,17 +9,17 @@ const PICTURE: &str = "picture.pfm";
 /// Runs the tool in a folder and expects a refusal that leaves the folder as it was.
 fn expect(folder: &Folder, words: &[&str], number: u32) {
     let names = folder.names();
-    let output = folder.run(words);
-    let said = String::from_utf8(output.stderr).unwrap();
-    let case = format!("{words:?}: {said}");
-    assert_eq!(output.status.code(), Some(2), "{case}");
-    assert!(
-        said.starts_with(&format!("demo: refusal {number}: ")),
-        "{case}"
-    );
-    assert_eq!(said.find('\n'), Some(said.len() - 1), "{case}");
-    assert!(output.stdout.is_empty(), "{case}");
-    assert_eq!(folder.names(), names, "{case}");
+    expect_refused(&folder.run(words), number);
+    assert_eq!(folder.names(), names, "{words:?}");
+}
+
+fn expect_refused(output: &Output, number: u32) {
+    let said = str::from_utf8(&output.stderr).unwrap();
+    let begin = format!("demo: refusal {number}: ");
+    assert_eq!(output.status.code(), Some(2), "{said}");
+    assert!(said.starts_with(&begin), "{begin} but {said}");
+    assert_eq!(said.find('\n'), Some(said.len() - 1), "{said}");
+    assert!(output.stdout.is_empty(), "{said}");
 }
 
 /// A file that is refused whatever the options.
@@ -129,11 +131,11 @@ fn mislabelled() {
 fn wrong_options() {
     let folder = Folder::new("wrong_options");
     folder.write(PICTURE, &sound());
-    let options: [&[&str]; 26] = [
+    let options: [&[&str]; 28] = [
         &["--no-such-option"],
         &["-x"],
         &["-"],
-        &["other.pfm"],
+        &[PICTURE],
         &["--rect"],
         &["--rect", "1,2,3"],
         &["--rect", "1,2,3,4,5"],
@@ -148,6 +150,8 @@ fn wrong_options() {
         &["--gabor", "0.1;0.1"],
         &["--iters"],
         &["--iters", "4"],
+        &["--iters", "-1"],
+        &["--iters", "-4294967293"],
         &["--iters", "4294967296"],
         &["--iters", "1.0"],
         &["--iters", "three"],
@@ -172,49 +176,46 @@ fn without_a_picture_there_are_no_settings() {
     expect(&folder, &["--no-gabor"], 9);
 }
 
+const OUTSIDE: [&str; 11] = [
+    "-1,0,2,2",
+    "0,-1,2,2",
+    "4,0,2,1",
+    "0,3,1,2",
+    "5,0,1,1",
+    "0,4,1,1",
+    "0,0,6,4",
+    "0,0,5,5",
+    "1000,1000,1,1",
+    "1048576,0,1,1",
+    "-1048576,-1048576,4096,4096",
+];
+const OUT_OF_MEASURE: [&str; 12] = [
+    "0,0,0,1",
+    "0,0,1,0",
+    "0,0,-1,1",
+    "9,9,0,0",
+    "0,0,16385,1",
+    "0,0,1,16385",
+    "0,0,4097,4096",
+    "1048577,0,1,1",
+    "0,-1048577,1,1",
+    "99999999999,0,1,1",
+    "0,0,99999999999,1",
+    "-99999999999,0,1,1",
+];
+
 #[test]
 fn rectangles_outside_the_picture_or_out_of_measure() {
     let folder = Folder::new("rectangles_outside_the_picture_or_out_of_measure");
     folder.write(PICTURE, &sound());
-    let outside = [
-        "-1,0,2,2",
-        "0,-1,2,2",
-        "4,0,2,1",
-        "0,3,1,2",
-        "5,0,1,1",
-        "0,4,1,1",
-        "0,0,6,4",
-        "0,0,5,5",
-        "1000,1000,1,1",
-        "1048576,0,1,1",
-        "-1048576,-1048576,4096,4096",
-    ];
-    let out_of_measure = [
-        "0,0,0,1",
-        "0,0,1,0",
-        "0,0,-1,1",
-        "9,9,0,0",
-        "0,0,16385,1",
-        "0,0,1,16385",
-        "0,0,4097,4096",
-        "1048577,0,1,1",
-        "0,-1048577,1,1",
-        "99999999999,0,1,1",
-        "0,0,99999999999,1",
-    ];
     // A setting out of range besides is told last.
     for iters in ["0", "3", "4"] {
-        let expect_rect = |rect, number| {
-            expect(
-                &folder,
-                &[PICTURE, "--rect", rect, "--iters", iters],
-                number,
-            );
-        };
-        outside.into_iter().for_each(|rect| expect_rect(rect, 5));
-        out_of_measure
-            .into_iter()
-            .for_each(|rect| expect_rect(rect, 4));
+        for (rects, number) in [(&OUTSIDE[..], 5), (&OUT_OF_MEASURE, 4)] {
+            for rect in rects {
+                let words = [PICTURE, "--rect", rect, "--iters", iters];
+                expect(&folder, &words, number);
+            }
+        }
     }
 }
 
@@ -239,5 +240,22 @@ fn a_file_that_was_there_stays() {
     folder.write(PICTURE, b"PF\n5 4\n-1.0\n");
     folder.write("out.pfm", b"before");
     expect(&folder, &[PICTURE, "-o", "out.pfm"], 7);
+    assert_eq!(folder.read("out.pfm"), b"before");
+}
+
+/// A file that can be written in part only, as on a full disk.
+#[test]
+fn no_part_of_a_file_is_left() {
+    let folder = Folder::new("no_part_of_a_file_is_left");
+    folder.write(PICTURE, &pfm(20, 20, 0..1200));
+    folder.write("out.pfm", b"before");
+    for words in [&[PICTURE, "-o", "out.pfm"][..], &[PICTURE], &["-o", "."]] {
+        let names = folder.names();
+        let output = folder.run_with_short_files(words);
+        let said = str::from_utf8(&output.stderr).unwrap();
+        assert_eq!(output.status.code(), Some(2), "{said}");
+        assert!(said.starts_with("demo: refusal 9: "), "{said}");
+        assert_eq!(folder.names(), names);
+    }
     assert_eq!(folder.read("out.pfm"), b"before");
 }

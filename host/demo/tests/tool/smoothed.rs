@@ -56,10 +56,30 @@ fn no_passes_copy_the_file() {
         height,
         (0..105).map(|n| 0x7F80_0001 + n * 0x0001_2345),
     );
-    for file in [little, big, special, nans] {
+    let white_space = pfm(width, height, [0x0A0D_0920; 105]);
+    for file in [little, big, special, nans, white_space] {
         folder.write(PICTURE, &file);
         assert_eq!(smoothed(&folder, &COPY), file);
     }
+}
+
+#[test]
+fn both_byte_orders_are_smoothed_alike() {
+    let folder = Folder::new("both_byte_orders_are_smoothed_alike");
+    let big = |little: &[u8]| {
+        let (samples, _) = little[b"PF\n9 9\n-1.0\n".len()..].as_chunks::<4>();
+        let samples = samples.iter().flat_map(|bytes| bytes.iter().rev());
+        [
+            &b"PF\n9 9\n1.0\n"[..],
+            &samples.copied().collect::<Vec<u8>>(),
+        ]
+        .concat()
+    };
+    let little = pfm(9, 9, texture(243));
+    folder.write(PICTURE, &little);
+    let due = big(&smoothed(&folder, &[]));
+    folder.write(PICTURE, &big(&little));
+    assert_eq!(smoothed(&folder, &[]), due);
 }
 
 #[test]
@@ -106,21 +126,41 @@ fn weights_are_of_side_and_corner_by_plane() {
     assert_eq!(smoothed(&folder, &options), file(due));
 }
 
-/// The same run by the library itself: defaults of a header, one sigma, planes from the top row.
+/// What the library itself gives for a file's samples: a header's defaults, one sigma, planes from
+/// the top row.
 fn by_library(
     file: &[u32],
     (width, height): (u32, u32),
     change: impl Fn(&mut Settings),
 ) -> Vec<u8> {
+    let at = |c: u32, x: u32, y: u32| ((height - 1 - y) * width + x) * 3 + c;
+    let rows = |c| (0..height).flat_map(move |y| (0..width).map(move |x| at(c, x, y) as usize));
+    let places: Vec<usize> = (0..3).flat_map(rows).collect();
+    let planes = places.iter().map(|&at| f32::from_bits(file[at]));
+    let smooth = by_run(planes.collect(), (width, height), change);
+    let mut bits = vec![0; file.len()];
+    for (at, sample) in places.into_iter().zip(smooth) {
+        bits[at] = sample.to_bits();
+    }
+    pfm(width as usize, height as usize, bits)
+}
+
+/// With bands and groups other than the tool's.
+fn by_run(
+    planes: Vec<f32>,
+    (width, height): (u32, u32),
+    change: impl Fn(&mut Settings),
+) -> Vec<f32> {
     let (gabor, epf, _) = loupe::read_filters(&[0b1101], 0, false).value().unwrap();
     let mut settings = Settings {
         gabor,
         epf: epf.into(),
     };
     change(&mut settings);
+    let (left, top, upsampling, lf_level, group_size_shift) = (0, 0, 1, 0, 3);
     let image = Region {
-        left: 0,
-        top: 0,
+        left,
+        top,
         width,
         height,
     };
@@ -134,22 +174,12 @@ fn by_library(
     let frame = Frame {
         width,
         height,
-        upsampling: 1,
-        lf_level: 0,
-        group_size_shift: 3,
+        upsampling,
+        lf_level,
+        group_size_shift,
     };
-    let at = |c: u32, x: u32, y: u32| ((height - 1 - y) * width + x) * 3 + c;
-    let places = || (0..height).flat_map(|y| (0..width).map(move |x| (x, y)));
-    let sample = |c, (x, y)| f32::from_bits(file[at(c, x, y) as usize]);
-    let planes = (0..3).flat_map(|c| places().map(move |place| sample(c, place)));
-    let smoothing = Smoothing::start(setup, frame, &[0; 3], &[], planes.collect());
-    let planes = smoothing.unwrap().finish().unwrap();
-    let mut bits = vec![0; file.len()];
-    let stored = (0..3).flat_map(|c| places().map(move |(x, y)| at(c, x, y)));
-    for (at, sample) in stored.zip(planes) {
-        bits[at as usize] = sample.to_bits();
-    }
-    pfm(width as usize, height as usize, bits)
+    let smoothing = Smoothing::start(setup, frame, &[0; 3], &[], planes);
+    smoothing.unwrap().finish().unwrap()
 }
 
 type Change = fn(&mut Settings);
