@@ -13,12 +13,12 @@ use lib.Ieee.{Float, nan}
 use lib.Ieee.Fits.{and-i}
 use lib.Signed.{leZ, ltZ}
 use Rattle.interval.specs.declared.Span.{Span}
-use Rattle.interval.specs.Interval.{covers}
-use Rattle.interval.specs.Laws.{In}
+use Rattle.overlap.specs.Overlap.{covers}
+use Rattle.overlap.specs.Laws.{In}
 use Rattle.interval.specs.Order.{le-refl}
 use Rattle.region.specs.declared.Region.{Region}
 use Rattle.region.specs.Regions.{columns, rows, inside}
-use Rattle.region.specs.Laws.{Holds}
+use Rattle.region.specs.Regions.{Holds}
 use Rattle.layout.specs.Outcome.{layoutOf}
 use Rattle.planes.specs.Sets.{of, length-setOf, sets-ext}
 use Rattle.planes.specs.Rect.{inRect, Between, between}

@@ -7,8 +7,8 @@ use lib.IntN.{ℤ, pos, negsuc, natAbs, _-ℤ_}
 use lib.Ieee.{Float}
 use Rattle.region.specs.Regions.{inside}
 use Rattle.region.specs.Measures.{measured, pictured}
-use Rattle.region.specs.Laws.{Holds}
-use Rattle.interval.specs.Interval.{place, side}
+use Rattle.region.specs.Regions.{Holds}
+use Rattle.axis.specs.Measures.{place, side}
 use Rattle.frame.specs.Sizes.{sizesOf}
 use Rattle.groups.specs.Table.{badGrid, cells, gridStart, someBelow}
 use Rattle.groups.specs.Outcome.{badSides, badSettings, tableFits, gridsFit}

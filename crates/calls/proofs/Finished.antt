@@ -11,7 +11,7 @@ use lib.Ieee.{Float}
 use lib.IntN.{ℤ, natAbs, _-ℤ_}
 use Rattle.planes.specs.Sets.{of, setOf, of-setOf}
 use Rattle.planes.specs.Band.{inFilter, inner}
-use Rattle.region.specs.Laws.{Holds}
+use Rattle.region.specs.Regions.{Holds}
 use Rattle.layout.specs.Outcome.{layoutOf}
 use Rattle.passes.specs.Pass.{passes}
 use Rattle.passes.specs.Plan.{plan}

@@ -6,7 +6,7 @@ use lib.Dec.{T}
 use lib.IntN.{ℤ}
 use lib.ListN.{length}
 use lib.Ieee.{Float}
-use Rattle.region.specs.Laws.{Holds}
+use Rattle.region.specs.Regions.{Holds}
 use Rattle.planes.specs.Sets.{of}
 use Rattle.passes.specs.Plan.{margin}
 use Rattle.record.specs.Setup.{resultRegion, resultLength}

@@ -5,7 +5,7 @@ use Prim.Native.Nat.{ℕ, _+_}
 use lib.IntN.{pos}
 use lib.Ieee.{Float}
 use Rattle.region.specs.declared.Region.{Region}
-use Rattle.region.specs.Laws.{Holds}
+use Rattle.region.specs.Regions.{Holds}
 use Rattle.planes.specs.Samples.{b0, b1}
 use Rattle.planes.specs.Picture.{Picture}
 use Rattle.planes.specs.Sets.{setOf}

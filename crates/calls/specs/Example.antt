@@ -7,7 +7,7 @@ use lib.Dec.{T}
 use lib.IntN.{ℤ, pos, negsuc}
 use lib.ListN.{length}
 use lib.Ieee.{Float}
-use Rattle.region.specs.Laws.{Holds}
+use Rattle.region.specs.Regions.{Holds}
 use Rattle.planes.specs.Samples.{b0}
 use Rattle.planes.specs.Picture.{Picture}
 use Rattle.planes.specs.Sets.{setOf}

@@ -14,7 +14,7 @@ use Rattle.numbers.specs.Checks.{Check, firstOf}
 use Rattle.region.specs.declared.Region.{Region}
 use Rattle.region.specs.Regions.{inside}
 use Rattle.region.specs.Measures.{pictured}
-use Rattle.region.specs.Answers.{placedChecks}
+use Rattle.placement.specs.Placed.{placedChecks}
 use Rattle.planes.specs.declared.Layout.{Layout}
 use Rattle.planes.specs.Picture.{Picture}
 use Rattle.planes.specs.Rect.{planesFill}

@@ -8,7 +8,7 @@ use lib.Ieee.{Float}
 use Rattle.numbers.specs.Numbers.{notOnBlocks, wrongLength, outOfRange}
 use Rattle.numbers.specs.Checks.{Check, always, firstOf}
 use Rattle.region.specs.declared.Region.{Region}
-use Rattle.region.specs.Answers.{placedChecks}
+use Rattle.placement.specs.Placed.{placedChecks}
 use Rattle.planes.specs.declared.Layout.{Layout}
 use Rattle.planes.specs.Picture.{Picture}
 use Rattle.planes.specs.Band.{inner, passed, rowsFit}

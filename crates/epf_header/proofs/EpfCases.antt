@@ -5,8 +5,8 @@ use mathlib.Core.List.{List}
 use mathlib.Core.Path.{_≡_, refl, ap, _∙_}
 use lib.ListN.{length}
 use lib.Ieee.{Float}
-use Rattle.half.specs.Outcome.{Outcome, accepted, refused, andThen}
-use Rattle.half.specs.Bits.{u}
+use Rattle.bits.specs.Outcome.{Outcome, accepted, refused, andThen}
+use Rattle.bits.specs.Bits.{u}
 use Rattle.half.specs.Half.{f16}
 use Rattle.fields.specs.Fields.{bundle, nested, read, f16s, ifThere}
 use Rattle.epf_header.specs.EdgeFilter.{varDct, modular, sharpLut, channelScale, quantMul, pass0SigmaScale, pass2SigmaScale, borderSadMul, sigmaForModular, sigmaOf, epfOff, epfWith, parameterFields, epfFields}

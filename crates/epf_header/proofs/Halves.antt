@@ -8,7 +8,7 @@ use native.Mathlib.Omega.{arith}
 use lib.ListN.{length, take, set}
 use lib.Seq.{take-suc-set, take-all}
 use lib.Ieee.{Float}
-use Rattle.half.specs.Outcome.{accepted, refused}
+use Rattle.bits.specs.Outcome.{accepted, refused}
 use Rattle.half.specs.Half.{f16}
 use Rattle.fields.specs.Fields.{f16s}
 

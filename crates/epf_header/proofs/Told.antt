@@ -2,7 +2,7 @@
 use mathlib.Core.List.{List}
 use mathlib.Core.Path.{_≡_, sym, ap, _∙_}
 use lib.Ieee.{Float}
-use Rattle.half.specs.Outcome.{Outcome}
+use Rattle.bits.specs.Outcome.{Outcome}
 use Rattle.epf_header.specs.Pieces.{placeOutcome}
 use Rattle.epf_header.specs.declared.Place.{Place}
 

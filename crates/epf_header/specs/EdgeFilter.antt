@@ -3,7 +3,7 @@ use Prim.Native.Nat.{ℕ}
 use mathlib.Core.Bool.{Bool, true, false, cond, _&&_}
 use mathlib.Core.List.{List, [], _∷_}
 use lib.Ieee.{Float, ofBits, binary32}
-use Rattle.half.specs.Outcome.{Outcome, number, value, next}
+use Rattle.bits.specs.Outcome.{Outcome, number, value, next}
 use Rattle.fields.specs.Fields.{Fields, bits, half, halves, bundle, read, yes, none}
 use Rattle.epf_header.specs.declared.Encoding.{Encoding}
 use Rattle.epf_header.specs.declared.Encoding.the-variants.{VarDct, Modular}

@@ -3,7 +3,7 @@ use Prim.Native.Nat.{ℕ}
 use mathlib.Core.Bool.{Bool, true, _&&_}
 use mathlib.Core.List.{List}
 use lib.Ieee.{Float}
-use Rattle.half.specs.Outcome.{Outcome, accepted, refused}
+use Rattle.bits.specs.Outcome.{Outcome, accepted, refused}
 use Rattle.fields.specs.Fields.{Fields, bits, half, halves, bundle, nested, yes}
 use Rattle.epf_header.specs.EdgeFilter.{varDct, modular, sigmaOf, epfWith, sigmaForModular, quantMul, pass0SigmaScale, pass2SigmaScale, borderSadMul}
 use Rattle.epf_header.specs.declared.Encoding.{Encoding}

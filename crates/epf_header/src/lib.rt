@@ -2,13 +2,13 @@
 ghost use mathlib.Core.Path.{_≡_};
 ghost use mathlib.Core.Bool.{true};
 ghost use lib.ListN.{length};
-ghost use Rattle.half.specs.Outcome.{refused};
-ghost use Rattle.half.specs.Bits.{u, bitsOutcome};
+ghost use Rattle.bits.specs.Outcome.{refused};
+ghost use Rattle.bits.specs.Bits.{u, bitsOutcome};
 ghost use Rattle.half.specs.Half.{f16, halfOutcome};
 ghost use Rattle.fields.specs.Fields.{ifThere, read, f16s};
 ghost use Rattle.epf_header.specs.Pieces.{placeOutcome, sigmaOutcome, sharpFields, customScaleFields, scaleFields, customSigmaFields, sigmaFields, settingFields};
 ghost use Rattle.epf_header.specs.EdgeFilter.{varDct, modular, epfOff, parameterFields, epfAt, epfAnswer};
-use half::Bits;
+use bits::Bits;
 use half::Half;
 
 pub enum Encoding {
@@ -100,7 +100,7 @@ fn read_u1_if(bytes: &[u8], at: usize, present: bool) -> Bits
     ensures { λ r. ⌜ bitsOutcome r ≡ ifThere present (u 1 (now (bytes .entry)) at) 0 at ⌝ }
 {
     if present {
-        return half::read_u1(bytes, at);
+        return bits::read_u1(bytes, at);
     }
     Bits::Value(0, at)
 }
@@ -154,7 +154,7 @@ fn read_custom_scale(bytes: &[u8], at: usize, scale: &mut [f32]) -> Place
     ensures { λ r. ⌜ placeOutcome r (now (scale .exit)) ≡ read (customScaleFields true (now (scale .entry))) (now (bytes .entry)) at ⌝ }
 {
     match read_halves(bytes, at, scale) {
-        Place::Next(at) => match half::read_u32(bytes, at) {
+        Place::Next(at) => match bits::read_u32(bytes, at) {
             Bits::Value(_, next) => Place::Next(next),
             Bits::Refused(number) => Place::Refused(number),
         },
@@ -166,7 +166,7 @@ fn read_custom_scale(bytes: &[u8], at: usize, scale: &mut [f32]) -> Place
 fn read_channel_scale(bytes: &[u8], at: usize, scale: &mut [f32]) -> Place
     ensures { λ r. ⌜ placeOutcome r (now (scale .exit)) ≡ read (scaleFields (now (scale .entry))) (now (bytes .entry)) at ⌝ }
 {
-    match half::read_u1(bytes, at) {
+    match bits::read_u1(bytes, at) {
         Bits::Value(custom, next) => {
             if custom == 0 {
                 Place::Next(next)
@@ -209,7 +209,7 @@ impl EpfSigma {
 fn read_sigma(bytes: &[u8], at: usize, encoding: Encoding) -> Sigma
     ensures { λ r. ⌜ sigmaOutcome r ≡ read (sigmaFields encoding) (now (bytes .entry)) at ⌝ }
 {
-    match half::read_u1(bytes, at) {
+    match bits::read_u1(bytes, at) {
         Bits::Value(custom, next) => {
             if custom == 0 {
                 Sigma::Value(
@@ -325,7 +325,7 @@ impl EdgePreservingFilter {
     pub fn parse(bytes: &[u8], at: usize, encoding: Encoding) -> EpfAnswer
         ensures { λ r. ⌜ r ≡ epfAnswer (epfAt encoding (now (bytes .entry)) at) ⌝ }
     {
-        match half::read_u2(bytes, at) {
+        match bits::read_u2(bytes, at) {
             Bits::Value(iters, next) => {
                 if iters == 0 {
                     epf_answer(numbers::ACCEPTED, EdgePreservingFilter::off(), next)

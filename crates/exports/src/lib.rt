@@ -19,7 +19,7 @@ use record::Setup;
 use region::BoolAnswer;
 use region::EdgeAnswer;
 use region::Region;
-use region::RegionAnswer;
+use region_arithmetic::RegionAnswer;
 use runs::RunAnswer;
 ghost use mathlib.Core.Path.{_≡_};
 ghost use Rattle.epf.specs.Outcome.{epfOutcome};
@@ -33,7 +33,8 @@ ghost use Rattle.layout.specs.Outcome.{PassOutcome};
 ghost use Rattle.frame.specs.Outcome.{frameOutcome, splitOutcome};
 ghost use Rattle.mirror.specs.Outcome.{mirrorOutcome};
 ghost use Rattle.passes.specs.Plan.{margin};
-ghost use Rattle.region.specs.Answers.{isEmptyOutcome, rightOutcome, bottomOutcome, containsOutcome, translateOutcome, intersectionOutcome, padOutcome, downsampleOutcome, alignedOutcome};
+ghost use Rattle.region.specs.Answers.{isEmptyOutcome, rightOutcome, bottomOutcome, containsOutcome};
+ghost use Rattle.region_arithmetic.specs.Answers.{translateOutcome, intersectionOutcome, padOutcome, downsampleOutcome, alignedOutcome};
 ghost use Rattle.sigma.specs.Outcome.{SigmasOutcome, sigmasOutcome};
 ghost use Rattle.runs.specs.Start.{StartOutcome, startOutcome};
 ghost use Rattle.runs.specs.Band.{Outcome, bandOutcome, advanceOutcome};
@@ -71,35 +72,35 @@ pub extern "C" fn loupe_region_contains(r: Region, target: Region) -> BoolAnswer
 pub extern "C" fn loupe_region_translate(r: Region, x: i32, y: i32) -> RegionAnswer
     ensures { λ a. ⌜ a ≡ translateOutcome r x y ⌝ }
 {
-    r.translate(x, y)
+    region_arithmetic::translate(r, x, y)
 }
 
 #[no_mangle]
 pub extern "C" fn loupe_region_intersection(a: Region, b: Region) -> RegionAnswer
     ensures { λ c. ⌜ c ≡ intersectionOutcome a b ⌝ }
 {
-    a.intersection(b)
+    region_arithmetic::intersection(a, b)
 }
 
 #[no_mangle]
 pub extern "C" fn loupe_region_pad(r: Region, size: u32) -> RegionAnswer
     ensures { λ a. ⌜ a ≡ padOutcome r size ⌝ }
 {
-    r.pad(size)
+    region_arithmetic::pad(r, size)
 }
 
 #[no_mangle]
 pub extern "C" fn loupe_region_downsample(r: Region, factor: u32) -> RegionAnswer
     ensures { λ a. ⌜ a ≡ downsampleOutcome r factor ⌝ }
 {
-    r.downsample(factor)
+    region_arithmetic::downsample(r, factor)
 }
 
 #[no_mangle]
 pub extern "C" fn loupe_region_container_aligned(r: Region, grid_dim: u32) -> RegionAnswer
     ensures { λ a. ⌜ a ≡ alignedOutcome r «grid_dim» ⌝ }
 {
-    r.container_aligned(grid_dim)
+    region_arithmetic::container_aligned(r, grid_dim)
 }
 
 #[no_mangle]

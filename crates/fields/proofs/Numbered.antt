@@ -9,8 +9,8 @@ use lib.Dec.{eqb}
 use lib.ListN.{length}
 use lib.Ieee.{Float}
 use Rattle.numbers.specs.Checks.{firstOf}
-use Rattle.half.specs.Outcome.{Outcome, accepted, refused, andThen, judged}
-use Rattle.half.specs.Bits.{u, field, fieldChecks}
+use Rattle.bits.specs.Outcome.{Outcome, accepted, refused, andThen, judged}
+use Rattle.bits.specs.Bits.{u, field, fieldChecks}
 use Rattle.half.specs.Value.{halfOf}
 use Rattle.half.specs.Half.{f16, finite, halfChecks}
 use Rattle.fields.specs.Fields.{Fields, bits, half, halves, refuse, bundle, read, f16s, ifThere}

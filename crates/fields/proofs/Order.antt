@@ -1,6 +1,6 @@
 -- What a table whose first row is always there refuses first. Assumes nothing.
 use mathlib.Core.Path.{sym}
-use Rattle.half.proofs.Judged.{u-long, u-short}
+use Rattle.bits.proofs.Judged.{u-long, u-short}
 use Rattle.fields.specs.Fields.{read}
 use Rattle.fields.specs.Order.{TooLong, RunsOut}
 

@@ -5,8 +5,8 @@ use mathlib.Core.List.{List}
 use mathlib.Core.Path.{_≡_, refl, sym, ap, _∙_}
 use borrow.Author.Tests.{eq-eqb, ne-eqb}
 use lib.ListN.{length}
-use Rattle.half.specs.Outcome.{Outcome, accepted, refused, andThen}
-use Rattle.half.specs.Bits.{u}
+use Rattle.bits.specs.Outcome.{Outcome, accepted, refused, andThen}
+use Rattle.bits.specs.Bits.{u}
 use Rattle.half.specs.Half.{f16}
 use Rattle.fields.specs.Fields.{Fields, bits, half, halves, refuse, bundle, nested, read, f16s, ifThere, yes}
 

@@ -5,8 +5,8 @@ use mathlib.Core.List.{List, [], _∷_, _++_}
 use lib.Dec.{eqb}
 use lib.ListN.{length}
 use lib.Ieee.{Float, ofBits, binary32}
-use Rattle.half.specs.Outcome.{Outcome, accepted, refused, andThen}
-use Rattle.half.specs.Bits.{u}
+use Rattle.bits.specs.Outcome.{Outcome, accepted, refused, andThen}
+use Rattle.bits.specs.Bits.{u}
 use Rattle.half.specs.Half.{f16}
 
 -- A row is a field: the condition under which it is in the stream, its width, the value that it has where it is not, and, over that value, the rows below.

@@ -5,7 +5,7 @@ use mathlib.Core.List.{List}
 use mathlib.Core.Path.{_≡_}
 use lib.ListN.{length}
 use Rattle.numbers.specs.Numbers.{bitsRunOut, wrongLength}
-use Rattle.half.specs.Outcome.{refused}
+use Rattle.bits.specs.Outcome.{refused}
 use Rattle.fields.specs.Fields.{Fields, bits, read}
 
 -- a slice of more than 65,536 bytes gives 7, whatever it holds and wherever it is read

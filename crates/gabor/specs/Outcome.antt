@@ -8,7 +8,7 @@ use lib.ListN.{length}
 use lib.Ieee.{Float}
 use Rattle.numbers.specs.Numbers.{wrongLength, outOfRange}
 use Rattle.numbers.specs.Checks.{firstOf}
-use Rattle.region.specs.Answers.{placedChecks}
+use Rattle.placement.specs.Placed.{placedChecks}
 use Rattle.region.specs.declared.Region.{Region}
 use Rattle.planes.specs.declared.Layout.{Layout}
 use Rattle.planes.specs.Band.{inner, passed, setFits, rowsFit}

@@ -4,8 +4,8 @@ use mathlib.Core.Bool.{Bool, true, cond}
 use mathlib.Core.List.{List, [], _∷_}
 use mathlib.Core.Path.{_≡_, ap}
 use lib.Ieee.{Float}
-use Rattle.half.specs.Outcome.{accepted, refused}
-use Rattle.half.specs.Bits.{u}
+use Rattle.bits.specs.Outcome.{accepted, refused}
+use Rattle.bits.specs.Bits.{u}
 use Rattle.fields.specs.Fields.{bundle, nested, read}
 use Rattle.gabor_header.specs.Gabor.{channelFields, channelsFields, weightFields, gaborFields, gaborOff, gaborWith, sideWeight, cornerWeight}
 use Rattle.fields.proofs.Rows.{is-yes, is-no}

@@ -4,7 +4,7 @@ use mathlib.Core.Bool.{Bool, true, false, cond, _&&_}
 use mathlib.Core.List.{List, [], _∷_}
 use lib.Ieee.{Float, nan, inf, fin, add, mul, lt, ofBits, binary32}
 use Rattle.numbers.specs.Numbers.{kernelNearZero}
-use Rattle.half.specs.Outcome.{Outcome, accepted, refused, number, value, next}
+use Rattle.bits.specs.Outcome.{Outcome, accepted, refused, number, value, next}
 use Rattle.fields.specs.Fields.{Fields, bits, half, refuse, bundle, nested, read, yes, none}
 use Rattle.gabor_header.specs.declared.Gabor.{Gabor}
 use Rattle.gabor_header.specs.declared.GaborAnswer.{GaborAnswer}

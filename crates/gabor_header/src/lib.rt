@@ -3,10 +3,10 @@ ghost use mathlib.Core.Path.{_≡_};
 ghost use mathlib.Core.Bool.{true, cond};
 ghost use mathlib.Core.List.{[], _∷_};
 ghost use Rattle.numbers.specs.Numbers.{kernelNearZero};
-ghost use Rattle.half.specs.Outcome.{accepted, refused};
+ghost use Rattle.bits.specs.Outcome.{accepted, refused};
 ghost use Rattle.fields.specs.Fields.{read};
 ghost use Rattle.gabor_header.specs.Gabor.{nearZero, channelFields, channelsFields, weightFields, gaborOff, gaborAt, gaborAnswer, channelOutcome};
-use half::Bits;
+use bits::Bits;
 use half::Half;
 
 // Three channels (X, Y, B) of two weights: of the side neighbours, of the corners.
@@ -124,7 +124,7 @@ fn custom_weights(bytes: &[u8], at: usize) -> GaborAnswer
 fn gabor_on(bytes: &[u8], at: usize) -> GaborAnswer
     ensures { λ r. ⌜ r ≡ gaborAnswer (read weightFields (now (bytes .entry)) at) ⌝ }
 {
-    match half::read_u1(bytes, at) {
+    match bits::read_u1(bytes, at) {
         Bits::Value(custom, next) => {
             if custom == 0 {
                 gabor_accepted(true, [[SIDE, CORNER], [SIDE, CORNER], [SIDE, CORNER]], next)
@@ -147,7 +147,7 @@ impl Gabor {
     pub fn parse(bytes: &[u8], at: usize) -> GaborAnswer
         ensures { λ r. ⌜ r ≡ gaborAnswer (gaborAt (now (bytes .entry)) at) ⌝ }
     {
-        match half::read_u1(bytes, at) {
+        match bits::read_u1(bytes, at) {
             Bits::Value(enabled, next) => {
                 if enabled == 0 {
                     gabor_accepted(false, [[0.0; 2]; 3], next)

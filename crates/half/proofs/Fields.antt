@@ -1,17 +1,12 @@
--- A binary32 from its three fields, and a field of bits from its last bit to its first. Assumes nothing.
-use Prim.Native.Nat.{ℕ, zero, suc, _+_, _-_, _*_, _/_, _%_, _^_, _<_, _≤_}
+-- A binary32 from its three fields. Assumes nothing.
+use Prim.Native.Nat.{ℕ, suc, _+_, _*_, _/_, _%_, _<_}
 use mathlib.Core.Bool.{Bool, true, false, not}
-use mathlib.Core.List.{List}
-use mathlib.Core.Path.{_≡_, refl, ap, _∙_}
-use native.Mathlib.Nat.{pow-suc}
+use mathlib.Core.Path.{_≡_, refl}
 use native.Mathlib.Omega.{arith}
 use borrow.Author.Tests.{le-leb, lt-leb, leb-true, leb-false, ne-eqb}
 use lib.Dec.{T, leb}
-use lib.Pow.{pow-mono}
 use lib.Ieee.{ofFields, ofBits, nanBits, binary32, odd}
-use Rattle.half.specs.Bits.{bit, field}
 
--- ---- binary32
 module _ (s x t : ℕ) (hs : s < 2) (hx : x < 255) (ht : t < 8388608) where
   abbrev pattern : ℕ
   pattern = s * 2147483648 + x * 8388608 + t
@@ -44,34 +39,3 @@ normal-fields s y t h = rw (ne-eqb (suc y) 255 (λ e. none e))
   where
     none : suc y ≡ 255 → ⊥
     none e = omega arith
-
--- ---- fields of bits
-pub field-below : (s : List ℕ) (p n : ℕ) → field s p n < 2 ^ n
-unfolding field
-field-below s p zero = omega arith
-field-below s p (suc n) = omega (arith, field-below s (p + 1) n, pow-suc 2 n)
-
-pub field-within : (s : List ℕ) (p n m : ℕ) → n ≤ m → field s p n < 2 ^ m
-field-within s p n m h = omega (arith, field-below s p n, pow-mono {i = n} {j = m} h)
-
--- the loop of `field_at`: nothing read, one bit more before what was read, all read
-pub field-none : (s : List ℕ) (p n : ℕ) → 0 ≡ field s p (n - n)
-unfolding field
-field-none s p n = ap (field s p) e
-  where
-    e : 0 ≡ n - n
-    e = omega arith
-
-pub field-turn : (s : List ℕ) (at width left v : ℕ) → 0 < left → left ≤ width → v ≡ field s (at + left) (width - left)
-    → v * 2 + bit s (at + (left - 1)) ≡ field s (at + (left - 1)) (width - (left - 1))
-unfolding field
-field-turn s at width left v h k e =
-    let p : at + left ≡ at + (left - 1) + 1 = omega arith in
-    let n : width - (left - 1) ≡ suc (width - left) = omega arith in
-    rw (e, p, n) (omega arith)
-
-pub field-all : (s : List ℕ) (at width left v : ℕ) → left ≤ 0 → v ≡ field s (at + left) (width - left) → v ≡ field s at width
-field-all s at width left v h e =
-    let p : at + left ≡ at = omega arith in
-    let n : width - left ≡ width = omega arith in
-    e ∙ rw (p, n)

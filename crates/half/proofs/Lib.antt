@@ -1,4 +1,3 @@
 pub mod Significand
 pub mod Fields
 pub mod Widened
-pub mod Judged

@@ -5,8 +5,8 @@ use lib.Dec.{eqb}
 use lib.Ieee.{Float, ofBits, binary32}
 use Rattle.numbers.specs.Numbers.{halfNotFinite}
 use Rattle.numbers.specs.Checks.{Check, always, firstOf}
-use Rattle.half.specs.Outcome.{Outcome, accepted, refused, judged, andThen, number, value, next}
-use Rattle.half.specs.Bits.{u}
+use Rattle.bits.specs.Outcome.{Outcome, accepted, refused, judged, andThen, number, value, next}
+use Rattle.bits.specs.Bits.{u}
 use Rattle.half.specs.Value.{exponentOf, halfOf}
 use Rattle.half.specs.declared.Half.{Half}
 use Rattle.half.specs.declared.Half.the-variants.{Value, Refused}

@@ -1,4 +1,2 @@
-pub mod Outcome
-pub mod Bits
 pub mod Value
 pub mod Half

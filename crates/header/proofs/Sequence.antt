@@ -4,7 +4,7 @@ use mathlib.Core.Bool.{Bool, true, false, cond}
 use mathlib.Core.List.{List}
 use mathlib.Core.Path.{_≡_, refl, sym, ap, _∙_}
 use native.Mathlib.Omega.{arith}
-use Rattle.half.specs.Outcome.{Outcome, accepted, refused, number, value, next}
+use Rattle.bits.specs.Outcome.{Outcome, accepted, refused, number, value, next}
 use Rattle.fields.specs.Fields.{bundle, nested, read, yes}
 use Rattle.gabor_header.specs.Gabor.{channelFields, channelsFields, weightFields, gaborFields, gaborOff, gaborAnswer}
 use Rattle.epf_header.specs.EdgeFilter.{parameterFields, epfFields, epfOff, epfAnswer}

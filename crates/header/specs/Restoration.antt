@@ -1,7 +1,7 @@
 -- Both bundles in sequence, as `RestorationFilter` has them (without `all_default` and extensions).
 use Prim.Native.Nat.{ℕ}
 use mathlib.Core.List.{List}
-use Rattle.half.specs.Outcome.{Outcome, number, value, next}
+use Rattle.bits.specs.Outcome.{Outcome, number, value, next}
 use Rattle.fields.specs.Fields.{Fields, bundle, nested, read}
 use Rattle.gabor_header.specs.Gabor.{gaborFields, gaborOff}
 use Rattle.epf_header.specs.EdgeFilter.{epfFields, epfOff}

@@ -1,6 +1,6 @@
 // Both filter bundles of a frame header in sequence, as `RestorationFilter` has them (without `all_default` and extensions).
 ghost use mathlib.Core.Path.{_≡_};
-ghost use Rattle.half.specs.Outcome.{refused};
+ghost use Rattle.bits.specs.Outcome.{refused};
 ghost use Rattle.header.specs.Restoration.{restorationAt, restorationAnswer};
 use epf_header::EdgePreservingFilter;
 use epf_header::Encoding;

@@ -3,11 +3,12 @@ use mathlib.Core.Path.{refl}
 use lib.Ieee.{ofBits, lt, add, sub, mul, div}
 use Rattle.mirror.specs.Mirror.{mirror}
 use Rattle.interval.specs.Powers.{powerBelow}
-use Rattle.interval.specs.Interval.{place, side}
-use Rattle.region.specs.Regions.{regionOf, shrunkBy, alignedTo, inside}
+use Rattle.axis.specs.Measures.{place, side}
+use Rattle.region.specs.Regions.{regionOf, inside}
+use Rattle.region_arithmetic.specs.Arithmetic.{shrunkBy, alignedTo}
 use Rattle.region.specs.Measures.{measured, pictured}
-use Rattle.region.specs.Answers.{regionAnswer}
-use Rattle.half.specs.Bits.{u, field}
+use Rattle.region_arithmetic.specs.Answers.{regionAnswer}
+use Rattle.bits.specs.Bits.{u, field}
 use Rattle.half.specs.Value.{valueOf, halfOf}
 use Rattle.half.specs.Half.{f16}
 use Rattle.fields.specs.Fields.{nested, read}

@@ -11,9 +11,9 @@ use lib.Ieee.{Float, nan}
 use Rattle.mirror.specs.declared.MirrorAnswer.{MirrorAnswer}
 use Rattle.mirror.specs.Outcome.{mirrorOutcome}
 use Rattle.region.specs.declared.Region.{Region}
-use Rattle.region.specs.declared.RegionAnswer.{RegionAnswer}
-use Rattle.region.specs.Answers.{downsampleOutcome, alignedOutcome}
-use Rattle.half.specs.Outcome.{Outcome, accepted, refused}
+use Rattle.region_arithmetic.specs.declared.RegionAnswer.{RegionAnswer}
+use Rattle.region_arithmetic.specs.Answers.{downsampleOutcome, alignedOutcome}
+use Rattle.bits.specs.Outcome.{Outcome, accepted, refused}
 use Rattle.half.specs.Half.{f16}
 use Rattle.gabor_header.specs.declared.Gabor.{Gabor}
 use Rattle.gabor_header.specs.Gabor.{gaborOff, gaborWith, gaborAt}

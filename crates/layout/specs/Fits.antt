@@ -13,13 +13,13 @@ use lib.Ieee.Fits.{and-l, and-r}
 use lib.Signed.{leZ}
 use Rattle.numbers.specs.Numbers.{outOfMeasure, notInside, wrongLength, outOfRange}
 use Rattle.numbers.specs.Checks.{firstOf}
-use Rattle.interval.specs.Interval.{covers}
+use Rattle.overlap.specs.Overlap.{covers}
 use Rattle.interval.specs.Order.{le-to, sum-is, difference-is, size-is, ahead}
 use Rattle.region.specs.declared.Region.{Region}
 use Rattle.region.specs.Regions.{columns, rows, inside}
 use Rattle.region.specs.Measures.{pictured, pictured-measured, pictured-width, pictured-height, measured-width, measured-height}
-use Rattle.region.specs.declared.PlacedAnswer.{PlacedAnswer}
-use Rattle.region.specs.Answers.{placedChecks, placedOutcome}
+use Rattle.placement.specs.declared.PlacedAnswer.{PlacedAnswer}
+use Rattle.placement.specs.Placed.{placedChecks, placedOutcome}
 use Rattle.planes.specs.declared.Layout.{Layout}
 use Rattle.planes.specs.Band.{layoutFits, setFits, rowsFit}
 use Rattle.planes.specs.Stored.{LayoutFits}

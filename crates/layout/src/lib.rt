@@ -1,9 +1,9 @@
 // Where a filter region lies in the planes of an image region: what every pass takes from the two regions.
 use numbers::ACCEPTED;
+use placement::placed;
 use planes::Layout;
 use planes::Size;
 use region::Region;
-use region::placed;
 ghost use mathlib.Core.Path.{_≡_};
 ghost use Rattle.layout.specs.Outcome.{layoutOutcome, noLayout};
 

@@ -13,7 +13,7 @@ use Rattle.region.specs.Regions.{inside}
 use Rattle.region.specs.Measures.{pictured, pictured-measured, pictured-width, pictured-height, pictured-area, measured-width, measured-height}
 use Rattle.numbers.specs.Checks.{firstOf}
 use Rattle.region.specs.declared.Region.{Region}
-use Rattle.region.specs.Answers.{placedChecks, placed-inside}
+use Rattle.placement.specs.Placed.{placedChecks, placed-inside}
 use Rattle.layout.specs.Fits.{Accepted, layout-accepted}
 use Rattle.groups.specs.Table.{someBelow}
 use Rattle.groups.specs.Laws.{neither, none-below}

@@ -9,8 +9,8 @@ use lib.Dec.{leb, ltb}
 use Rattle.region.specs.declared.Region.{Region}
 use Rattle.region.specs.Regions.{inside}
 use Rattle.region.specs.Measures.{pictured}
-use Rattle.region.specs.declared.PlacedAnswer.{PlacedAnswer}
-use Rattle.region.specs.Answers.{placedChecks, placedOutcome}
+use Rattle.placement.specs.declared.PlacedAnswer.{PlacedAnswer}
+use Rattle.placement.specs.Placed.{placedChecks, placedOutcome}
 use Rattle.numbers.specs.Numbers.{outOfMeasure, notInside}
 use Rattle.numbers.specs.Checks.{firstOf}
 use Rattle.layout.specs.Outcome.{layoutOf}

@@ -1,4 +1,3 @@
 pub mod Regions
 pub mod Measures
 pub mod Answers
-pub mod Laws

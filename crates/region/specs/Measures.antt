@@ -8,8 +8,9 @@ use lib.Ieee.Fits.{and-l, and-r, and-i}
 use lib.IntN.{ℤ, pos}
 use lib.Signed.{leZ, mag}
 use Rattle.interval.specs.Integers.{greatest}
-use Rattle.interval.specs.Interval.{extent, vacant, meet, place, side, measured as measuredSpan}
-use Rattle.interval.specs.Measures.{place-size, side-size, side-of, extent-back}
+use Rattle.interval.specs.Interval.{extent}
+use Rattle.overlap.specs.Overlap.{vacant, meet}
+use Rattle.axis.specs.Measures.{place, side, measured as measuredSpan, place-size, side-size, side-of, extent-back}
 use Rattle.interval.specs.Order.{mag-add, between, greatest-over-left, least-under-left, le-of, not-le}
 use Rattle.interval.specs.declared.Span.{Span}
 use Rattle.region.specs.Regions.{columns, rows, regionOf}

@@ -6,7 +6,7 @@ use crate::forms::u32_at;
 use region::BoolAnswer;
 use region::EdgeAnswer;
 use region::Region;
-use region::RegionAnswer;
+use region_arithmetic::RegionAnswer;
 ghost use Prim.Native.Nat.{_<_};
 
 fn region_at(n: &[i64], i: usize) -> Region
@@ -60,21 +60,41 @@ pub fn contains(n: &[i64]) -> bool {
 
 pub fn translate(n: &[i64]) -> bool {
     has_form(n, b"iiuuiiuiiuu")
-        && has_region(n, 6, region_at(n, 0).translate(i32_at(n, 4), i32_at(n, 5)))
+        && has_region(
+            n,
+            6,
+            region_arithmetic::translate(region_at(n, 0), i32_at(n, 4), i32_at(n, 5)),
+        )
 }
 
 pub fn intersection(n: &[i64]) -> bool {
-    has_form(n, b"iiuuiiuuuiiuu") && has_region(n, 8, region_at(n, 0).intersection(region_at(n, 4)))
+    has_form(n, b"iiuuiiuuuiiuu")
+        && has_region(
+            n,
+            8,
+            region_arithmetic::intersection(region_at(n, 0), region_at(n, 4)),
+        )
 }
 
 pub fn pad(n: &[i64]) -> bool {
-    has_form(n, b"iiuuuuiiuu") && has_region(n, 5, region_at(n, 0).pad(u32_at(n, 4)))
+    has_form(n, b"iiuuuuiiuu")
+        && has_region(n, 5, region_arithmetic::pad(region_at(n, 0), u32_at(n, 4)))
 }
 
 pub fn downsample(n: &[i64]) -> bool {
-    has_form(n, b"iiuuuuiiuu") && has_region(n, 5, region_at(n, 0).downsample(u32_at(n, 4)))
+    has_form(n, b"iiuuuuiiuu")
+        && has_region(
+            n,
+            5,
+            region_arithmetic::downsample(region_at(n, 0), u32_at(n, 4)),
+        )
 }
 
 pub fn container_aligned(n: &[i64]) -> bool {
-    has_form(n, b"iiuuuuiiuu") && has_region(n, 5, region_at(n, 0).container_aligned(u32_at(n, 4)))
+    has_form(n, b"iiuuuuiiuu")
+        && has_region(
+            n,
+            5,
+            region_arithmetic::container_aligned(region_at(n, 0), u32_at(n, 4)),
+        )
 }

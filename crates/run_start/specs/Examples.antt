@@ -6,7 +6,7 @@ use Prim.Native.Nat.{ℕ}
 use lib.IntN.{ℤ, pos}
 use lib.ListN.{replicate}
 use lib.Ieee.{nan}
-use Rattle.interval.specs.Interval.{place, side}
+use Rattle.axis.specs.Measures.{place, side}
 use Rattle.region.specs.Regions.{inside}
 use Rattle.region.specs.Measures.{measured, pictured}
 use Rattle.layout.specs.Outcome.{layoutOf}

@@ -10,11 +10,11 @@ use lib.ListN.{length}
 use lib.Ieee.{Float}
 use Rattle.numbers.specs.Numbers.{outOfMeasure, notInside, notOnBlocks, wrongLength, blockNotHeld, outOfRange}
 use Rattle.numbers.specs.Checks.{Check, always, given, applies, firstOf}
-use Rattle.interval.specs.Measures.{place-size}
+use Rattle.axis.specs.Measures.{place-size}
 use Rattle.region.specs.declared.Region.{Region}
 use Rattle.region.specs.Regions.{inside}
 use Rattle.region.specs.Measures.{pictured, pictured-measured, pictured-width, pictured-height, pictured-area, measured-left, measured-top, measured-width, measured-height}
-use Rattle.region.specs.Answers.{placedChecks}
+use Rattle.placement.specs.Placed.{placedChecks}
 use Rattle.planes.specs.Stored.{and-first, and-second}
 use Rattle.layout.specs.Outcome.{layoutOf}
 use Rattle.tiles.specs.Tile.{across as layoutAcross}

@@ -5,7 +5,7 @@ use Prim.Native.Nat.{ℕ}
 use lib.Ieee.{Float}
 use Rattle.numbers.specs.Numbers.{notOnBlocks, outOfRange}
 use Rattle.numbers.specs.Checks.{Check, always, given, firstOf}
-use Rattle.region.specs.Answers.{placedChecks}
+use Rattle.placement.specs.Placed.{placedChecks}
 use Rattle.frame.specs.declared.Frame.{Frame}
 use Rattle.groups.specs.Outcome.{sigmaNumber}
 use Rattle.epf.specs.Blocks.{onBlocks}

@@ -1,6 +1,6 @@
 -- `epf_header::read_custom_scale` meets its contract. Assumes nothing.
 use borrow.Author.Needs.{needs}
-use Rattle.half.specs.Bits.{bitsOutcome}
+use Rattle.bits.specs.Bits.{bitsOutcome}
 use Rattle.fields.proofs.Rows.{told}
 use Rattle.epf_header.proofs.Told.{told-place}
 use Rattle.epf_header.proofs.EpfCases.{own-scale-refused, own-scale-short, own-scale}

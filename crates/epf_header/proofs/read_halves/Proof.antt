@@ -5,7 +5,7 @@ use native.Mathlib.Omega.{arith}
 use borrow.Author.Needs.{needs}
 use denote.Ref.{now}
 use lib.ListN.{length, take, length-set}
-use Rattle.half.specs.Outcome.{accepted}
+use Rattle.bits.specs.Outcome.{accepted}
 use Rattle.half.specs.Half.{halfOutcome}
 use Rattle.fields.specs.Fields.{f16s}
 use Rattle.fields.proofs.Rows.{told}

@@ -1,7 +1,7 @@
 -- `epf_header::read_sharp_lut` meets its contract. Assumes nothing.
 use borrow.Author.Needs.{needs}
 use mathlib.Core.Path.{_∙_}
-use Rattle.half.specs.Bits.{bitsOutcome}
+use Rattle.bits.specs.Bits.{bitsOutcome}
 use Rattle.fields.proofs.Rows.{told}
 use Rattle.epf_header.proofs.EpfCases.{sharp-refused, sharp-off, sharp-on}
 use Rattle.epf_header.proofs.read_sharp_lut.Statement.{statement}

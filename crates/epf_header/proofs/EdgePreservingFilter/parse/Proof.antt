@@ -2,7 +2,7 @@
 use borrow.Author.Needs.{needs}
 use mathlib.Core.Path.{ap, _∙_}
 use Rattle.epf_header.specs.EdgeFilter.{epfAnswer}
-use Rattle.half.specs.Bits.{bitsOutcome}
+use Rattle.bits.specs.Bits.{bitsOutcome}
 use Rattle.fields.proofs.Rows.{told}
 use Rattle.epf_header.proofs.EpfCases.{epf-refused, epf-off, epf-on}
 use Rattle.epf_header.proofs.EdgePreservingFilter.parse.Statement.{statement}

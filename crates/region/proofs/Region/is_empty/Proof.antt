@@ -15,14 +15,14 @@ returns : tie.Need-returns
 returns c =
     let s = c .before .before .before .args in
     let m = sym (c .before .before .measured .ensures) ∙ not-true (c .before .if1 .taken) in
-    c .untold .ensures ∙ ap (λ (n : ℕ). boolAnswer n (isEmpty (s .self))) (sym (given-fails (s .self) (s .self) m))
+    c .untold .ensures ∙ ap (λ (n : ℕ). boolAnswer n (isEmpty (s .self))) (sym (given-fails (s .self) m))
 
 returns-2 : tie.Need-returns-2
 returns-2 c =
     let s = c .before .before .before .before .args in
     let m = sym (c .before .before .before .measured .ensures) ∙ not-false (c .before .before .if1 .left) in
     let e = rw (c .before .empty .ensures) at (c .told .ensures) in
-    e ∙ ap (λ (n : ℕ). boolAnswer n (isEmpty (s .self))) (sym (given-holds (s .self) (s .self) m))
+    e ∙ ap (λ (n : ℕ). boolAnswer n (isEmpty (s .self))) (sym (given-holds (s .self) m))
 
 pub is-empty-spec : {M : Type 1} → statement M
 is-empty-spec = tie.close (tie.spec (λ c κs. search needs) (λ c κs. search needs) returns (λ c κs. search needs) (λ c κs. search needs) returns-2)

@@ -1,0 +1,2 @@
+pub mod Overlap
+pub mod Laws

@@ -1,0 +1,17 @@
+-- What intervals have in common: none, all, or the meet.
+use mathlib.Core.Bool.{Bool, _&&_}
+use lib.Signed.{leZ}
+use Rattle.interval.specs.Integers.{least, greatest}
+use Rattle.interval.specs.declared.Span.{Span}
+
+-- no place
+abbrev pub vacant : Span → Bool
+vacant s = leZ (s .end) (s .start)
+
+-- each place of b is a place of a
+abbrev pub covers : Span → Span → Bool
+covers a b = leZ (a .start) (b .start) && leZ (b .end) (a .end)
+
+-- the places that are in both
+abbrev pub meet : Span → Span → Span
+meet a b = record { start = greatest (a .start) (b .start); end = least (a .end) (b .end) }

@@ -1,0 +1,67 @@
+// Where a filter region lies in an image region.
+use numbers::ACCEPTED;
+use numbers::NOT_INSIDE;
+use numbers::OUT_OF_MEASURE;
+use region::Region;
+use region::measured;
+ghost use mathlib.Core.Path.{_≡_};
+ghost use Rattle.region.specs.Measures.{pictured, areaFits};
+ghost use Rattle.placement.specs.Placed.{placedOutcome};
+
+// Columns and rows from the image's corner.
+#[repr(C)]
+pub struct PlacedAnswer {
+    pub number: u32,
+    pub x: u32,
+    pub y: u32,
+}
+
+const LARGEST_AREA: u64 = 16_777_216;
+
+fn area_fits(width: u32, height: u32) -> bool
+    ensures { λ b. ⌜ b ≡ areaFits width height ⌝ }
+{
+    if width < 1 {
+        return false;
+    }
+    if height < 1 {
+        return false;
+    }
+    (width as u64) * (height as u64) <= LARGEST_AREA
+}
+
+// A region that an image or a filter may have.
+fn pictured(r: Region) -> bool
+    ensures { λ b. ⌜ b ≡ pictured r ⌝ }
+{
+    if !measured(r) {
+        return false;
+    }
+    area_fits(r.width, r.height)
+}
+
+fn unplaced(number: u32) -> PlacedAnswer
+    ensures { λ r. ⌜ r ≡ record { number = number; x = 0; y = 0 } ⌝ }
+{
+    PlacedAnswer { number, x: 0, y: 0 }
+}
+
+// Where a filter region lies in an image region, for the passes: 4 where either is no region of a picture, 5 where it is not inside.
+pub fn placed(image: Region, filter: Region) -> PlacedAnswer
+    ensures { λ r. ⌜ r ≡ placedOutcome image filter ⌝ }
+{
+    if !pictured(image) {
+        return unplaced(OUT_OF_MEASURE);
+    }
+    if !pictured(filter) {
+        return unplaced(OUT_OF_MEASURE);
+    }
+    if !image.contains(filter).holds {
+        return unplaced(NOT_INSIDE);
+    }
+    PlacedAnswer {
+        number: ACCEPTED,
+        x: axis::offset(image.left, filter.left),
+        y: axis::offset(image.top, filter.top),
+    }
+}

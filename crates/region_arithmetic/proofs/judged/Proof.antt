@@ -1,0 +1,57 @@
+-- `judged` meets its contract. Assumes nothing.
+use mathlib.Core.Path.{_≡_, refl, sym, ap, _∙_}
+use mathlib.Core.Bool.{true, false}
+use Prim.Native.Nat.{ℕ}
+use native.Mathlib.Omega.{arith}
+use borrow.Author.Needs.{needs}
+use Rattle.interval.proofs.Flags.{not-true, not-false, yes}
+use mir.Syntax.{w32}
+use mir.Facts.{toZ-ofZ}
+use Rattle.axis.specs.Measures.{measured as measuredSpan}
+use Rattle.axis.specs.Measures.{axis-ok, axis-yes}
+use Rattle.region_arithmetic.specs.Answers.{regionAnswer, judgedNumber}
+use Rattle.region.specs.Measures.{measured, measured-spans}
+use Rattle.region.specs.Regions.{regionOf}
+use Rattle.region_arithmetic.proofs.judged.Statement.{statement}
+use Rattle.region_arithmetic.proofs.judged.Tie as tie
+
+across-is : (c : tie.After-judge2) → c .before .judge .result .ok ≡ measuredSpan (c .before .before .args .x)
+across-is c = rw (c .before .judge .ensures) (axis-ok (c .before .before .args .x))
+
+down-is : (c : tie.After-judge2) → c .judge2 .result .ok ≡ measuredSpan (c .before .before .args .y)
+down-is c = rw (c .judge2 .ensures) (axis-ok (c .before .before .args .y))
+
+returns : tie.Need-returns
+unfolding regionAnswer judgedNumber
+returns c =
+    let k = c .before .before .before in
+    let a = k .before .before .args in
+    c .refused .ensures ∙ rw (measured-spans (a .x) (a .y), sym (across-is k) ∙ not-true (c .before .if1 .taken))
+
+across-in : (c : tie.Else1) → measuredSpan (c .before .before .before .before .args .x) ≡ true
+across-in c = sym (across-is (c .before .before)) ∙ not-false (c .if1 .left)
+
+returns-2 : tie.Need-returns-2
+unfolding regionAnswer judgedNumber
+returns-2 c =
+    let e = c .before .before .before in
+    let k = e .before .before in
+    let a = k .before .before .args in
+    c .refused2 .ensures ∙ rw (measured-spans (a .x) (a .y), across-in e, sym (down-is k) ∙ not-true (c .before .if2 .taken))
+
+returns-3 : tie.Need-returns-3
+unfolding regionAnswer judgedNumber regionOf
+returns-3 c =
+    let t = c .before .before in
+    let e = t .before .before in
+    let k = e .before .before in
+    let a = k .before .before .args in
+    let down-in = sym (down-is k) ∙ not-false (t .if2 .left) in
+    let x = k .before .judge .ensures ∙ axis-yes (a .x) (across-in e) in
+    let y = k .judge2 .ensures ∙ axis-yes (a .y) down-in in
+    let l = toZ-ofZ {w = w32} {z = k .before .judge .result .start} (record { sfits = c .before .struct-told .given .1 .0 .1 }) in
+    let m = toZ-ofZ {w = w32} {z = k .judge2 .result .start} (record { sfits = c .struct-told2 .given .1 .0 .1 }) in
+    rw (measured-spans (a .x) (a .y), across-in e, down-in, l, m, x, y)
+
+pub judged-spec : {M : Type 1} → statement M
+judged-spec = tie.close (tie.spec (λ c κs. search needs) (λ c κs. search needs) (λ c κs. search needs) returns (λ c κs. search needs) returns-2 returns-3)

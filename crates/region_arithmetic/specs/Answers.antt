@@ -1,0 +1,79 @@
+-- What each function answers: the first number that applies, and the region, or zeros where it refuses.
+use mathlib.Core.Path.{_≡_}
+use mathlib.Core.Bool.{Bool, true, false, cond, not}
+use mathlib.Core.List.{List, [], _∷_}
+use Prim.Native.Nat.{ℕ}
+use lib.Dec.{eqb, leb}
+use lib.IntN.{ℤ}
+use Rattle.numbers.specs.Numbers.{outOfMeasure, outOfRange}
+use Rattle.numbers.specs.Checks.{Check, always, given, firstOf}
+use Rattle.interval.specs.Powers.{powerBelow}
+use Rattle.region.specs.Measures.{measured}
+use Rattle.region.specs.Regions.{zeroRegion}
+use Rattle.region.specs.Answers.{givenChecks, pairChecks}
+use Rattle.region.specs.declared.Region.{Region}
+use Rattle.region_arithmetic.specs.Arithmetic.{translated, intersected, paddedBy, downsampled, alignedTo}
+use Rattle.region_arithmetic.specs.declared.RegionAnswer.{RegionAnswer}
+
+unfoldable pub regionAnswer : ℕ → Region → RegionAnswer
+regionAnswer n r = record { number = n; region = cond (eqb n 0) r zeroRegion }
+
+-- ---- tables: the region that is given, and then the one that results
+
+abbrev pub resultChecks : Region → Region → List Check
+resultChecks r made = always outOfMeasure (not (measured r)) ∷ always outOfMeasure (not (measured made)) ∷ []
+
+-- a result is judged only where the setting that it needs is in range
+abbrev pub settingChecks : Region → Bool → Region → List Check
+settingChecks r sound made =
+    always outOfMeasure (not (measured r)) ∷ given sound outOfMeasure (not (measured made)) ∷ always outOfRange (not sound) ∷ []
+
+-- a factor: 0 to 16
+abbrev pub isFactor : ℕ → Bool
+isFactor f = leb f 16
+
+-- an alignment: a power of two from 1 to 8,192
+abbrev pub isAlignment : ℕ → Bool
+isAlignment d = powerBelow 14 d
+
+-- the number of a region that results
+unfoldable pub judgedNumber : Region → ℕ
+judgedNumber r = firstOf (givenChecks r)
+
+-- ---- the outcome of each public function, for every input
+
+abbrev pub translateOutcome : Region → ℤ → ℤ → RegionAnswer
+translateOutcome r x y = regionAnswer (firstOf (resultChecks r (translated x y r))) (translated x y r)
+
+abbrev pub intersectionOutcome : Region → Region → RegionAnswer
+intersectionOutcome a b = regionAnswer (firstOf (pairChecks a b)) (intersected a b)
+
+abbrev pub padOutcome : Region → ℕ → RegionAnswer
+padOutcome r size = regionAnswer (firstOf (resultChecks r (paddedBy size r))) (paddedBy size r)
+
+abbrev pub downsampleOutcome : Region → ℕ → RegionAnswer
+downsampleOutcome r factor = regionAnswer (firstOf (settingChecks r (isFactor factor) (downsampled factor r))) (downsampled factor r)
+
+abbrev pub alignedOutcome : Region → ℕ → RegionAnswer
+alignedOutcome r dim = regionAnswer (firstOf (settingChecks r (isAlignment dim) (alignedTo dim r))) (alignedTo dim r)
+
+-- ---- laws: the number given, by which test failed first
+
+module _ (r made : Region) where
+  pub result-fails : measured r ≡ false → firstOf (resultChecks r made) ≡ outOfMeasure
+  result-fails e = rw e
+
+  pub result-judged : measured r ≡ true → firstOf (resultChecks r made) ≡ judgedNumber made
+  unfolding judgedNumber
+  result-judged e = rw e
+
+  module _ (sound : Bool) where
+    pub setting-given : measured r ≡ false → firstOf (settingChecks r sound made) ≡ outOfMeasure
+    setting-given e = rw e
+
+    pub setting-fails : measured r ≡ true → sound ≡ false → firstOf (settingChecks r sound made) ≡ outOfRange
+    setting-fails e f = rw (e, f)
+
+    pub setting-judged : measured r ≡ true → sound ≡ true → firstOf (settingChecks r sound made) ≡ judgedNumber made
+    unfolding judgedNumber
+    setting-judged e f = rw (e, f)

@@ -1,0 +1,3 @@
+pub mod Arithmetic
+pub mod Answers
+pub mod Laws

@@ -1,0 +1,162 @@
+// Regions made from regions (region.rs). Each function judges the regions that it is given, and the one that results, by document 01's measures.
+use interval::Span;
+use numbers::ACCEPTED;
+use numbers::OUT_OF_MEASURE;
+use numbers::OUT_OF_RANGE;
+use region::Region;
+use region::measured;
+ghost use mathlib.Core.Path.{_≡_};
+ghost use lib.Dec.{T};
+ghost use Rattle.interval.specs.Interval.{spanOf};
+ghost use Rattle.overlap.specs.Overlap.{meet};
+ghost use Rattle.region.specs.Measures.{measured};
+ghost use Rattle.region.specs.Regions.{regionOf, zeroRegion};
+ghost use Rattle.region_arithmetic.specs.Arithmetic.{intersected};
+ghost use Rattle.region_arithmetic.specs.Answers.{regionAnswer, judgedNumber, isAlignment, translateOutcome, intersectionOutcome, padOutcome, downsampleOutcome, alignedOutcome};
+
+#[repr(C)]
+pub struct RegionAnswer {
+    pub number: u32,
+    pub region: Region,
+}
+
+const LARGEST_FACTOR: u32 = 16;
+// 2^13 is the largest alignment, 8,192.
+const LARGEST_EXPONENT: u32 = 13;
+
+fn refused(number: u32) -> RegionAnswer
+    ensures { λ r. ⌜ r ≡ record { number = number; region = zeroRegion } ⌝ }
+{
+    RegionAnswer {
+        number,
+        region: Region {
+            left: 0,
+            top: 0,
+            width: 0,
+            height: 0,
+        },
+    }
+}
+
+// The region of these columns and rows, if it is within the measures.
+fn judged(x: Span, y: Span) -> RegionAnswer
+    ensures { λ r. ⌜ r ≡ regionAnswer (judgedNumber (regionOf x y)) (regionOf x y) ⌝ }
+{
+    let across = axis::judge(x);
+    let down = axis::judge(y);
+    if !across.ok {
+        return refused(OUT_OF_MEASURE);
+    }
+    if !down.ok {
+        return refused(OUT_OF_MEASURE);
+    }
+    RegionAnswer {
+        number: ACCEPTED,
+        region: Region {
+            left: across.start,
+            top: down.start,
+            width: across.len,
+            height: down.len,
+        },
+    }
+}
+
+fn is_alignment(grid_dim: u32) -> bool
+    ensures { λ b. ⌜ b ≡ isAlignment «grid_dim» ⌝ }
+{
+    let exponent = u32::trailing_zeros(grid_dim);
+    if LARGEST_EXPONENT < exponent {
+        return false;
+    }
+    1u32 << exponent == grid_dim
+}
+
+pub fn translate(r: Region, x: i32, y: i32) -> RegionAnswer
+    ensures { λ a. ⌜ a ≡ translateOutcome r x y ⌝ }
+{
+    if !measured(r) {
+        return refused(OUT_OF_MEASURE);
+    }
+    judged(
+        interval::moved(r.left, r.width, x),
+        interval::moved(r.top, r.height, y),
+    )
+}
+
+// The places that both have, of n places from a on and m places from b on.
+fn shared(a: i32, n: u32, b: i32, m: u32) -> Span
+    ensures { λ s. ⌜ s ≡ meet (spanOf a n) (spanOf b m) ⌝ }
+{
+    overlap::meet(interval::span_of(a, n), interval::span_of(b, m))
+}
+
+// What two regions within the measures have in common.
+fn common(a: Region, b: Region) -> RegionAnswer
+    requires { ⌜ T (measured a) × T (measured b) ⌝ }
+    ensures { λ r. ⌜ r ≡ regionAnswer 0 (intersected a b) ⌝ }
+{
+    let x = shared(a.left, a.width, b.left, b.width);
+    let y = shared(a.top, a.height, b.top, b.height);
+    if overlap::vacant(x) {
+        return refused(ACCEPTED);
+    }
+    if overlap::vacant(y) {
+        return refused(ACCEPTED);
+    }
+    judged(x, y)
+}
+
+pub fn intersection(a: Region, b: Region) -> RegionAnswer
+    ensures { λ r. ⌜ r ≡ intersectionOutcome a b ⌝ }
+{
+    if !measured(a) {
+        return refused(OUT_OF_MEASURE);
+    }
+    if !measured(b) {
+        return refused(OUT_OF_MEASURE);
+    }
+    common(a, b)
+}
+
+pub fn pad(r: Region, size: u32) -> RegionAnswer
+    ensures { λ a. ⌜ a ≡ padOutcome r size ⌝ }
+{
+    if !measured(r) {
+        return refused(OUT_OF_MEASURE);
+    }
+    judged(
+        interval::padded(r.left, r.width, size),
+        interval::padded(r.top, r.height, size),
+    )
+}
+
+pub fn downsample(r: Region, factor: u32) -> RegionAnswer
+    ensures { λ a. ⌜ a ≡ downsampleOutcome r factor ⌝ }
+{
+    if !measured(r) {
+        return refused(OUT_OF_MEASURE);
+    }
+    if LARGEST_FACTOR < factor {
+        return refused(OUT_OF_RANGE);
+    }
+    judged(
+        interval::shrunk(r.left, r.width, factor),
+        interval::shrunk(r.top, r.height, factor),
+    )
+}
+
+pub fn container_aligned(r: Region, grid_dim: u32) -> RegionAnswer
+    ensures { λ a. ⌜ a ≡ alignedOutcome r «grid_dim» ⌝ }
+{
+    if !measured(r) {
+        return refused(OUT_OF_MEASURE);
+    }
+    if !is_alignment(grid_dim) {
+        return refused(OUT_OF_RANGE);
+    }
+    let exponent = u32::trailing_zeros(grid_dim);
+    judged(
+        interval::aligned(r.left, r.width, exponent),
+        interval::aligned(r.top, r.height, exponent),
+    )
+}
