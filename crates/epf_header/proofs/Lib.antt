@@ -1,3 +1,1 @@
-pub mod Told
-pub mod Halves
-pub mod EpfCases
+mod EpfCases

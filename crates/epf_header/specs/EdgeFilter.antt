@@ -5,9 +5,10 @@ use mathlib.Core.List.{List, [], _∷_}
 use lib.Ieee.{Float, ofBits, binary32}
 use Rattle.bits.specs.Outcome.{Outcome, number, value, next}
 use Rattle.fields.specs.Fields.{Fields, bits, half, halves, bundle, read, yes, none}
+use Rattle.epf_sigma.specs.declared.EpfSigma.{EpfSigma}
+use Rattle.epf_sigma.specs.Settings.{quantMul, pass0SigmaScale, pass2SigmaScale, borderSadMul, sigmaOf}
 use Rattle.epf_header.specs.declared.Encoding.{Encoding}
 use Rattle.epf_header.specs.declared.Encoding.the-variants.{VarDct, Modular}
-use Rattle.epf_header.specs.declared.EpfSigma.{EpfSigma}
 use Rattle.epf_header.specs.declared.EdgePreservingFilter.{EdgePreservingFilter}
 use Rattle.epf_header.specs.declared.EpfAnswer.{EpfAnswer}
 
@@ -37,26 +38,10 @@ sharpLut =
 abbrev pub channelScale : List Float
 channelScale = ofBits binary32 0x4220_0000 ∷ ofBits binary32 0x40a0_0000 ∷ ofBits binary32 0x4060_0000 ∷ []
 
--- 0.46, 0.9, 6.5, 2/3, 1
-abbrev pub quantMul : Float
-quantMul = ofBits binary32 0x3eeb_851f
-
-abbrev pub pass0SigmaScale : Float
-pass0SigmaScale = ofBits binary32 0x3f66_6666
-
-abbrev pub pass2SigmaScale : Float
-pass2SigmaScale = ofBits binary32 0x40d0_0000
-
-abbrev pub borderSadMul : Float
-borderSadMul = ofBits binary32 0x3f2a_aaab
-
 abbrev pub sigmaForModular : Float
 sigmaForModular = ofBits binary32 0x3f80_0000
 
 -- ---- the tables
-abbrev pub sigmaOf : Float → Float → Float → Float → EpfSigma
-sigmaOf q a b m = record { «quant_mul» = q; «pass0_sigma_scale» = a; «pass2_sigma_scale» = b; «border_sad_mul» = m }
-
 abbrev pub epfOff : EdgePreservingFilter
 epfOff =
     record {

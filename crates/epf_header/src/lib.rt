@@ -1,27 +1,22 @@
 // The edge-preserving filter bundle of a frame header, read at any bit place.
 ghost use mathlib.Core.Path.{_≡_};
-ghost use mathlib.Core.Bool.{true};
-ghost use lib.ListN.{length};
 ghost use Rattle.bits.specs.Outcome.{refused};
-ghost use Rattle.bits.specs.Bits.{u, bitsOutcome};
-ghost use Rattle.half.specs.Half.{f16, halfOutcome};
-ghost use Rattle.fields.specs.Fields.{ifThere, read, f16s};
-ghost use Rattle.epf_header.specs.Pieces.{placeOutcome, sigmaOutcome, sharpFields, customScaleFields, scaleFields, customSigmaFields, sigmaFields, settingFields};
+ghost use Rattle.fields.specs.Fields.{read};
+ghost use Rattle.epf_header.specs.Pieces.{settingFields};
 ghost use Rattle.epf_header.specs.EdgeFilter.{varDct, modular, epfOff, parameterFields, epfAt, epfAnswer};
 use bits::Bits;
+use epf_sigma::EpfSigma;
+use epf_sigma::Sigma;
+use epf_sigma::read_half_if;
+use epf_sigma::read_sigma;
+use epf_tables::Place;
+use epf_tables::read_channel_scale;
+use epf_tables::read_sharp_lut;
 use half::Half;
 
 pub enum Encoding {
     VarDct,
     Modular,
-}
-
-#[repr(C)]
-pub struct EpfSigma {
-    pub quant_mul: f32,
-    pub pass0_sigma_scale: f32,
-    pub pass2_sigma_scale: f32,
-    pub border_sad_mul: f32,
 }
 
 #[repr(C)]
@@ -41,18 +36,6 @@ pub struct EpfAnswer {
     pub next: usize,
 }
 
-// Where a reading that fills in values ends.
-enum Place {
-    Next(usize),
-    Refused(u32),
-}
-
-// What reading the sigma settings gives.
-enum Sigma {
-    Value(EpfSigma, usize),
-    Refused(u32),
-}
-
 // 0, 1/7, 2/7 and so on to 1.
 const SHARP_LUT: [f32; 8] = [
     0.0,
@@ -66,15 +49,6 @@ const SHARP_LUT: [f32; 8] = [
 ];
 
 const CHANNEL_SCALE: [f32; 3] = [40.0, 5.0, 3.5];
-
-const QUANT_MUL: f32 = 0.46;
-
-const PASS0_SIGMA_SCALE: f32 = 0.9;
-
-const PASS2_SIGMA_SCALE: f32 = 6.5;
-
-// 2/3.
-const BORDER_SAD_MUL: f32 = 0.6666667;
 
 const SIGMA_FOR_MODULAR: f32 = 1.0;
 
@@ -93,139 +67,6 @@ fn is_modular(encoding: Encoding) -> bool
     match encoding {
         Encoding::VarDct => false,
         Encoding::Modular => true,
-    }
-}
-
-fn read_u1_if(bytes: &[u8], at: usize, present: bool) -> Bits
-    ensures { λ r. ⌜ bitsOutcome r ≡ ifThere present (u 1 (now (bytes .entry)) at) 0 at ⌝ }
-{
-    if present {
-        return bits::read_u1(bytes, at);
-    }
-    Bits::Value(0, at)
-}
-
-fn read_half_if(bytes: &[u8], at: usize, present: bool, default: f32) -> Half
-    ensures { λ r. ⌜ halfOutcome r ≡ ifThere present (f16 (now (bytes .entry)) at) default at ⌝ }
-{
-    if present {
-        return half::read_f16_as_f32(bytes, at);
-    }
-    Half::Value(default, at)
-}
-
-// Fills in as many halves as there is room for.
-fn read_halves(bytes: &[u8], at: usize, out: &mut [f32]) -> Place
-    ensures { λ r. ⌜ placeOutcome r (now (out .exit)) ≡ f16s (length (now (out .entry))) (now (bytes .entry)) at ⌝ }
-{
-    let mut next = at;
-    let mut i = 0;
-    while i < out.len() {
-        match half::read_f16_as_f32(bytes, next) {
-            Half::Value(value, after) => {
-                out[i] = value;
-                next = after;
-            }
-            Half::Refused(number) => return Place::Refused(number),
-        }
-        i += 1;
-    }
-    Place::Next(next)
-}
-
-// The sharpness table: left as it is unless the header has its own.
-fn read_sharp_lut(bytes: &[u8], at: usize, encoding: Encoding, lut: &mut [f32]) -> Place
-    ensures { λ r. ⌜ placeOutcome r (now (lut .exit)) ≡ read (sharpFields encoding (now (lut .entry))) (now (bytes .entry)) at ⌝ }
-{
-    match read_u1_if(bytes, at, is_var_dct(encoding)) {
-        Bits::Value(custom, next) => {
-            if custom == 0 {
-                Place::Next(next)
-            } else {
-                read_halves(bytes, next, lut)
-            }
-        }
-        Bits::Refused(number) => Place::Refused(number),
-    }
-}
-
-// The scales and the 32 bits after them, which are ignored.
-fn read_custom_scale(bytes: &[u8], at: usize, scale: &mut [f32]) -> Place
-    ensures { λ r. ⌜ placeOutcome r (now (scale .exit)) ≡ read (customScaleFields true (now (scale .entry))) (now (bytes .entry)) at ⌝ }
-{
-    match read_halves(bytes, at, scale) {
-        Place::Next(at) => match bits::read_u32(bytes, at) {
-            Bits::Value(_, next) => Place::Next(next),
-            Bits::Refused(number) => Place::Refused(number),
-        },
-        Place::Refused(number) => Place::Refused(number),
-    }
-}
-
-// The channel scales: left as they are unless the header has its own.
-fn read_channel_scale(bytes: &[u8], at: usize, scale: &mut [f32]) -> Place
-    ensures { λ r. ⌜ placeOutcome r (now (scale .exit)) ≡ read (scaleFields (now (scale .entry))) (now (bytes .entry)) at ⌝ }
-{
-    match bits::read_u1(bytes, at) {
-        Bits::Value(custom, next) => {
-            if custom == 0 {
-                Place::Next(next)
-            } else {
-                read_custom_scale(bytes, next, scale)
-            }
-        }
-        Bits::Refused(number) => Place::Refused(number),
-    }
-}
-
-impl EpfSigma {
-    fn parse(bytes: &[u8], at: usize, encoding: Encoding) -> Sigma
-        ensures { λ r. ⌜ sigmaOutcome r ≡ read (customSigmaFields encoding true) (now (bytes .entry)) at ⌝ }
-    {
-        match read_half_if(bytes, at, is_var_dct(encoding), QUANT_MUL) {
-            Half::Value(quant_mul, at) => match half::read_f16_as_f32(bytes, at) {
-                Half::Value(pass0_sigma_scale, at) => match half::read_f16_as_f32(bytes, at) {
-                    Half::Value(pass2_sigma_scale, at) => match half::read_f16_as_f32(bytes, at) {
-                        Half::Value(border_sad_mul, next) => Sigma::Value(
-                            EpfSigma {
-                                quant_mul,
-                                pass0_sigma_scale,
-                                pass2_sigma_scale,
-                                border_sad_mul,
-                            },
-                            next,
-                        ),
-                        Half::Refused(number) => Sigma::Refused(number),
-                    },
-                    Half::Refused(number) => Sigma::Refused(number),
-                },
-                Half::Refused(number) => Sigma::Refused(number),
-            },
-            Half::Refused(number) => Sigma::Refused(number),
-        }
-    }
-}
-
-fn read_sigma(bytes: &[u8], at: usize, encoding: Encoding) -> Sigma
-    ensures { λ r. ⌜ sigmaOutcome r ≡ read (sigmaFields encoding) (now (bytes .entry)) at ⌝ }
-{
-    match bits::read_u1(bytes, at) {
-        Bits::Value(custom, next) => {
-            if custom == 0 {
-                Sigma::Value(
-                    EpfSigma {
-                        quant_mul: QUANT_MUL,
-                        pass0_sigma_scale: PASS0_SIGMA_SCALE,
-                        pass2_sigma_scale: PASS2_SIGMA_SCALE,
-                        border_sad_mul: BORDER_SAD_MUL,
-                    },
-                    next,
-                )
-            } else {
-                EpfSigma::parse(bytes, next, encoding)
-            }
-        }
-        Bits::Refused(number) => Sigma::Refused(number),
     }
 }
 
@@ -252,7 +93,7 @@ fn epf_settings(
 ) -> EpfAnswer
     ensures { λ r. ⌜ r ≡ epfAnswer (read (settingFields encoding iters «sharp_lut» «channel_scale») (now (bytes .entry)) at) ⌝ }
 {
-    match read_sigma(bytes, at, encoding) {
+    match read_sigma(bytes, at, is_var_dct(encoding)) {
         Sigma::Value(sigma, at) => match read_half_if(
             bytes,
             at,
@@ -280,7 +121,7 @@ fn epf_parameters(bytes: &[u8], at: usize, encoding: Encoding, iters: u32) -> Ep
     ensures { λ r. ⌜ r ≡ epfAnswer (read (parameterFields encoding iters) (now (bytes .entry)) at) ⌝ }
 {
     let mut sharp_lut = SHARP_LUT;
-    match read_sharp_lut(bytes, at, encoding, &mut sharp_lut) {
+    match read_sharp_lut(bytes, at, is_var_dct(encoding), &mut sharp_lut) {
         Place::Next(at) => {
             let mut channel_scale = CHANNEL_SCALE;
             match read_channel_scale(bytes, at, &mut channel_scale) {

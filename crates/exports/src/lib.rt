@@ -1,4 +1,5 @@
 // The C boundary: each function takes its arguments apart, if at all, and passes them on. Names begin with `loupe_`.
+use blocks::Blocks;
 use epf::EpfStep;
 use epf_header::EdgePreservingFilter;
 use epf_header::Encoding;
@@ -8,7 +9,6 @@ use frame::FrameAnswer;
 use frame::SplitAnswer;
 use gabor_header::Gabor;
 use gabor_header::GaborAnswer;
-use groups::Blocks;
 use half::HalfAnswer;
 use header::RestorationAnswer;
 use header::RestorationFilter;

@@ -1,7 +1,7 @@
 // The Gabor-like pass: rows of several planes, and a band with what lies outside the filter region.
 use gabor_plane::gabor_plane;
+use outside::copy_outside;
 use planes::Layout;
-use planes::copy_outside;
 use planes::filter_row;
 ghost use mathlib.Core.Path.{_≡_};
 ghost use Prim.Native.Nat.{_+_, _*_, _<_, _≤_};

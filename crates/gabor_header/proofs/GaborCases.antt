@@ -7,7 +7,8 @@ use lib.Ieee.{Float}
 use Rattle.bits.specs.Outcome.{accepted, refused}
 use Rattle.bits.specs.Bits.{u}
 use Rattle.fields.specs.Fields.{bundle, nested, read}
-use Rattle.gabor_header.specs.Gabor.{channelFields, channelsFields, weightFields, gaborFields, gaborOff, gaborWith, sideWeight, cornerWeight}
+use Rattle.gabor_channel.specs.Channel.{channelFields, sideWeight, cornerWeight}
+use Rattle.gabor_header.specs.Gabor.{channelsFields, weightFields, gaborFields, gaborOff, gaborWith}
 use Rattle.fields.proofs.Rows.{is-yes, is-no}
 
 abbrev default : List Float

@@ -1,3 +1,2 @@
-pub mod NearZero
 pub mod GaborCases
 pub mod Field

@@ -1,13 +1,12 @@
 // The Gabor bundle of a frame header, read at any bit place.
 ghost use mathlib.Core.Path.{_≡_};
-ghost use mathlib.Core.Bool.{true, cond};
-ghost use mathlib.Core.List.{[], _∷_};
-ghost use Rattle.numbers.specs.Numbers.{kernelNearZero};
+ghost use mathlib.Core.Bool.{true};
 ghost use Rattle.bits.specs.Outcome.{accepted, refused};
 ghost use Rattle.fields.specs.Fields.{read};
-ghost use Rattle.gabor_header.specs.Gabor.{nearZero, channelFields, channelsFields, weightFields, gaborOff, gaborAt, gaborAnswer, channelOutcome};
+ghost use Rattle.gabor_header.specs.Gabor.{channelsFields, weightFields, gaborOff, gaborAt, gaborAnswer};
 use bits::Bits;
-use half::Half;
+use gabor_channel::Channel;
+use gabor_channel::read_channel;
 
 // Three channels (X, Y, B) of two weights: of the side neighbours, of the corners.
 #[repr(C)]
@@ -28,9 +27,6 @@ const SIDE: f32 = 0.115169525;
 
 const CORNER: f32 = 0.061248592;
 
-// 2^-23, `f32::EPSILON`.
-const EPSILON: f32 = 0.00000011920929;
-
 pub fn gabor_of(enabled: bool, weights: [[f32; 2]; 3]) -> Gabor
     ensures { λ r. ⌜ r ≡ record { enabled = enabled; weights = weights } ⌝ }
 {
@@ -41,43 +37,6 @@ pub fn weights(gabor: Gabor) -> [[f32; 2]; 3]
     ensures { λ r. ⌜ r ≡ gabor .weights ⌝ }
 {
     gabor.weights
-}
-
-// What reading the two weights of a channel gives.
-enum Channel {
-    Weights(f32, f32, usize),
-    Refused(u32),
-}
-
-fn near_zero(w0: f32, w1: f32) -> bool
-    ensures { λ r. ⌜ r ≡ nearZero w0 w1 ⌝ }
-{
-    let kernel = 1.0 + (w0 + w1) * 4.0;
-    if kernel < 0.0 {
-        return -kernel < EPSILON;
-    }
-    kernel < EPSILON
-}
-
-fn judged_channel(w0: f32, w1: f32, next: usize) -> Channel
-    ensures { λ r. ⌜ channelOutcome r ≡ cond (nearZero w0 w1) (refused kernelNearZero) (accepted (w0 ∷ w1 ∷ []) next) ⌝ }
-{
-    if near_zero(w0, w1) {
-        return Channel::Refused(numbers::KERNEL_NEAR_ZERO);
-    }
-    Channel::Weights(w0, w1, next)
-}
-
-fn read_channel(bytes: &[u8], at: usize) -> Channel
-    ensures { λ r. ⌜ channelOutcome r ≡ read (channelFields true) (now (bytes .entry)) at ⌝ }
-{
-    match half::read_f16_as_f32(bytes, at) {
-        Half::Value(w0, at) => match half::read_f16_as_f32(bytes, at) {
-            Half::Value(w1, next) => judged_channel(w0, w1, next),
-            Half::Refused(number) => Channel::Refused(number),
-        },
-        Half::Refused(number) => Channel::Refused(number),
-    }
 }
 
 fn gabor_refused(number: u32) -> GaborAnswer

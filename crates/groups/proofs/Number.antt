@@ -7,9 +7,10 @@ use lib.Dec.{eqb}
 use lib.Ieee.{Float}
 use Rattle.numbers.specs.Numbers.{accepted, outOfMeasure, wrongLength, blockNotHeld, outOfRange}
 use Rattle.frame.specs.declared.Frame.{Frame}
-use Rattle.groups.specs.declared.Blocks.{Blocks}
-use Rattle.groups.specs.Table.{badGrid, badPresence}
-use Rattle.groups.specs.Outcome.{badSides, badSettings, badBlocks, tableFits, someGroup, gridsFit, sigmaCount, sigmaNumber}
+use Rattle.blocks.specs.declared.Blocks.{Blocks}
+use Rattle.grids.specs.Table.{badGrid, badPresence}
+use Rattle.groups.specs.Outcome.{badSides, badSettings, tableFits, someGroup, gridsFit, sigmaCount, sigmaNumber}
+use Rattle.blocks.specs.Measures.{badBlocks}
 use Rattle.groups.specs.Held.{someNotHeld}
 
 module _ (on : Bool) (f : Frame) (b : Blocks) (t : List ℕ) (grids : List Float) (n : ℕ) where

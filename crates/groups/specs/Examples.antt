@@ -6,10 +6,11 @@ use Prim.Native.Nat.{ℕ}
 use lib.Ieee.{Float, nan}
 use Rattle.frame.specs.declared.Frame.{Frame}
 use Rattle.frame.specs.Sizes.{sizesOf}
-use Rattle.groups.specs.declared.Blocks.{Blocks}
-use Rattle.groups.specs.Table.{badGrid, cells, gridStart, lacks, someBelow}
+use Rattle.blocks.specs.declared.Blocks.{Blocks}
+use Rattle.grids.specs.Table.{badGrid, cells, gridStart, lacks, someBelow}
 use Rattle.groups.specs.Held.{notHeld, someNotHeld}
-use Rattle.groups.specs.Outcome.{badSides, badSettings, badBlocks, tableFits, gridsFit, sigmaNumber}
+use Rattle.groups.specs.Outcome.{badSides, badSettings, tableFits, gridsFit, sigmaNumber}
+use Rattle.blocks.specs.Measures.{badBlocks}
 
 -- a frame of w by h samples, whose groups are 128 blocks a side
 abbrev frame : ℕ → ℕ → ℕ → Frame

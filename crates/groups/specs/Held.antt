@@ -4,16 +4,10 @@ use mathlib.Core.List.{List}
 use Prim.Native.Nat.{ℕ, _+_, _*_}
 use lib.Dec.{leb}
 use Rattle.frame.specs.declared.Frame.{Frame}
-use Rattle.frame.specs.Sizes.{dividedUp, groupOf, innerOf, sizesOf}
-use Rattle.groups.specs.declared.Blocks.{Blocks}
-use Rattle.groups.specs.Table.{lacks, someBelow}
-
--- a block is 8 by 8 samples: blocks across and down the filter region
-abbrev pub across : Blocks → ℕ
-across b = dividedUp (b .width) 8
-
-abbrev pub down : Blocks → ℕ
-down b = dividedUp (b .height) 8
+use Rattle.frame.specs.Sizes.{groupOf, innerOf, sizesOf}
+use Rattle.blocks.specs.declared.Blocks.{Blocks}
+use Rattle.blocks.specs.Measures.{across, down}
+use Rattle.grids.specs.Table.{lacks, someBelow}
 
 -- the number of the group that block (bx, by) lies in, groups being counted row after row
 abbrev pub groupAt : Frame → ℕ → ℕ → ℕ

@@ -1,4 +1,3 @@
-pub mod Table
 pub mod Held
 pub mod Outcome
 pub mod Laws

@@ -1,4 +1,4 @@
--- Which number the inputs of block sigmas get, and what `grid_start` answers.
+-- Which number the inputs of block sigmas get.
 use mathlib.Core.Bool.{Bool, cond, not, _&&_, _||_}
 use mathlib.Core.List.{List, [], _∷_}
 use Prim.Native.Nat.{ℕ, _*_}
@@ -10,10 +10,10 @@ use Rattle.numbers.specs.Checks.{Check, always, given, firstOf}
 use Rattle.frame.specs.declared.Frame.{Frame}
 use Rattle.frame.specs.Sizes.{sizesOf}
 use Rattle.frame.specs.Outcome.{badSide, badUpsampling}
-use Rattle.groups.specs.declared.Blocks.{Blocks}
-use Rattle.groups.specs.declared.StartAnswer.{StartAnswer}
-use Rattle.groups.specs.Table.{gridStart, badPresence, badGrid, someBelow}
-use Rattle.groups.specs.Held.{across, down, someNotHeld}
+use Rattle.blocks.specs.declared.Blocks.{Blocks}
+use Rattle.grids.specs.Table.{gridStart, badPresence, badGrid, someBelow}
+use Rattle.blocks.specs.Measures.{across, down, badBlocks}
+use Rattle.groups.specs.Held.{someNotHeld}
 
 -- ---- the numbers that checks need
 
@@ -24,11 +24,6 @@ badSides f = badSide (f .width) || badSide (f .height)
 -- upsampling none of 1, 2, 4, 8; LF level over 4; group size shift over 3
 unfoldable pub badSettings : Frame → Bool
 badSettings f = badUpsampling (f .upsampling) || ltb 4 (f .«lf_level») || ltb 3 (f .«group_size_shift»)
-
--- a filter region with a side outside 1 to 16,384, an area over 16,777,216, or a left or top over 1,048,576, which is 131,072 blocks
-unfoldable pub badBlocks : Blocks → Bool
-badBlocks b =
-    badSide (b .width) || badSide (b .height) || ltb 16777216 (b .width * b .height) || ltb 131072 (b .left) || ltb 131072 (b .top)
 
 -- the frame's numbers are in range, so that it has groups
 abbrev pub frameFits : Frame → Bool
@@ -74,23 +69,3 @@ sigmaChecks on f b t grids sigmas =
 -- the number of the first check that applies
 abbrev pub sigmaNumber : Bool → Frame → Blocks → List ℕ → List Float → ℕ → ℕ
 sigmaNumber on f b t grids sigmas = firstOf (sigmaChecks on f b t grids sigmas)
-
--- ---- where a grid starts
-
--- the table has no entry for some group before this one, or more entries than a frame has groups
-unfoldable pub noEntries : List ℕ → ℕ → Bool
-noEntries t group = ltb 768 (length t) || ltb (length t) (3 * group)
-
--- a grid before it that is out of measure (4), a table of a wrong length (7)
-abbrev pub startChecks : List ℕ → ℕ → List Check
-startChecks t group =
-    given (not (noEntries t group)) outOfMeasure (someBelow group (badGrid t))
-    ∷ always wrongLength (noEntries t group)
-    ∷ []
-
--- a refusal has start 0
-abbrev pub startAnswered : ℕ → ℕ → StartAnswer
-startAnswered number start = record { number = number; start = cond (eqb number 0) start 0 }
-
-abbrev pub startOutcome : List ℕ → ℕ → StartAnswer
-startOutcome t group = startAnswered (firstOf (startChecks t group)) (gridStart t group)

@@ -1,81 +1,21 @@
-// The group table of a frame, the filter region's blocks, and which number the inputs of block sigmas get (document 01, "Block sigmas").
+// Whether the groups of a frame hold a filter region's blocks, and which number the inputs of block sigmas get (document 01, "Block sigmas").
+use blocks::Blocks;
 use frame::Frame;
 use frame::GroupSizes;
 ghost use mathlib.Core.Path.{_≡_};
-ghost use mathlib.Core.Bool.{false, not, _&&_, _||_};
+ghost use mathlib.Core.Bool.{not, _&&_};
 ghost use Prim.Native.Nat.{ℕ, _+_, _*_, _≤_};
-ghost use lib.Dec.{ltb, eqb};
+ghost use lib.Dec.{eqb};
 ghost use lib.ListN.{length};
-ghost use Rattle.frame.specs.Sizes.{dividedUp};
-ghost use Rattle.groups.specs.Table.{badGrid, badPresence, cells, gridStart, lacks, someBelow};
+ghost use Rattle.grids.specs.Table.{badPresence, lacks, someBelow};
 ghost use Rattle.groups.specs.Held.{notHeld, someNotHeld};
-ghost use Rattle.groups.specs.Outcome.{badBlocks, sigmaCount, sigmaNumber, startOutcome};
-ghost use Rattle.groups.specs.Laws.{Measured, TableOf, Fitting};
-
-const MAX_SIDE: u32 = 16_384;
-
-const MAX_AREA: u32 = 16_777_216;
-// Left and top reach to 1,048,576 samples.
-const MAX_BLOCK: u32 = 131_072;
-
-const MAX_GRID_SIDE: u32 = 1_024;
-
-const BLOCK_DIM: u32 = 8;
+ghost use Rattle.blocks.specs.Measures.{Measured};
+ghost use Rattle.groups.specs.Outcome.{sigmaCount, sigmaNumber};
+ghost use Rattle.groups.specs.Laws.{TableOf, Fitting};
 
 const PRESENT: u32 = 1;
 // Presence, grid width, grid height.
 const ENTRY: usize = 3;
-// 256 groups: 16 by 16 of 1,024 samples each way.
-const MAX_TABLE: usize = 768;
-
-// A filter region whose left and top are multiples of 8: these in blocks, its sides in samples.
-#[repr(C)]
-pub struct Blocks {
-    pub left: u32,
-    pub top: u32,
-    pub width: u32,
-    pub height: u32,
-}
-
-#[repr(C)]
-pub struct StartAnswer {
-    pub number: u32,
-    pub start: usize,
-}
-
-fn outside(side: u32, max: u32) -> bool
-    ensures { λ r. ⌜ r ≡ (ltb side 1 || ltb max side) ⌝ }
-{
-    if side < 1 {
-        return true;
-    }
-    max < side
-}
-
-fn bad_blocks(blocks: Blocks) -> bool
-    ensures { λ r. ⌜ r ≡ badBlocks blocks ⌝ }
-{
-    if outside(blocks.width, MAX_SIDE) {
-        return true;
-    }
-    if outside(blocks.height, MAX_SIDE) {
-        return true;
-    }
-    if MAX_AREA < blocks.width * blocks.height {
-        return true;
-    }
-    if MAX_BLOCK < blocks.left {
-        return true;
-    }
-    MAX_BLOCK < blocks.top
-}
-
-// Blocks along a side of samples: an eighth, rounded up.
-pub fn blocks_along(side: u32) -> u32
-    ensures { λ r. ⌜ r ≡ dividedUp side 8 ⌝ }
-{
-    side / BLOCK_DIM + (side % BLOCK_DIM + (BLOCK_DIM - 1)) / BLOCK_DIM
-}
 
 fn sigma_count(on: bool, blocks: Blocks) -> usize
     requires { ⌜ Measured blocks ⌝ }
@@ -84,8 +24,8 @@ fn sigma_count(on: bool, blocks: Blocks) -> usize
     if !on {
         return 0;
     }
-    let across = blocks_along(blocks.width);
-    let down = blocks_along(blocks.height);
+    let across = blocks::blocks_along(blocks.width);
+    let down = blocks::blocks_along(blocks.height);
     (down * across) as usize
 }
 
@@ -94,21 +34,6 @@ fn bad_presence(table: &[u32], group: usize) -> bool
     ensures { λ r. ⌜ r ≡ badPresence (now (table .entry)) group ⌝ }
 {
     PRESENT < table[ENTRY * group]
-}
-
-// A present grid with a side out of measure.
-fn bad_grid(table: &[u32], group: usize) -> bool
-    requires { ⌜ 3 * group + 3 ≤ length (now table) ⌝ }
-    ensures { λ r. ⌜ r ≡ badGrid (now (table .entry)) group ⌝ }
-{
-    let entry = ENTRY * group;
-    if table[entry] != PRESENT {
-        return false;
-    }
-    if outside(table[entry + 1], MAX_GRID_SIDE) {
-        return true;
-    }
-    outside(table[entry + 2], MAX_GRID_SIDE)
 }
 
 fn some_bad_presence(table: &[u32], groups: usize) -> bool
@@ -125,50 +50,10 @@ fn some_bad_presence(table: &[u32], groups: usize) -> bool
     false
 }
 
-fn some_bad_grid(table: &[u32], groups: usize) -> bool
-    requires { ⌜ 3 * groups ≤ length (now table) ⌝ }
-    ensures { λ r. ⌜ r ≡ someBelow groups (badGrid (now (table .entry))) ⌝ }
-{
-    let mut g = 0;
-    while g < groups {
-        if bad_grid(table, g) {
-            return true;
-        }
-        g += 1;
-    }
-    false
-}
-
-// A group's cells in the grids slice.
-fn cells(table: &[u32], group: usize) -> usize
-    requires { ⌜ (3 * group + 3 ≤ length (now table)) × (badGrid (now table) group ≡ false) ⌝ }
-    ensures { λ r. ⌜ r ≡ cells (now (table .entry)) group ⌝ }
-{
-    let entry = ENTRY * group;
-    if table[entry] != PRESENT {
-        return 0;
-    }
-    wide(table[entry + 1]) * wide(table[entry + 2])
-}
-
 fn wide(x: u32) -> usize
     ensures { λ r. ⌜ r ≡ x ⌝ }
 {
     x as usize
-}
-
-// The cells of the groups before one.
-fn cells_before(table: &[u32], group: usize) -> usize
-    requires { ⌜ (3 * group ≤ length (now table)) × (group ≤ 256) × (someBelow group (badGrid (now table)) ≡ false) ⌝ }
-    ensures { λ r. ⌜ r ≡ gridStart (now (table .entry)) group ⌝ }
-{
-    let mut start = 0;
-    let mut g = 0;
-    while g < group {
-        start += cells(table, g);
-        g += 1;
-    }
-    start
 }
 
 // Whether a group's grid is present and does not hold a cell.
@@ -232,8 +117,8 @@ fn some_not_held(frame: Frame, sizes: GroupSizes, blocks: Blocks, table: &[u32])
     requires { ⌜ TableOf frame sizes (now table) × Measured blocks ⌝ }
     ensures { λ r. ⌜ r ≡ someNotHeld frame blocks (now (table .entry)) ⌝ }
 {
-    let across = blocks_along(blocks.width);
-    let down = blocks_along(blocks.height);
+    let across = blocks::blocks_along(blocks.width);
+    let down = blocks::blocks_along(blocks.height);
     let mut y = 0;
     while y < down {
         if row_not_held(frame, sizes, table, blocks.left, blocks.top + y, across) {
@@ -260,15 +145,14 @@ fn touched_not_held(
     false
 }
 
-// Whether the grids slice has a wrong length, which faulty presences leave open.
-fn wrong_grids(faulty: bool, table: &[u32], groups: usize, grids: &[f32]) -> bool
-    requires { ⌜ (length (now table) ≡ 3 * groups) × (groups ≤ 256) × (someBelow groups (badGrid (now table)) ≡ false) ⌝ }
-    ensures { λ r. ⌜ r ≡ (not faulty && not (eqb (length (now (grids .entry))) (gridStart (now (table .entry)) groups))) ⌝ }
+// Whether the grids slice, of that length, has not the cells that it should, which faulty presences leave open.
+fn wrong_grids(faulty: bool, cells: usize, len: usize) -> bool
+    ensures { λ r. ⌜ r ≡ (not faulty && not (eqb len cells)) ⌝ }
 {
     if faulty {
         return false;
     }
-    grids.len() != cells_before(table, groups)
+    len != cells
 }
 
 // The number for a frame and a filter region whose own numbers are in range.
@@ -288,11 +172,12 @@ fn check_table(
     if table.len() != ENTRY * groups {
         return numbers::WRONG_LENGTH;
     }
-    if some_bad_grid(table, groups) {
+    let end = grids::grid_start(table, sizes.num_groups);
+    if end.number == numbers::OUT_OF_MEASURE {
         return numbers::OUT_OF_MEASURE;
     }
     let bad_presence = some_bad_presence(table, groups);
-    if wrong_grids(bad_presence, table, groups, grids) {
+    if wrong_grids(bad_presence, end.start, grids.len()) {
         return numbers::WRONG_LENGTH;
     }
     if sigmas_len != sigma_count(on, blocks) {
@@ -322,7 +207,7 @@ pub fn check(
     if answer.number == numbers::OUT_OF_MEASURE {
         return numbers::OUT_OF_MEASURE;
     }
-    if bad_blocks(blocks) {
+    if blocks::bad_blocks(blocks) {
         return numbers::OUT_OF_MEASURE;
     }
     if answer.number == numbers::ACCEPTED {
@@ -333,30 +218,4 @@ pub fn check(
         return numbers::WRONG_LENGTH;
     }
     numbers::OUT_OF_RANGE
-}
-
-fn no_start(number: u32) -> StartAnswer
-    ensures { λ r. ⌜ r ≡ record { number = number; start = 0 } ⌝ }
-{
-    StartAnswer { number, start: 0 }
-}
-
-// Where a group's grid starts in the grids slice.
-pub fn grid_start(table: &[u32], group: u32) -> StartAnswer
-    ensures { λ r. ⌜ r ≡ startOutcome (now (table .entry)) group ⌝ }
-{
-    let before = group as usize;
-    if MAX_TABLE < table.len() {
-        return no_start(numbers::WRONG_LENGTH);
-    }
-    if table.len() < ENTRY * before {
-        return no_start(numbers::WRONG_LENGTH);
-    }
-    if some_bad_grid(table, before) {
-        return no_start(numbers::OUT_OF_MEASURE);
-    }
-    StartAnswer {
-        number: numbers::ACCEPTED,
-        start: cells_before(table, before),
-    }
 }

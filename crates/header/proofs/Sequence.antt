@@ -6,7 +6,8 @@ use mathlib.Core.Path.{_≡_, refl, sym, ap, _∙_}
 use native.Mathlib.Omega.{arith}
 use Rattle.bits.specs.Outcome.{Outcome, accepted, refused, number, value, next}
 use Rattle.fields.specs.Fields.{bundle, nested, read, yes}
-use Rattle.gabor_header.specs.Gabor.{channelFields, channelsFields, weightFields, gaborFields, gaborOff, gaborAnswer}
+use Rattle.gabor_channel.specs.Channel.{channelFields}
+use Rattle.gabor_header.specs.Gabor.{channelsFields, weightFields, gaborFields, gaborOff, gaborAnswer}
 use Rattle.epf_header.specs.EdgeFilter.{parameterFields, epfFields, epfOff, epfAnswer}
 use Rattle.header.specs.Restoration.{bothOf, restorationFields}
 use Rattle.epf_header.specs.declared.Encoding.{Encoding}

@@ -12,7 +12,8 @@ use Rattle.bits.specs.Bits.{u, field}
 use Rattle.half.specs.Value.{valueOf, halfOf}
 use Rattle.half.specs.Half.{f16}
 use Rattle.fields.specs.Fields.{nested, read}
-use Rattle.gabor_header.specs.Gabor.{nearZero, channelFields, channelsFields, weightFields, gaborFields}
+use Rattle.gabor_channel.specs.Channel.{nearZero, channelFields}
+use Rattle.gabor_header.specs.Gabor.{channelsFields, weightFields, gaborFields}
 use Rattle.planes.specs.Picture.{around}
 use Rattle.planes.specs.Sets.{of, setOf, tab}
 use Rattle.planes.specs.Rect.{inRect}
@@ -24,7 +25,7 @@ use Rattle.gabor_kernel.specs.Instances.{impulse, single-row}
 use Rattle.rounding.specs.Magnitude.{magnitude}
 use Rattle.weights.specs.Steps.{kernel, dists, along, scaledFrom, apart, distance, positive, weightBy, copied, weightAt, blend, divisor, epf, border, multiplier, epfPass}
 use Rattle.frame.specs.Sizes.{sizesOf}
-use Rattle.groups.specs.Table.{cells, gridStart, someBelow}
+use Rattle.grids.specs.Table.{cells, gridStart, someBelow}
 use Rattle.sigma.specs.Sigma.{sigmaIn, sigmaOf, aboveAt, sigmaAt, blockSigmas}
 use Rattle.layout.specs.Outcome.{layoutOf}
 use Rattle.passes.specs.Pass.{pass}

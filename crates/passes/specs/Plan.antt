@@ -10,7 +10,7 @@ use lib.Dec.{eqb, ltb}
 use lib.ListN.{length, getD}
 use lib.Ieee.{Float}
 use Rattle.planes.specs.Samples.{b1}
-use Rattle.epf_header.specs.declared.EpfSigma.{EpfSigma}
+use Rattle.epf_sigma.specs.declared.EpfSigma.{EpfSigma}
 use Rattle.epf.specs.declared.EpfStep.{EpfStep}
 use Rattle.epf.specs.Outcome.{settingsOf}
 use Rattle.passes.specs.declared.Settings.{Settings}

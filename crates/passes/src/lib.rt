@@ -1,6 +1,6 @@
 // Which passes settings ask for, in order, and how far they read together.
 use epf::EpfStep;
-use epf_header::EpfSigma;
+use epf_sigma::EpfSigma;
 use gabor_header::Gabor;
 ghost use mathlib.Core.Path.{_≡_};
 ghost use Prim.Native.Nat.{_≤_};

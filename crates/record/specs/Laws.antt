@@ -15,8 +15,8 @@ use Rattle.numbers.specs.Checks.{firstOf}
 use Rattle.region.specs.declared.Region.{Region}
 use Rattle.placement.specs.Placed.{placedChecks, placed-inside}
 use Rattle.layout.specs.Fits.{Accepted, layout-accepted}
-use Rattle.groups.specs.Table.{someBelow}
-use Rattle.groups.specs.Laws.{neither, none-below}
+use Rattle.grids.specs.Table.{someBelow}
+use Rattle.grids.specs.Laws.{neither, none-below}
 use Rattle.epf.specs.Blocks.{onBlocks}
 use Rattle.record.specs.declared.Setup.{Setup}
 use Rattle.record.specs.declared.Run.{Run}

@@ -7,7 +7,7 @@ use lib.Dec.{eqb, leb, ltb}
 use lib.ListN.{length, getD, set, replicate}
 use Rattle.numbers.specs.Numbers.{outOfRange, bandNotOpen, passNotDone}
 use Rattle.numbers.specs.Checks.{Check, always}
-use Rattle.groups.specs.Table.{someBelow}
+use Rattle.grids.specs.Table.{someBelow}
 use Rattle.passes.specs.Pass.{Pass, gaborLike}
 use Rattle.passes.specs.Plan.{plan}
 use Rattle.record.specs.declared.Setup.{Setup}

@@ -13,7 +13,7 @@ ghost use mathlib.Core.Bool.{_&&_, not};
 ghost use Prim.Native.Nat.{ℕ, _<_, _≤_};
 ghost use lib.Dec.{leb};
 ghost use Rattle.numbers.specs.Checks.{firstOf};
-ghost use Rattle.groups.specs.Table.{someBelow};
+ghost use Rattle.grids.specs.Table.{someBelow};
 ghost use Rattle.record.specs.Setup.{rowCount, sized, bandCount, blocksFit, heightFits, setupFits};
 ghost use Rattle.record.specs.Record.{isDone, finished, openBands, runFits, notOpen, openChecks, overChecks, finishedChecks};
 

@@ -9,7 +9,7 @@ use crate::forms::u32_at;
 use crate::forms::usize_at;
 use epf_header::EdgePreservingFilter;
 use epf_header::Encoding;
-use epf_header::EpfSigma;
+use epf_sigma::EpfSigma;
 use gabor_header::Gabor;
 use header::RestorationFilter;
 ghost use Prim.Native.Nat.{_<_};

@@ -11,7 +11,7 @@ use Rattle.region.specs.Regions.{inside}
 use Rattle.region.specs.Measures.{measured, pictured}
 use Rattle.layout.specs.Outcome.{layoutOf}
 use Rattle.frame.specs.Sizes.{sizesOf}
-use Rattle.groups.specs.Table.{badGrid, cells, gridStart, lacks, someBelow}
+use Rattle.grids.specs.Table.{badGrid, cells, gridStart, lacks, someBelow}
 use Rattle.groups.specs.Held.{notHeld, someNotHeld}
 use Rattle.groups.specs.Outcome.{badSides, badSettings, tableFits, gridsFit}
 use Rattle.record.specs.declared.Setup.{Setup}

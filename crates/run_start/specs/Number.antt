@@ -21,9 +21,10 @@ use Rattle.tiles.specs.Tile.{across as layoutAcross}
 use Rattle.tiles.specs.Region.{down as layoutDown}
 use Rattle.frame.specs.declared.Frame.{Frame}
 use Rattle.frame.specs.Sizes.{dividedUp}
-use Rattle.groups.specs.Table.{badPresence, badGrid}
-use Rattle.groups.specs.Held.{across, down, someNotHeld}
-use Rattle.groups.specs.Outcome.{badSides, badSettings, badBlocks, frameFits, tableFits, tableRead, someGroup, gridsFit, sigmaChecks, sigmaNumber}
+use Rattle.grids.specs.Table.{badPresence, badGrid}
+use Rattle.blocks.specs.Measures.{across, down, badBlocks}
+use Rattle.groups.specs.Held.{someNotHeld}
+use Rattle.groups.specs.Outcome.{badSides, badSettings, frameFits, tableFits, tableRead, someGroup, gridsFit, sigmaChecks, sigmaNumber}
 use Rattle.sigma.specs.Outcome.{SigmasOutcome, leftIn, sigmasOutcome}
 use Rattle.epf.specs.Blocks.{ahead, ahead-small, onBlocks}
 use Rattle.record.specs.declared.Setup.{Setup}

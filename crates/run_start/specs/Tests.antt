@@ -8,7 +8,7 @@ use lib.Dec.{leb, ltb}
 use lib.Ieee.{Float}
 use Rattle.numbers.specs.Numbers.{outOfRange}
 use Rattle.frame.specs.declared.Frame.{Frame}
-use Rattle.groups.specs.declared.Blocks.{Blocks}
+use Rattle.blocks.specs.declared.Blocks.{Blocks}
 use Rattle.groups.specs.Outcome.{sigmaNumber}
 use Rattle.sigma.specs.Outcome.{sigmasOutcome}
 use Rattle.epf.specs.Blocks.{ahead}

@@ -1,10 +1,10 @@
 // Start: everything is checked before anything is written, and the record of the run is made.
+use blocks::Blocks;
 use epf::ahead;
 use epf::on_blocks;
-use epf_header::EpfSigma;
+use epf_sigma::EpfSigma;
 use frame::Frame;
 use gabor_header::Gabor;
-use groups::Blocks;
 use groups::check;
 use numbers::ACCEPTED;
 use numbers::NOT_ON_BLOCKS;

@@ -12,8 +12,8 @@ use Rattle.region.specs.Regions.{inside, zeroRegion}
 use Rattle.region.specs.Measures.{pictured}
 use Rattle.planes.specs.Samples.{b0}
 use Rattle.frame.specs.declared.Frame.{Frame}
-use Rattle.groups.specs.declared.Blocks.{Blocks}
-use Rattle.groups.specs.Table.{badPresence, badGrid}
+use Rattle.blocks.specs.declared.Blocks.{Blocks}
+use Rattle.grids.specs.Table.{badPresence, badGrid}
 use Rattle.groups.specs.Held.{someNotHeld}
 use Rattle.groups.specs.Outcome.{badSides, badSettings, frameFits, tableFits, tableRead, someGroup, gridsFit}
 use Rattle.sigma.specs.Sigma.{blockSigmas}

@@ -1,5 +1,5 @@
 // Runs: what calls answer, and the lengths of what they are lent. The outcomes of start, band, advance and result are defined in specs/.
-use groups::blocks_along;
+use blocks::blocks_along;
 use record::MAX_ITERS;
 use record::Run;
 use record::Setup;

@@ -8,10 +8,11 @@ use lib.Ieee.{Float, nan}
 use Rattle.planes.specs.Sets.{tab}
 use Rattle.frame.specs.declared.Frame.{Frame}
 use Rattle.frame.specs.Sizes.{sizesOf}
-use Rattle.groups.specs.declared.Blocks.{Blocks}
-use Rattle.groups.specs.Table.{badGrid, cells, gridStart, lacks, someBelow}
+use Rattle.blocks.specs.declared.Blocks.{Blocks}
+use Rattle.grids.specs.Table.{badGrid, cells, gridStart, lacks, someBelow}
 use Rattle.groups.specs.Held.{notHeld, someNotHeld}
-use Rattle.groups.specs.Outcome.{badSides, badSettings, badBlocks, tableFits, gridsFit, sigmaNumber}
+use Rattle.groups.specs.Outcome.{badSides, badSettings, tableFits, gridsFit, sigmaNumber}
+use Rattle.blocks.specs.Measures.{badBlocks}
 use Rattle.sigma.specs.Sigma.{sigmaIn, sigmaOf, aboveAt, sigmaAt, blockSigmas}
 
 -- one group across and two down, of 128 blocks a side; the upper one has a grid of one column, the lower none

@@ -9,9 +9,10 @@ use lib.Ieee.{Float, nan}
 use Rattle.planes.specs.Sets.{length-tab, getD-tab}
 use Rattle.frame.specs.declared.Frame.{Frame}
 use Rattle.frame.specs.Sizes.{innerOf}
-use Rattle.groups.specs.declared.Blocks.{Blocks}
-use Rattle.groups.specs.Table.{presence, gridWidth, gridStart}
-use Rattle.groups.specs.Held.{across, down, groupAt}
+use Rattle.blocks.specs.declared.Blocks.{Blocks}
+use Rattle.grids.specs.Table.{presence, gridWidth, gridStart}
+use Rattle.blocks.specs.Measures.{across, down}
+use Rattle.groups.specs.Held.{groupAt}
 use Rattle.sigma.specs.Sigma.{sigmaIn, sigmaOf, aboveAt, sigmaAt, blockSigmas}
 
 module _ (f : Frame) (b : Blocks) (t : List ℕ) (grids : List Float) (modular : Float) where

@@ -6,7 +6,7 @@ use lib.Dec.{eqb}
 use lib.ListN.{length}
 use lib.Ieee.{Float}
 use Rattle.frame.specs.declared.Frame.{Frame}
-use Rattle.groups.specs.declared.Blocks.{Blocks}
+use Rattle.blocks.specs.declared.Blocks.{Blocks}
 use Rattle.groups.specs.Outcome.{sigmaNumber}
 use Rattle.sigma.specs.Sigma.{blockSigmas}
 

@@ -20,12 +20,14 @@ use Rattle.frame.specs.declared.FrameAnswer.{FrameAnswer}
 use Rattle.frame.specs.Sizes.{groupDim, groupOf, innerOf, sizesOf}
 use Rattle.frame.specs.Laws.{frame-sound, frame-sizes}
 use Rattle.frame.specs.Outcome.{frameOutcome}
-use Rattle.groups.specs.declared.Blocks.{Blocks}
+use Rattle.blocks.specs.declared.Blocks.{Blocks}
 use Rattle.sigma.specs.declared.Run.{Run}
-use Rattle.groups.specs.Table.{presence, gridWidth, gridHeight, gridStart, badGrid, someBelow}
-use Rattle.groups.specs.Held.{across, down, groupAt, notHeld, someNotHeld}
+use Rattle.grids.specs.Table.{presence, gridWidth, gridHeight, gridStart, badGrid, someBelow}
+use Rattle.blocks.specs.Measures.{across, down, Measured, across-le}
+use Rattle.groups.specs.Held.{groupAt, notHeld, someNotHeld}
 use Rattle.sigma.specs.Sigma.{missing, sigmaIn, sigmaOf, aboveAt, sigmaAt, blockSigmas}
-use Rattle.groups.specs.Laws.{Measured, across-le, TableOf, entry-lt, entries-le, some-fewer, none-below, grid-sides, lacks-not, cells-present, start-ends, Held, held, Accepted}
+use Rattle.groups.specs.Laws.{TableOf, entry-lt, entries-le, Held, held, Accepted}
+use Rattle.grids.specs.Laws.{some-fewer, none-below, grid-sides, lacks-not, cells-present, start-ends}
 
 -- a run over the whole list
 fill-whole : (d : List Float) (n : ℕ) (f : ℕ → Float) → length d ≡ n → fill d 0 n f ≡ tab n f

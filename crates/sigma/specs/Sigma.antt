@@ -7,9 +7,10 @@ use lib.Ieee.{Float, nan}
 use Rattle.planes.specs.Sets.{tab}
 use Rattle.frame.specs.declared.Frame.{Frame}
 use Rattle.frame.specs.Sizes.{innerOf}
-use Rattle.groups.specs.declared.Blocks.{Blocks}
-use Rattle.groups.specs.Table.{present, gridWidth, gridStart}
-use Rattle.groups.specs.Held.{across, down, groupAt}
+use Rattle.blocks.specs.declared.Blocks.{Blocks}
+use Rattle.grids.specs.Table.{present, gridWidth, gridStart}
+use Rattle.blocks.specs.Measures.{across, down}
+use Rattle.groups.specs.Held.{groupAt}
 
 -- What a missing grid gives: the sigma of the block above. Above the top block row that is `sigma_for_modular`.
 abbrev pub missing : Float → Float → Float

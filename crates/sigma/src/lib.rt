@@ -1,7 +1,7 @@
 // The sigma of each block of a filter region, from the frame's groups and their grids (document 01, "Block sigmas").
+use blocks::Blocks;
 use frame::Frame;
 use frame::GroupSizes;
-use groups::Blocks;
 ghost use mathlib.Core.Path.{_≡_};
 ghost use Prim.Native.Nat.{ℕ, _+_, _*_, _<_, _≤_};
 ghost use lib.ListN.{length, getD};
@@ -9,7 +9,7 @@ ghost use lib.Ieee.{nan};
 ghost use Rattle.planes.specs.Fill.{fill};
 ghost use Rattle.frame.specs.Sizes.{groupOf, sizesOf};
 ghost use Rattle.frame.specs.Laws.{Sound};
-ghost use Rattle.groups.specs.Held.{across, down};
+ghost use Rattle.blocks.specs.Measures.{across, down};
 ghost use Rattle.sigma.specs.Sigma.{missing, sigmaIn, blockSigmas};
 ghost use Rattle.sigma.specs.Outcome.{SigmasOutcome, sigmasOutcome};
 ghost use Rattle.sigma.specs.Runs.{aboveIn, rowSigma, RunFits, RunOf, RowFits, AllFits};
@@ -84,7 +84,7 @@ fn fill_run(
         return;
     }
     let width = table[entry + 1] as usize;
-    let answer = groups::grid_start(table, group);
+    let answer = grids::grid_start(table, group);
     let from = answer.start + (row as usize * width + column as usize);
     fill_cells(grids, from, sigmas, at, n);
 }
@@ -169,8 +169,8 @@ fn fill_rows(
     requires { ⌜ AllFits frame sizes blocks (now table) (now grids) × (length (now sigmas) ≡ down blocks * across blocks) ⌝ }
     ensures { λ _. ⌜ now (sigmas .exit) ≡ blockSigmas frame blocks (now (table .entry)) (now (grids .entry)) modular ⌝ }
 {
-    let across = groups::blocks_along(blocks.width);
-    let down = groups::blocks_along(blocks.height);
+    let across = blocks::blocks_along(blocks.width);
+    let down = blocks::blocks_along(blocks.height);
     let mut y = 0;
     let mut o = 0;
     while y < down {

@@ -2,7 +2,8 @@
 use borrow.Author.Needs.{needs}
 use mathlib.Core.Path.{_∙_}
 use Rattle.fields.specs.Fields.{read}
-use Rattle.gabor_header.specs.Gabor.{channelOutcome, channelsFields}
+use Rattle.gabor_channel.specs.Channel.{channelOutcome}
+use Rattle.gabor_header.specs.Gabor.{channelsFields}
 use Rattle.fields.proofs.Rows.{told, read-nested}
 use Rattle.gabor_header.proofs.custom_weights.Statement.{statement}
 use Rattle.gabor_header.proofs.custom_weights.Tie as tie

@@ -11,9 +11,10 @@ use Rattle.numbers.specs.Numbers.{accepted, outOfMeasure, outOfRange}
 use Rattle.frame.specs.declared.Frame.{Frame}
 use Rattle.frame.specs.declared.FrameAnswer.{FrameAnswer}
 use Rattle.frame.specs.Laws.{frame-sizes}
-use Rattle.groups.specs.declared.Blocks.{Blocks}
-use Rattle.groups.specs.Outcome.{badSides, badSettings, badBlocks}
-use Rattle.groups.specs.Laws.{frame-is, sides-bad, sides-fit, settings-bad, settings-fit, measured}
+use Rattle.blocks.specs.declared.Blocks.{Blocks}
+use Rattle.groups.specs.Outcome.{badSides, badSettings}
+use Rattle.blocks.specs.Measures.{badBlocks, measured}
+use Rattle.groups.specs.Laws.{frame-is, sides-bad, sides-fit, settings-bad, settings-fit}
 use Rattle.groups.proofs.Number as number
 use Rattle.groups.proofs.check.Statement.{statement}
 use Rattle.groups.proofs.check.Tie as tie

@@ -14,10 +14,13 @@ use Rattle.frame.specs.declared.Frame.{Frame}
 use Rattle.frame.specs.declared.GroupSizes.{GroupSizes}
 use Rattle.frame.specs.Sizes.{sizesOf}
 use Rattle.frame.specs.Laws.{sizes-bounded}
-use Rattle.groups.specs.declared.Blocks.{Blocks}
-use Rattle.groups.specs.Table.{someBelow, badGrid, badPresence, gridStart}
+use Rattle.blocks.specs.declared.Blocks.{Blocks}
+use Rattle.grids.specs.declared.StartAnswer.{StartAnswer}
+use Rattle.grids.specs.Laws.{start-inside, refused-bad, passed-good}
+use Rattle.grids.specs.Table.{someBelow, badGrid, badPresence, gridStart}
 use Rattle.groups.specs.Outcome.{tableFits, someGroup, gridsFit, sigmaCount}
-use Rattle.groups.specs.Laws.{TableOf, Measured, measured, fitting-sound}
+use Rattle.groups.specs.Laws.{TableOf, fitting-sound}
+use Rattle.blocks.specs.Measures.{Measured, measured}
 use Rattle.groups.proofs.Number as number
 use Rattle.groups.proofs.check_table.Statement.{statement}
 use Rattle.groups.proofs.check_table.Tie as tie
@@ -41,9 +44,8 @@ module _ (s : tie.Start) where
   blocks-measured : Measured b
   blocks-measured = measured b (s .pre .blocks)
 
-wrong-is : (r p q : Bool) (gs : List Float) (table : List ℕ) (k m : ℕ) → r ≡ (not p && not (eqb (length gs) (gridStart table k))) → p ≡ q → k ≡ m
-    → r ≡ (not q && not (eqb (length gs) (gridStart table m)))
-wrong-is r p q gs table k m e pe ke = e ∙ rw (pe, ke)
+wrong-is : (r p q : Bool) (len k m : ℕ) → r ≡ (not p && not (eqb len k)) → p ≡ q → k ≡ m → r ≡ (not q && not (eqb len m))
+wrong-is r p q len k m e pe ke = e ∙ rw (pe, ke)
 
 -- what each test on the way says
 module _ (c : tie.After-wide) where
@@ -79,13 +81,35 @@ module _ (c : tie.Else1) where
         entries = entries-are;
       }
 
-module _ (c : tie.After-some-bad-grid) where
-  bad-grids-are : c .some-bad-grid .result ≡ someGroup (f (start1 (c .before))) (badGrid (t (start1 (c .before))))
-  bad-grids-are = c .some-bad-grid .ensures ∙ ap (λ (k : ℕ). someBelow k (badGrid (t (start1 (c .before))))) (groups-are (c .before .before))
+-- what the end of all grids says of them
+module _ (c : tie.After-grid-start) where
+  abbrev start2 : tie.Start
+  start2 = start1 (c .before)
+
+  groups2 : start2 .args .sizes .«num_groups» ≡ sizesOf (f start2) .«num_groups»
+  groups2 = ap (λ (g : GroupSizes). g .«num_groups») (start2 .pre .sizes-are)
+
+  short2 : length (t start2) ≤ 768
+  short2 = omega (arith, c .before .if1 .left, groups-le (c .before .before))
+
+  room2 : 3 * start2 .args .sizes .«num_groups» ≤ length (t start2)
+  room2 = omega (arith, entries-are (c .before), groups2)
+
+  grids-bad : c .grid-start .result .number ≡ 4 → someGroup (f start2) (badGrid (t start2)) ≡ true
+  grids-bad r = rw (← groups2) (refused-bad (t start2) _ _ short2 room2 (c .grid-start .ensures) r)
+
+  module _ (r : c .grid-start .result .number ≡ 4 → ⊥) where
+    grids-good : someBelow (start2 .args .sizes .«num_groups») (badGrid (t start2)) ≡ false
+    grids-good = passed-good (t start2) _ _ short2 room2 (c .grid-start .ensures) r
+
+    end-is : c .grid-start .result .start ≡ gridStart (t start2) (sizesOf (f start2) .«num_groups»)
+    end-is =
+        ap (λ (a : StartAnswer). a .start) (start-inside (t start2) _ _ short2 room2 (c .grid-start .ensures) grids-good)
+        ∙ ap (gridStart (t start2)) groups2
 
 module _ (c : tie.After-wrong-grids) where
   abbrev else1 : tie.Else1
-  else1 = c .before .before .before .before
+  else1 = c .before .before .before .before .before
 
   abbrev start3 : tie.Start
   start3 = start1 else1
@@ -95,7 +119,7 @@ module _ (c : tie.After-wrong-grids) where
 
   wrong-grids-are : c .wrong-grids .result ≡ (not (someGroup (f start3) (badPresence (t start3))) && not (gridsFit (f start3) (t start3) (grids start3)))
   unfolding gridsFit
-  wrong-grids-are = wrong-is _ _ _ (grids start3) (t start3) _ _ (c .wrong-grids .ensures) presences-are (groups-are (else1 .before))
+  wrong-grids-are = wrong-is _ _ _ _ _ _ (c .wrong-grids .ensures) presences-are (end-is (c .before .before .before .before) (c .before .before .if2 .left))
 
 returns : tie.Need-returns
 returns c =
@@ -104,20 +128,15 @@ returns c =
 
 returns-2 : tie.Need-returns-2
 returns-2 c =
-    let e = c .before .before in
+    let e = c .before .before .before in
     let s = start1 e in
     number.grid-out (s .args .on) (f s) (b s) (t s) (grids s) (n s) (s .pre .sides) (s .pre .blocks) (s .pre .settings) (table-fits e)
-    (sym (bad-grids-are (c .before)) ∙ c .if2 .taken)
-
-wrong-grids-requires : tie.Need-wrong-grids-requires
-wrong-grids-requires c κs =
-    let e = c .before .before .before in
-    (e .if1 .left, groups-le (e .before), sym (c .before .before .some-bad-grid .ensures) ∙ c .before .if2 .left)
+    (grids-bad (c .before .before) (c .if2 .taken))
 
 -- past the test of the grid sides
 module _ (c : tie.After-wrong-grids) where
   grids-fit : someGroup (f (start3 c)) (badGrid (t (start3 c))) ≡ false
-  grids-fit = sym (bad-grids-are (c .before .before .before)) ∙ c .before .before .if2 .left
+  grids-fit = rw (← groups2 (c .before .before .before .before)) (grids-good (c .before .before .before .before) (c .before .before .if2 .left))
 
 returns-3 : tie.Need-returns-3
 returns-3 c =
@@ -182,7 +201,7 @@ check-table-spec =
     (λ c κs. search needs)
     returns-2
     (λ c κs. search needs)
-    wrong-grids-requires
+    (λ c κs. search needs)
     returns-3
     (λ c κs. blocks-measured (start3 (c .before)))
     returns-4

@@ -1,7 +1,7 @@
 -- `groups::lacks` meets its contract. Assumes nothing.
 use borrow.Author.Needs.{needs}
 use borrow.Author.Tests.{eq-eqb, ne-eqb, le-leb, lt-leb}
-use Rattle.groups.specs.Table.{presence, gridWidth, lacks}
+use Rattle.grids.specs.Table.{presence, gridWidth, lacks}
 use Rattle.groups.proofs.lacks.Statement.{statement}
 use Rattle.groups.proofs.lacks.Tie as tie
 

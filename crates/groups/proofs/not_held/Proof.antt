@@ -12,7 +12,7 @@ use Rattle.frame.specs.declared.Frame.{Frame}
 use Rattle.frame.specs.declared.GroupSizes.{GroupSizes}
 use Rattle.frame.specs.declared.SplitAnswer.{SplitAnswer}
 use Rattle.frame.specs.Outcome.{splitOutcome}
-use Rattle.groups.specs.Table.{lacks}
+use Rattle.grids.specs.Table.{lacks}
 use Rattle.groups.specs.Held.{notHeld}
 use Rattle.groups.specs.Laws.{TableOf, entry-lt, entries-le, split-group, split-inner}
 use Rattle.groups.proofs.not_held.Statement.{statement}

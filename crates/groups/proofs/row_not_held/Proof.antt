@@ -3,9 +3,9 @@ use mathlib.Core.Path.{_≡_, refl, sym, _∙_}
 use mathlib.Core.Bool.{false}
 use Prim.Native.Nat.{ℕ, _+_, _-_, _≤_}
 use native.Mathlib.Omega.{arith}
-use Rattle.groups.specs.Table.{someBelow}
+use Rattle.grids.specs.Table.{someBelow}
 use Rattle.groups.specs.Held.{notHeld}
-use Rattle.groups.specs.Laws.{some-found, some-turn, some-end}
+use Rattle.grids.specs.Laws.{some-found, some-turn, some-end}
 use Rattle.groups.proofs.row_not_held.Statement.{statement}
 use Rattle.groups.proofs.row_not_held.Tie as tie
 

@@ -3,8 +3,8 @@ use mathlib.Core.Path.{_≡_, refl, sym, _∙_}
 use mathlib.Core.Bool.{false}
 use Prim.Native.Nat.{_-_, _≤_}
 use native.Mathlib.Omega.{arith}
-use Rattle.groups.specs.Table.{badPresence, someBelow}
-use Rattle.groups.specs.Laws.{some-found, some-turn, some-end}
+use Rattle.grids.specs.Table.{badPresence, someBelow}
+use Rattle.grids.specs.Laws.{some-found, some-turn, some-end}
 use Rattle.groups.proofs.some_bad_presence.Statement.{statement}
 use Rattle.groups.proofs.some_bad_presence.Tie as tie
 

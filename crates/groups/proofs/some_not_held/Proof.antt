@@ -4,9 +4,10 @@ use mathlib.Core.Bool.{false}
 use Prim.Native.Nat.{ℕ, _+_, _-_, _≤_}
 use borrow.Author.Needs.{needs}
 use native.Mathlib.Omega.{arith}
-use Rattle.groups.specs.Table.{someBelow}
+use Rattle.grids.specs.Table.{someBelow}
 use Rattle.groups.specs.Held.{notHeld, someNotHeld}
-use Rattle.groups.specs.Laws.{across-le, some-found, some-turn, some-end}
+use Rattle.blocks.specs.Measures.{across-le}
+use Rattle.grids.specs.Laws.{some-found, some-turn, some-end}
 use Rattle.groups.proofs.some_not_held.Statement.{statement}
 use Rattle.groups.proofs.some_not_held.Tie as tie
 

@@ -6,7 +6,7 @@ use Rattle.groups.proofs.wrong_grids.Statement.{statement}
 use Rattle.groups.proofs.wrong_grids.Tie as tie
 
 returns-2 : tie.Need-returns-2
-returns-2 c = let e : c .before .before .before .before .args .faulty ≡ false = c .before .if1 .left in rw (e, c .cells-before .ensures)
+returns-2 c = let e : c .before .args .faulty ≡ false = c .if1 .left in rw e
 
 pub wrong-grids-spec : {M : Type 1} → statement M
-wrong-grids-spec = tie.close (tie.spec (λ c. search needs) (λ c κs. search needs) returns-2)
+wrong-grids-spec = tie.close (tie.spec (λ c. search needs) returns-2)

@@ -4,8 +4,8 @@ use mathlib.Core.Bool.{Bool, true, false, not}
 use Prim.Native.Nat.{ℕ, _-_, _≤_}
 use native.Mathlib.Omega.{arith}
 use lib.ListN.{getD}
-use Rattle.groups.specs.Table.{someBelow}
-use Rattle.groups.specs.Laws.{some-found, some-turn, some-end}
+use Rattle.grids.specs.Table.{someBelow}
+use Rattle.grids.specs.Laws.{some-found, some-turn, some-end}
 use Rattle.record.specs.Record.{isDone}
 use Rattle.record.proofs.band_missing.Statement.{statement}
 use Rattle.record.proofs.band_missing.Tie as tie

@@ -6,8 +6,8 @@ use native.Mathlib.Omega.{arith}
 use borrow.Author.Needs.{needs}
 use lib.Dec.{leb}
 use lib.ListN.{getD}
-use Rattle.groups.specs.Table.{someBelow}
-use Rattle.groups.specs.Laws.{some-found, some-turn, some-end}
+use Rattle.grids.specs.Table.{someBelow}
+use Rattle.grids.specs.Laws.{some-found, some-turn, some-end}
 use Rattle.record.specs.Record.{isDone}
 use Rattle.record.proofs.stray_done.Statement.{statement}
 use Rattle.record.proofs.stray_done.Tie as tie

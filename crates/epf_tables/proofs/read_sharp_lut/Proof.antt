@@ -1,0 +1,32 @@
+-- `epf_tables::read_sharp_lut` meets its contract. Assumes nothing.
+use borrow.Author.Needs.{needs}
+use mathlib.Core.Path.{_∙_}
+use Rattle.bits.specs.Bits.{bitsOutcome}
+use Rattle.fields.proofs.Rows.{told}
+use Rattle.epf_tables.proofs.Cases.{sharp-refused, sharp-off, sharp-on}
+use Rattle.epf_tables.proofs.read_sharp_lut.Statement.{statement}
+use Rattle.epf_tables.proofs.read_sharp_lut.Tie as tie
+
+returns : tie.Need-returns
+returns c = sharp-off _ _ _ _ (told bitsOutcome (c .before .before .custom .given .1) (c .before .before .before .before .read-u1-if .ensures)) (c .if1 .taken)
+
+returns-2 : tie.Need-returns-2
+returns-2 c =
+    c .before .before .read-halves .ensures
+    ∙ sharp-on _ _ _ _ (told bitsOutcome (c .before .before .before .before .before .before .custom .given .1) (c .before .before .before .before .before .before .before .before .read-u1-if .ensures)) (c .before .before .before .before .if1 .left)
+
+returns-3 : tie.Need-returns-3
+returns-3 c = sharp-refused _ _ _ _ (told bitsOutcome (c .before .number .given .1) (c .before .before .before .read-u1-if .ensures))
+
+pub read-sharp-lut-spec : {M : Type 1} → statement M
+read-sharp-lut-spec =
+    tie.close
+    (tie.spec
+    (λ c κs. search needs)
+    (λ c. search needs)
+    (λ c κs. search needs)
+    (λ c. search needs)
+    returns
+    (λ c. search needs)
+    returns-2
+    returns-3)
