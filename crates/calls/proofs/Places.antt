@@ -56,28 +56,22 @@ module _ (a b : ℤ) (n N : ℕ) (start : T (leZ b a)) (stop : T (leZ (a +ℤ po
     pub deep : (m : ℕ) → ((a ≡ b → ⊥) → T (leZ (a +ℤ pos m) x)) → ((a +ℤ pos n ≡ b +ℤ pos N → ⊥) → T (ltZ (x +ℤ pos m) (a +ℤ pos n)))
         → Deep m (natAbs (a -ℤ b)) n N (natAbs (x -ℤ a))
     deep m low high =
-        let p = le-to a x (held .from) in
+        let d = difference-is x a in
+        let s = size-is (x -ℤ a) in
+        let p = ahead a x (le-to a x (held .from)) in
         record {
           inside = counted a n x held;
-          left = λ f.
-              omega (
-                arith,
-                le-to (a +ℤ pos m) x (low (λ (e : a ≡ b). f (omega (arith, ap above e, ap below e, difference-is a b, size-is (a -ℤ b), ahead b a (le-to b a start))))),
-                sum-is a (pos m),
-                difference-is x a,
-                size-is (x -ℤ a),
-                ahead a x p,
-              );
-          right = λ f.
-              omega (
-                arith,
-                lt-to (x +ℤ pos m) (a +ℤ pos n) (high (λ (e : a +ℤ pos n ≡ b +ℤ pos N). f (omega (arith, ap above e, ap below e, sum-is a (pos n), sum-is b (pos N), difference-is a b, size-is (a -ℤ b), ahead b a (le-to b a start))))),
-                sum-is a (pos n),
-                sum-is x (pos m),
-                difference-is x a,
-                size-is (x -ℤ a),
-                ahead a x p,
-              );
+          left = λ f. omega (
+            arith,
+            le-to (a +ℤ pos m) x (low (λ (e : a ≡ b). f (omega (arith, ap above e, ap below e, difference-is a b, size-is (a -ℤ b), ahead b a (le-to b a start))))),
+            sum-is a (pos m),
+          );
+          right = λ f. omega (
+            arith,
+            lt-to (x +ℤ pos m) (a +ℤ pos n) (high (λ (e : a +ℤ pos n ≡ b +ℤ pos N). f (omega (arith, ap above e, ap below e, sum-is a (pos n), sum-is b (pos N), difference-is a b, size-is (a -ℤ b), ahead b a (le-to b a start))))),
+            sum-is a (pos n),
+            sum-is x (pos m),
+          );
         }
 
 -- the i-th place

@@ -16,7 +16,7 @@ use Rattle.record.specs.declared.Setup.{Setup}
 use Rattle.record.specs.Setup.{resultLength}
 use Rattle.record.specs.declared.Run.{Run}
 use Rattle.record.specs.Record.{marked, finished}
-use Rattle.runs.specs.Start.{Handed, startNumber}
+use Rattle.runs.specs.Start.{Handed, startNumber, noSetup}
 use Rattle.runs.specs.Band.{State}
 use Rattle.calls.specs.Calls.{Calls, startState, end, Unaltered, Call, band, advance, documentCalls}
 use Rattle.calls.specs.Places.{Clear}
@@ -39,12 +39,7 @@ module _ (p : Picture) (weights : List (List Float)) where
     «preserve_outside» = full;
     settings = record {
       gabor = record { enabled = true; weights = weights };
-      epf = record {
-        iters = 0;
-        «channel_scale» = b0 ∷ b0 ∷ b0 ∷ [];
-        sigma = record { «quant_mul» = b0; «pass0_sigma_scale» = b0; «pass2_sigma_scale» = b0; «border_sad_mul» = b0 };
-        «sigma_for_modular» = b0;
-      };
+      epf = noSetup .settings .epf;
     };
     «band_height» = height;
   }

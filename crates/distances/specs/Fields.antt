@@ -1,6 +1,6 @@
 -- Fields of distances: for each of a step's shifts the distances at the positions of a tile, and that they hold every neighbour's. Assumes nothing.
 use mathlib.Core.Path.{_≡_, refl, sym, ap, _∙_}
-use mathlib.Core.Bool.{Bool, true, false, cond, _&&_}
+use mathlib.Core.Bool.{cond, _&&_, and-false}
 use mathlib.Core.List.{List, [], _∷_, _++_}
 use mathlib.Core.Logic.{_⊎_, inl, inr}
 use Prim.Native.Nat.{ℕ, zero, suc, _+_, _-_, _*_, _<_, _≤_}
@@ -9,18 +9,15 @@ use native.Mathlib.Decide.{ℕ-discrete}
 use native.Mathlib.Numerals.{add-one}
 use native.Mathlib.Omega.{arith}
 use borrow.Author.Tests.{le-leb, lt-leb}
-use lib.Dec.{leb, lit≤}
+use lib.Dec.{leb}
 use lib.ListN.{length, getD, take}
-use lib.IntN.{pos}
 use lib.Ieee.{Float, nan}
 use Rattle.planes.specs.Samples.{_⊕_, _⊗_, b0}
-use Rattle.planes.specs.Picture.{Around}
 use Rattle.planes.specs.Fill.{fill, length-fill, fill-before, fill-cong}
-use Rattle.weights.specs.Steps.{Offset, Scaled, kernel, dists, along, scaledFrom, scaled, apart, distance}
-use Rattle.distances.specs.declared.Tap.{Tap}
+use Rattle.weights.specs.Steps.{Scaled, kernel, dists, along, scaledFrom, scaled, distance}
 use Rattle.distances.specs.Runs.{run-at, run-anew, run-same}
-use Rattle.distances.specs.Seen.{way, seen, nearby, nearby-cong, apartBy, Inner, nearby-ahead, nearby-back}
-use Rattle.distances.specs.Taps.{half, half-few, shift, shift-far, tapOf, neighbour, TapIs, tap-is}
+use Rattle.distances.specs.Seen.{seen, nearby, nearby-cong, apartBy, Inner, nearby-ahead, nearby-back}
+use Rattle.distances.specs.Taps.{half, half-few, shift, tapOf, neighbour, TapIs, tap-is}
 
 -- ---- folds
 
@@ -34,10 +31,6 @@ unfolding along
 along-suc f b [] i d h = absurd (omega arith)
 along-suc f b (a ∷ l) zero d h = refl
 along-suc f b (a ∷ l) (suc i) d h = along-suc f (f b a) l i d (le-of-suc-le-suc h)
-
--- a loop's turn over a list: i elements are folded, and then one more
-pub along-more : {A B : Type 0} (f : B → A → B) (b : B) (l : List A) (i : ℕ) (d : A) → i < length l → f (along f b (take i l)) (getD l i d) ≡ along f b (take (i + 1) l)
-along-more f b l i d h = rw (add-one i) (along-suc f b l i d h)
 
 along-last : {A B : Type 0} (f : B → A → B) (b : B) (l : List A) (a : A) → along f b (l ++ (a ∷ [])) ≡ f (along f b l) a
 unfolding along
@@ -164,10 +157,6 @@ field-end step cs win rows e a h k p q r = let z : h ≡ k = omega arith in rw (
 
 -- ---- the tests
 
-off : (a b : Bool) → b ≡ false → (a && b) ≡ false
-off true b e = e
-off false b e = refl
-
 module _ (step n : ℕ) (scales win : List Float) (rows : ℕ) (e : List Float) where
   pub many-planes : 3 < n → e ≡ distancesOf step n scales win rows e
   unfolding distancesOf
@@ -175,11 +164,11 @@ module _ (step n : ℕ) (scales win : List Float) (rows : ℕ) (e : List Float) 
 
   pub many-rows : 8 < rows → e ≡ distancesOf step n scales win rows e
   unfolding distancesOf
-  many-rows h = rw (off (leb n 3) (leb 1 rows && leb rows 8) (off (leb 1 rows) (leb rows 8) (lt-leb rows 8 h)))
+  many-rows h = simp (lt-leb rows 8 h, and-false)
 
   pub no-rows : rows < 1 → e ≡ distancesOf step n scales win rows e
   unfolding distancesOf
-  no-rows h = rw (off (leb n 3) (leb 1 rows && leb rows 8) (rw (lt-leb 1 rows h)))
+  no-rows h = simp (lt-leb 1 rows h, and-false)
 
   pub distances-done : n ≤ 3 → 1 ≤ rows → rows ≤ 8 → distancesOf step n scales win rows e ≡ fieldsFill step (scaled n scales) win rows e (half step)
   unfolding distancesOf

@@ -1,5 +1,5 @@
 -- Runs of a list that are written anew from what they held. Assumes nothing.
-use mathlib.Core.Path.{_≡_, refl, sym, _∙_}
+use mathlib.Core.Path.{_≡_, sym, _∙_}
 use mathlib.Core.List.{List}
 use Prim.Native.Nat.{ℕ, zero, suc, _+_, _-_, _<_, _≤_}
 use native.Mathlib.Decide.{decLt}
@@ -7,7 +7,8 @@ use native.Mathlib.Omega.{arith}
 use lib.ListN.{length, getD, set}
 use lib.Seq.{getD-set-same, getD-set-other, ext-getD}
 use lib.Ieee.{Float, nan}
-use Rattle.planes.specs.Fill.{fill, length-fill, fill-before, fill-after, fill-turn}
+use Rattle.planes.specs.Fill.{fill, length-fill, fill-before, fill-after}
+use Rattle.planes.specs.Loop.{Written, written-more}
 
 -- an index of the run that the list has
 pub run-at : (d : List Float) (at n : ℕ) (f : ℕ → Float) (i : ℕ) → at + i < length d → i < n → getD (fill d at n f) (at + i) nan ≡ f i
@@ -64,8 +65,8 @@ run-same d at n f h = ext-getD nan d (fill d at n f) (sym (length-fill d at n f)
             rw e (sym (run-at d at n f i (omega arith) s ∙ h i s (omega arith)))
 
 -- a loop's turn that writes each element from what it was
-pub run-turn : (d dst : List Float) (at n : ℕ) (g : Float → ℕ → Float) (v : Float) → dst ≡ fill d at n (λ (i : ℕ). g (getD d (at + i) nan) i) → v ≡ g (getD dst (at + n) nan) n
-    → set dst (at + n) v ≡ fill d at (n + 1) (λ (i : ℕ). g (getD d (at + i) nan) i)
-run-turn d dst at n g v e h =
-    let same : getD dst (at + n) nan ≡ getD d (at + n) nan = rw e (fill-after d at n (λ (i : ℕ). g (getD d (at + i) nan) i) (at + n) (omega arith)) in
-    fill-turn d dst at n (λ (i : ℕ). g (getD d (at + i) nan) i) v e (h ∙ rw same)
+pub run-more : {d dst : List Float} {at n i : ℕ} {v : Float} (g : Float → ℕ → Float) → Written d at n (λ (j : ℕ). g (getD d (at + j) nan) j) dst i → i < n
+    → v ≡ g (getD dst (at + i) nan) i → Written d at n (λ (j : ℕ). g (getD d (at + j) nan) j) (set dst (at + i) v) (i + 1)
+run-more {d = d} {dst = dst} {at = at} {i = i} g w l e =
+    let same : getD dst (at + i) nan ≡ getD d (at + i) nan = rw (w .held) (fill-after d at i (λ (j : ℕ). g (getD d (at + j) nan) j) (at + i) (omega arith)) in
+    written-more w l (e ∙ rw same)

@@ -1,7 +1,7 @@
 -- What a sample of a window sees, and the differences that a distance sums, as places of the window. Assumes nothing.
-use mathlib.Core.Path.{_≡_, refl, sym, ap, _∙_}
-use mathlib.Core.List.{List, [], _∷_}
-use Prim.Native.Nat.{ℕ, zero, suc, _+_, _-_, _*_, _/_, _%_, _<_, _≤_}
+use mathlib.Core.Path.{_≡_, _∙_}
+use mathlib.Core.List.{List}
+use Prim.Native.Nat.{ℕ, zero, suc, _+_, _-_, _*_, _/_, _%_, _≤_}
 use native.Mathlib.Omega.{arith}
 use borrow.Author.Tests.{le-ltb}
 use lib.ListN.{getD}
@@ -9,7 +9,7 @@ use lib.IntN.{ℤ, pos, negsuc, _+ℤ_, subℕ, natAbs}
 use lib.Ieee.{Float, nan, binary32}
 use Rattle.rounding.specs.Magnitude.{magnitude, difference-swap}
 use Rattle.mirror.specs.Offset.{offset-from, offset-sum}
-use Rattle.planes.specs.Samples.{_⊕_, _⊖_, bits, b0}
+use Rattle.planes.specs.Samples.{_⊕_, _⊖_, b0}
 use Rattle.planes.specs.Picture.{Around}
 use Rattle.weights.specs.Steps.{Offset, dists, along, apart}
 

@@ -1,9 +1,9 @@
 -- Which field has a neighbour's distances, and where. A neighbour and the one opposite it share a field. Assumes nothing.
 use mathlib.Core.Path.{_≡_, refl, _∙_}
 use mathlib.Core.Bool.{Bool, true, false, cond}
-use mathlib.Core.List.{List, [], _∷_}
+use mathlib.Core.List.{[], _∷_}
 use mathlib.Core.Logic.{_⊎_, inl, inr}
-use Prim.Native.Nat.{ℕ, zero, suc, _+_, _-_, _*_, _/_, _%_, _<_, _≤_, min}
+use Prim.Native.Nat.{ℕ, zero, suc, _+_, _-_, _*_, _%_, _<_, _≤_, min}
 use native.Mathlib.Decide.{decLt}
 use native.Mathlib.Omega.{arith}
 use borrow.Author.Tests.{lt-ltb, le-ltb, lt-leb, le-leb, eq-eqb, ne-eqb}

@@ -1,7 +1,7 @@
 -- Where a filter region lies on blocks. Definitions, and what the code's tests say. Assumes nothing.
 use mathlib.Core.Path.{_≡_, refl, sym, _∙_}
 use mathlib.Core.Bool.{Bool, true, false, true≢false, _&&_}
-use Prim.Native.Nat.{ℕ, zero, suc, _+_, _%_, _<_, _≤_}
+use Prim.Native.Nat.{ℕ, _%_, _≤_}
 use native.Mathlib.Omega.{arith}
 use borrow.Author.Tests.{le-ltb}
 use lib.Dec.{eqb}

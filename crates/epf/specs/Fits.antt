@@ -1,16 +1,16 @@
 -- The tests in turn, and what an accepted step leaves. Assumes nothing.
-use mathlib.Core.Path.{_≡_, refl, sym, ap, _∙_}
-use mathlib.Core.Bool.{Bool, true, false, cond, _&&_, not}
-use mathlib.Core.List.{List, [], _∷_, _++_}
+use mathlib.Core.Path.{_≡_, refl, sym, _∙_}
+use mathlib.Core.Bool.{Bool, true, false, cond, _&&_, not, and-false}
+use mathlib.Core.List.{List}
 use Prim.Native.Nat.{ℕ, _+_, _-_, _*_, _<_, _≤_}
 use native.Mathlib.Nat.{mul-le-mul}
 use native.Mathlib.Omega.{arith}
-use borrow.Author.Tests.{le-leb, lt-leb, leb-true, lt-ltb, le-ltb, ltb-false, eq-eqb, ne-eqb, eqb-true}
-use lib.Dec.{T, eqb, leb, ltb}
+use borrow.Author.Tests.{leb-true, lt-ltb, le-ltb, ltb-false, eq-eqb, ne-eqb, eqb-true}
+use lib.Dec.{eqb, leb, ltb}
 use lib.ListN.{length}
 use lib.Ieee.{Float}
-use Rattle.numbers.specs.Numbers.{outOfMeasure, notInside, notOnBlocks, wrongLength, outOfRange}
-use Rattle.numbers.specs.Checks.{Check, firstOf}
+use Rattle.numbers.specs.Numbers.{notOnBlocks, wrongLength, outOfRange}
+use Rattle.numbers.specs.Checks.{firstOf}
 use Rattle.region.specs.declared.Region.{Region}
 use Rattle.region.specs.Regions.{inside}
 use Rattle.region.specs.Measures.{pictured}
@@ -18,37 +18,16 @@ use Rattle.placement.specs.Placed.{placedChecks}
 use Rattle.planes.specs.declared.Layout.{Layout}
 use Rattle.planes.specs.Picture.{Picture}
 use Rattle.planes.specs.Rect.{planesFill}
-use Rattle.planes.specs.Band.{inner, passed, copiedOutside, filterRow, resultHeight, rowsFit}
+use Rattle.planes.specs.Band.{passed, copiedOutside, filterRow, resultHeight, rowsFit}
 use Rattle.planes.specs.Stored.{LayoutFits, BandFits, passed-over, fits-copied, and-first, and-second}
 use Rattle.layout.specs.declared.LayoutAnswer.{LayoutAnswer}
-use Rattle.layout.specs.Outcome.{layoutOf, layoutOutcome, PassOutcome, passOutcome}
-use Rattle.layout.specs.Fits.{Accepted, layout-accepted, answer-number, answer-layout, pass-refused, pass-done}
+use Rattle.layout.specs.Outcome.{layoutOf, layoutOutcome, PassOutcome}
+use Rattle.layout.specs.Fits.{Accepted, layout-accepted, placed-or, then, answer-number, answer-layout, pass-refused, pass-done}
 use Rattle.tiles.specs.Tile.{across}
-use Rattle.tiles.specs.Region.{down}
+use Rattle.tiles.specs.Region.{down, BlocksRoom, blocks-room}
 use Rattle.epf.specs.declared.EpfStep.{EpfStep}
 use Rattle.epf.specs.Blocks.{ahead, onBlock, onBlocks}
 use Rattle.epf.specs.Outcome.{epfOver, stepChecks, epfChecks, epfOutcome}
-
--- ---- the table
-
--- the number is that of the first check; 4 and 5 come before the others
-placed-first : (a b c : Bool) (k m : ℕ) → k ≡ cond (true && not (a && b)) outOfMeasure (cond (true && not c) notInside 0) → (k ≡ 0 → ⊥)
-    → k ≡ cond (true && not (a && b)) outOfMeasure (cond (true && not c) notInside m)
-placed-first true true true k m e n = absurd (n e)
-placed-first true true false k m e n = e
-placed-first true false c k m e n = e
-placed-first false b c k m e n = e
-
-placed-then : (a b c : Bool) (k m : ℕ) → cond (true && not (a && b)) outOfMeasure (cond (true && not c) notInside 0) ≡ 0 → k ≡ m
-    → k ≡ cond (true && not (a && b)) outOfMeasure (cond (true && not c) notInside m)
-placed-then true true true k m e h = h
-placed-then true true false k m e h = absurd (omega arith)
-placed-then true false c k m e h = absurd (omega arith)
-placed-then false b c k m e h = absurd (omega arith)
-
-off : (a b : Bool) → b ≡ false → (a && b) ≡ false
-off true b e = e
-off false b e = refl
 
 -- ---- the tests of a placed filter region
 
@@ -65,7 +44,7 @@ module _ (n : ℕ) (l : Layout) (filter : Region) (step from to sigmas src dst :
 
   pub no-top : onBlock (filter .top) ≡ false → Number notOnBlocks
   unfolding stepChecks
-  no-top e = rw (off (onBlock (filter .left)) (onBlock (filter .top)) e)
+  no-top e = simp (e, and-false)
 
   module _ (a : onBlock (filter .left) ≡ true) (b : onBlock (filter .top) ≡ true) where
     pub no-source : (src ≡ size → ⊥) → Number wrongLength
@@ -74,11 +53,11 @@ module _ (n : ℕ) (l : Layout) (filter : Region) (step from to sigmas src dst :
 
     pub no-target : (dst ≡ size → ⊥) → Number wrongLength
     unfolding stepChecks
-    no-target h = rw (a, b, off (eqb src size) (eqb dst size && eqb sigmas (down l * across l)) (rw (ne-eqb dst size h)))
+    no-target h = simp (a, b, ne-eqb dst size h, and-false)
 
     pub no-sigmas : (sigmas ≡ down l * across l → ⊥) → Number wrongLength
     unfolding stepChecks
-    no-sigmas h = rw (a, b, off (eqb src size) (eqb dst size && eqb sigmas (down l * across l)) (off (eqb dst size) (eqb sigmas (down l * across l)) (ne-eqb sigmas (down l * across l) h)))
+    no-sigmas h = simp (a, b, ne-eqb sigmas (down l * across l) h, and-false)
 
     module _ (s : src ≡ size) (t : dst ≡ size) (u : sigmas ≡ down l * across l) where
       pub no-step : 2 < step → Number outOfRange
@@ -138,18 +117,12 @@ band-fits n l step from to sigmas src dst few f s = record { layout = f; planes 
 pub record SizeRoom (l : Layout) : Type 0 where
   pub lines : 3 * l .image .height ≤ 49152
   pub samples : 3 * l .image .height * l .image .width ≤ 805306368
-  pub high : l .height ≤ 16384
-  pub wide : l .width ≤ 16384
-  pub blocks : down l * across l ≤ 4198401
+  pub blocks : BlocksRoom l
 
 pub size-room : (l : Layout) → LayoutFits l → SizeRoom l
 size-room l f =
     let a : 3 * l .image .height ≤ 49152 = omega (arith, f .high) in
-    let h : l .height ≤ 16384 = omega (arith, f .down, f .high) in
-    let w : l .width ≤ 16384 = omega (arith, f .across, f .wide) in
-    let c : down l ≤ 2049 = omega arith in
-    let d : across l ≤ 2049 = omega arith in
-    record { lines = a; samples = mul-le-mul a (f .wide); high = h; wide = w; blocks = mul-le-mul c d }
+    record { lines = a; samples = mul-le-mul a (f .wide); blocks = blocks-room l f }
 
 -- ---- a band: copied outside the filter region, then filtered inside it
 pub band-passed : (l : Layout) (n from to f t : ℕ) (p : Picture) (src dst a b : List Float) → BandFits l n from to src dst
@@ -165,7 +138,7 @@ module _ (image filter : Region) (full : Bool) (s : EpfStep) (sigmas : List Floa
 
   pub not-placed : (a .number ≡ 0 → ⊥) → Outcome (a .number) dst
   unfolding epfOutcome epfChecks
-  not-placed h = pass-refused (a .number) _ _ dst (placed-first (pictured image) (pictured filter) (inside image filter) (a .number) _ (answer-number image filter full a e) h) h
+  not-placed h = pass-refused (a .number) _ _ dst (placed-or (pictured image) (pictured filter) (inside image filter) (a .number) _ (answer-number image filter full a e) h) h
 
   module _ (z : a .number ≡ 0) where
     ok : firstOf (placedChecks image filter) ≡ 0
@@ -180,7 +153,7 @@ module _ (image filter : Region) (full : Bool) (s : EpfStep) (sigmas : List Floa
     module _ (k : ℕ) (p : k ≡ firstOf (stepChecks 3 (a .layout) filter (s .step) from to (length sigmas) (length src) (length dst))) where
       number-is : k ≡ firstOf (epfChecks image filter full s sigmas from to src dst)
       unfolding epfChecks
-      number-is = placed-then (pictured image) (pictured filter) (inside image filter) k _ ok (rw l-is at p)
+      number-is = rw l-is at p ∙ then (pictured image) (pictured filter) (inside image filter) _ ok
 
       pub refused : (k ≡ 0 → ⊥) → Outcome k dst
       unfolding epfOutcome

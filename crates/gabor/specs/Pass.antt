@@ -2,10 +2,10 @@
 use mathlib.Core.Path.{_≡_, sym, ap, _∙_}
 use mathlib.Core.List.{List}
 use Prim.Native.Nat.{ℕ, _+_, _-_, _*_, _<_, _≤_}
-use native.Mathlib.Nat.{suc-mul, mul-le-mul, mul-le-mul-right, add-mul}
+use native.Mathlib.Nat.{add-mul}
 use native.Mathlib.Omega.{arith}
 use lib.ListN.{length, getD}
-use lib.IntN.{ℤ, pos, _+ℤ_}
+use lib.IntN.{pos, _+ℤ_}
 use lib.Ieee.{Float, nan}
 use Rattle.mirror.specs.Mirror.{mirror}
 use Rattle.planes.specs.declared.Layout.{Layout}
@@ -14,6 +14,7 @@ use Rattle.planes.specs.Sets.{of}
 use Rattle.planes.specs.Rect.{planesFill, planes-turn, rows-cong}
 use Rattle.planes.specs.Band.{inner, passed, copiedOutside, filterRow}
 use Rattle.planes.specs.Stored.{LayoutFits, BandFits, passed-over, fits-copied}
+use Rattle.planes.specs.Room.{regionStart, region-index, PlaneRoom}
 use Rattle.gabor_kernel.specs.Ends.{stands}
 use Rattle.gabor_kernel.specs.Gabor.{total, gabor, sideWeight, diagonalWeight, gaborPass}
 use Rattle.gabor_kernel.specs.Local.{scaled-same}
@@ -24,23 +25,14 @@ use Rattle.gabor_plane.specs.Plane.{regionRows, planeOutcome, region-true, plan
 unfoldable pub passRows : List (List Float) → Layout → List Float → ℕ → Picture
 passRows ws l s from = λ c x i. gaborPass ws (l .width) (l .height) (inner l s) c x (from + i)
 
--- where plane c's part of the filter region starts
-abbrev pub regionStart : Layout → ℕ → ℕ
-regionStart l c = (c * l .image .height + l .top) * l .image .width + l .left
-
 -- the filter region of plane c is a region of the list
 module _ (l : Layout) (s : List Float) (c : ℕ) where
-  index : (x y : ℕ) → regionStart l c + y * l .image .width + x ≡ (c * l .image .height + (l .top + y)) * l .image .width + (l .left + x)
-  index x y =
-      let e : c * l .image .height + (l .top + y) ≡ c * l .image .height + l .top + y = omega arith in
-      rw e (omega (arith, add-mul (c * l .image .height + l .top) y (l .image .width)))
-
   pub region-sample : (w0 w1 : Float) (y x : ℕ)
       → regionSample s (regionStart l c) (l .image .width) (l .width) (l .height) w0 w1 (total w0 w1) y x
       ≡ gabor w0 w1 (around (l .width) (l .height) (inner l s) x y c) (stands (l .width) x) (stands (l .height) y)
   unfolding regionSample region around inner of
   region-sample w0 w1 y x = scaled-same w0 w1 _ _
-      (λ dx dy p q. ap (λ (i : ℕ). getD s i nan) (index (mirror (pos x +ℤ dx) (l .width)) (mirror (pos y +ℤ dy) (l .height)))) (total w0 w1) (stands (l .width) x) (stands (l .height) y)
+      (λ dx dy p q. ap (λ (i : ℕ). getD s i nan) (region-index l c (mirror (pos x +ℤ dx) (l .width)) (mirror (pos y +ℤ dy) (l .height)))) (total w0 w1) (stands (l .width) x) (stands (l .height) y)
 
 -- a turn of the loop over planes
 pub plane-next : (l : Layout) (ws : List (List Float)) (s d a b : List Float) (k at from m : ℕ)
@@ -57,30 +49,17 @@ plane-next l ws s d a b k at from m p e f len rows q =
     (q ∙ sym (plane-rows at (l .image .width) (l .width) (l .height) from m (sideWeight ws k) (diagonalWeight ws k) s a (region-true at (l .image .width) (l .width) (l .height) (length s) f) len rows)
     ∙ rw (z, e) (rows-cong a _ (l .image .width) (l .width) m _ _ (λ i x h t. region-sample l s k (sideWeight ws k) (diagonalWeight ws k) (from + i) x)))
 
--- plane c's part of the filter region, in numbers of the machine and within the n planes
-pub record PlaneRoom (l : Layout) (n c : ℕ) : Type 0 where
-  pub rows : c * l .image .height ≤ 49152
-  pub start : (c * l .image .height + l .top) * l .image .width ≤ 65536 * 16384
-  pub region : RegionFits (regionStart l c) (l .image .width) (l .width) (l .height) (n * l .image .height * l .image .width)
-
-pub plane-room : (l : Layout) (n c : ℕ) → LayoutFits l → n ≤ 3 → c < n → 0 < l .width → 0 < l .height → PlaneRoom l n c
-plane-room l n c f q p w h =
-    let few : c ≤ 3 = omega arith in
-    let a : c * l .image .height ≤ 3 * 16384 = mul-le-mul few (f .high) in
-    let b : c * l .image .height + l .top ≤ 65536 = omega (arith, f .down, f .high) in
-    let t : c * l .image .height + l .top + l .height ≤ n * l .image .height = omega (arith, f .down, suc-mul c (l .image .height), mul-le-mul-right (l .image .height) p) in
-    record {
-      rows = omega arith;
-      start = mul-le-mul b (f .wide);
-      region = record {
-        wide = w;
-        high = h;
-        apart = omega (arith, f .across);
-        short = f .wide;
-        low = omega (arith, f .down, f .high);
-        ends = omega (arith, f .across, row-above (l .height) (l .image .width) h, add-mul (c * l .image .height + l .top) (l .height) (l .image .width), mul-le-mul-right (l .image .width) t);
-      };
-    }
+-- plane c's part of the filter region is a region of the n planes
+pub plane-region : (l : Layout) (n c : ℕ) → LayoutFits l → PlaneRoom l n c → 0 < l .width → 0 < l .height
+    → RegionFits (regionStart l c) (l .image .width) (l .width) (l .height) (n * l .image .height * l .image .width)
+plane-region l n c f r w h = record {
+  wide = w;
+  high = h;
+  apart = omega (arith, f .across);
+  short = f .wide;
+  low = omega (arith, f .down, f .high);
+  ends = omega (arith, f .across, r .ends, row-above (l .height) (l .image .width) h);
+}
 
 -- a band: copied outside the filter region, then filtered inside it
 pub band-passed : (l : Layout) (n from to f t : ℕ) (ws : List (List Float)) (src dst a b : List Float) → BandFits l n from to src dst

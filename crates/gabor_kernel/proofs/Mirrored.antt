@@ -4,7 +4,7 @@ use Prim.Native.Nat.{ℕ, _+_, _-_, _<_}
 use native.Mathlib.Decide.{ℕ-discrete}
 use native.Mathlib.Omega.{arith}
 use borrow.Author.Tests.{le-ltb}
-use lib.IntN.{ℤ, pos, negsuc, _+ℤ_}
+use lib.IntN.{pos, negsuc, _+ℤ_}
 use Rattle.mirror.specs.Mirror.{mirror}
 use Rattle.gabor_kernel.specs.Ends.{only, first, last, inner, stands, stands-only, stands-first, stands-last, stands-inner, before-first, before-other, after-last, after-other, itself}
 use Rattle.gabor_kernel.specs.Formula.{formula}

@@ -5,7 +5,7 @@ use Prim.Native.Nat.{ℕ, _+_, _-_, _<_, _≤_}
 use native.Mathlib.Omega.{arith}
 use borrow.Author.Tests.{eq-eqb, ne-eqb, le-ltb}
 use lib.Dec.{eqb}
-use lib.IntN.{ℤ, pos, negsuc, _+ℤ_}
+use lib.IntN.{pos, negsuc, _+ℤ_}
 use Rattle.mirror.specs.Mirror.{mirror, mirror-in, mirror-under, mirror-over}
 
 -- the only one, the first or the last of several, or one with a neighbour on each side

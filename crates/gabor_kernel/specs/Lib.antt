@@ -4,4 +4,3 @@ pub mod Gabor
 pub mod Nine
 pub mod Mirrored
 pub mod Local
-pub mod Instances

@@ -137,18 +137,6 @@ region-row s at stride w h w0 w1 g y x p q = scaled-same w0 w1 _ _ each g (stand
 -- ---- the four places of a row among the rows: which rows its formula reads
 
 module _ (s : List Float) (t u c b w : ℕ) (w0 w1 g : Float) (x : ℕ) where
-  -- the first row reads none above it
-  first-reads : rowSample s t c b w w0 w1 g first x ≡ rowSample s u c b w w0 w1 g first x
-  unfolding rowSample scaled alone value formula nine pick
-  first-reads = go (stands w x)
-    where
-      go : (col : End) → scaled g w0 w1 (taps s t c b (mirror (pos x +ℤ negsuc 0) w) x (mirror (pos x +ℤ pos 1) w)) col first
-          ≡ scaled g w0 w1 (taps s u c b (mirror (pos x +ℤ negsuc 0) w) x (mirror (pos x +ℤ pos 1) w)) col first
-      go only = refl
-      go first = refl
-      go last = refl
-      go inner = refl
-
   -- the last row reads the row above it as the first row reads the one below it
   last-reads : rowSample s t c b w w0 w1 g first x ≡ rowSample s b c u w w0 w1 g last x
   unfolding rowSample scaled alone value formula nine pick
@@ -160,6 +148,10 @@ module _ (s : List Float) (t u c b w : ℕ) (w0 w1 g : Float) (x : ℕ) where
       go first = refl
       go last = refl
       go inner = refl
+
+-- the first row reads none above it
+first-reads : (s : List Float) (t u c b w : ℕ) (w0 w1 g : Float) (x : ℕ) → rowSample s t c b w w0 w1 g first x ≡ rowSample s u c b w w0 w1 g first x
+first-reads s t u c b w w0 w1 g x = last-reads s t u c b w w0 w1 g x ∙ sym (last-reads s u u c b w w0 w1 g x)
 
 -- ---- the region's room in a list of that length
 pub record RegionFits (at stride w h len : ℕ) : Type 0 where

@@ -21,7 +21,6 @@ use Rattle.planes.specs.Band.{inFilter, written, inner, passed}
 use Rattle.gabor_kernel.specs.Ends.{stands}
 use Rattle.gabor_kernel.specs.Formula.{value, formula}
 use Rattle.gabor_kernel.specs.Gabor.{alone, scaled, gaborPass}
-use Rattle.gabor_kernel.specs.Instances.{impulse, single-row}
 use Rattle.rounding.specs.Magnitude.{magnitude}
 use Rattle.weights.specs.Steps.{kernel, dists, along, scaledFrom, apart, distance, positive, weightBy, copied, weightAt, blend, divisor, epf, border, multiplier, epfPass}
 use Rattle.frame.specs.Sizes.{sizesOf}
@@ -55,8 +54,8 @@ table = record {
   weightsAccepted = refl;
   downsampled = refl;
   aligned = refl;
-  impulse = impulse;
-  singleRow = single-row;
+  impulse = refl;
+  singleRow = refl;
   copiedBelow = refl;
   nanSigma = refl;
   repeated = λ grids modular. (refl, refl);

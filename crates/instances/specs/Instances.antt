@@ -11,7 +11,6 @@ use lib.Ieee.{Float, nan}
 use Rattle.mirror.specs.declared.MirrorAnswer.{MirrorAnswer}
 use Rattle.mirror.specs.Outcome.{mirrorOutcome}
 use Rattle.region.specs.declared.Region.{Region}
-use Rattle.region_arithmetic.specs.declared.RegionAnswer.{RegionAnswer}
 use Rattle.region_arithmetic.specs.Answers.{downsampleOutcome, alignedOutcome}
 use Rattle.bits.specs.Outcome.{Outcome, accepted, refused}
 use Rattle.half.specs.Half.{f16}

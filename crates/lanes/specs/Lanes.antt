@@ -1,6 +1,6 @@
 -- What the loops over a tile's lanes compute from fields, slopes and windows, a neighbour at a time. Assumes nothing.
 use mathlib.Core.Path.{_≡_, refl, sym, ap, _∙_}
-use mathlib.Core.Bool.{Bool, true, false, cond, _&&_}
+use mathlib.Core.Bool.{Bool, true, false, cond, _&&_, and-false}
 use mathlib.Core.List.{List}
 use Prim.Native.Nat.{ℕ, zero, suc, _+_, _-_, _*_, _%_, _<_, _≤_}
 use native.Mathlib.Decide.{decLt}
@@ -12,12 +12,12 @@ use lib.ListN.{length, getD, set}
 use lib.Ieee.{Float, nan}
 use Rattle.planes.specs.Samples.{_⊕_, _⊗_, _⊘_, b1}
 use Rattle.planes.specs.Picture.{Picture}
-use Rattle.planes.specs.Fill.{fill, length-fill, fill-before, fill-after, fill-cong, fill-turn}
+use Rattle.planes.specs.Fill.{fill, length-fill, fill-before, fill-cong}
+use Rattle.planes.specs.Loop.{Written, written-more}
 use Rattle.planes.specs.Rect.{rowsFill, planesFill, planes-turn}
 use Rattle.planes.specs.Join.{planes-cong, rect-below}
 use Rattle.weights.specs.Steps.{kernel, weightBy, border}
-use Rattle.distances.specs.declared.Tap.{Tap}
-use Rattle.distances.specs.Runs.{run-at, run-anew, run-same, run-turn}
+use Rattle.distances.specs.Runs.{run-at, run-anew, run-same, run-more}
 use Rattle.distances.specs.Taps.{tapOf}
 
 -- ---- sums over the first q neighbours
@@ -63,12 +63,12 @@ lanesOf step e slopes win planes top rows out =
 
 -- ---- runs from index 0
 
-pub run-turn0 : (d dst : List Float) (n : ℕ) (g : Float → ℕ → Float) (v : Float) → dst ≡ fill d 0 n (λ (i : ℕ). g (getD d (0 + i) nan) i) → v ≡ g (getD dst n nan) n
-    → set dst n v ≡ fill d 0 (n + 1) (λ (i : ℕ). g (getD d (0 + i) nan) i)
-run-turn0 d dst n g v e h = let z : 0 + n ≡ n = omega arith in rw z at (run-turn d dst 0 n g v e (rw z h))
+pub written-more0 : {d dst : List Float} {n i : ℕ} {f : ℕ → Float} {v : Float} → Written d 0 n f dst i → i < n → v ≡ f i → Written d 0 n f (set dst i v) (i + 1)
+written-more0 {i = i} w l e = let z : 0 + i ≡ i = omega arith in rw z at (written-more w l e)
 
-pub fill-turn0 : (d dst : List Float) (n : ℕ) (f : ℕ → Float) (v : Float) → dst ≡ fill d 0 n f → v ≡ f n → set dst n v ≡ fill d 0 (n + 1) f
-fill-turn0 d dst n f v e h = let z : 0 + n ≡ n = omega arith in rw z at (fill-turn d dst 0 n f v e h)
+pub run-more0 : {d dst : List Float} {n i : ℕ} {v : Float} (g : Float → ℕ → Float) → Written d 0 n (λ (j : ℕ). g (getD d (0 + j) nan) j) dst i → i < n
+    → v ≡ g (getD dst i nan) i → Written d 0 n (λ (j : ℕ). g (getD d (0 + j) nan) j) (set dst i v) (i + 1)
+run-more0 {i = i} {v = v} g w l e = let z : 0 + i ≡ i = omega arith in rw z at (run-more {v = v} g w l (rw z e))
 
 pub run-at0 : (d t : List Float) (n : ℕ) (f : ℕ → Float) (i : ℕ) → n ≤ length d → i < n → t ≡ fill d 0 n f → getD t i nan ≡ f i
 run-at0 d t n f i r l e = let z : 0 + i ≡ i = omega arith in rw e (rw z at (run-at d 0 n f i (omega arith) l))
@@ -233,10 +233,6 @@ kind-small k row e = rw e (go (border row))
 
 -- ---- the tests
 
-off : (a b : Bool) → b ≡ false → (a && b) ≡ false
-off true b e = e
-off false b e = refl
-
 module _ (step : ℕ) (e slopes win : List Float) (planes top rows : ℕ) (out : List Float) where
   pub no-tile : (length out ≡ 1536 → ⊥) → out ≡ lanesOf step e slopes win planes top rows out
   unfolding lanesOf
@@ -244,11 +240,11 @@ module _ (step : ℕ) (e slopes win : List Float) (planes top rows : ℕ) (out :
 
   pub many-planes : 3 < planes → out ≡ lanesOf step e slopes win planes top rows out
   unfolding lanesOf
-  many-planes h = rw (off (eqb (length out) 1536) (leb planes 3 && leb rows 8) (rw (lt-leb planes 3 h)))
+  many-planes h = simp (lt-leb planes 3 h, and-false)
 
   pub many-rows : 8 < rows → out ≡ lanesOf step e slopes win planes top rows out
   unfolding lanesOf
-  many-rows h = rw (off (eqb (length out) 1536) (leb planes 3 && leb rows 8) (off (leb planes 3) (leb rows 8) (lt-leb rows 8 h)))
+  many-rows h = simp (lt-leb rows 8 h, and-false)
 
   pub lanes-done : length out ≡ 1536 → planes ≤ 3 → rows ≤ 8
       → lanesOf step e slopes win planes top rows out ≡ planesFill 64 8 0 56 0 rows (λ c i r. laneOf step e slopes win (kindOf (top + r)) c i r) out planes

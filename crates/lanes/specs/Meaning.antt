@@ -1,19 +1,16 @@
 -- A lane is what the definition of a step says of what it sees in the window. Assumes nothing.
-use mathlib.Core.Path.{_≡_, refl, sym, ap, _∙_}
-use mathlib.Core.List.{List, [], _∷_}
+use mathlib.Core.Path.{_≡_, refl, sym, ap}
+use mathlib.Core.List.{List}
 use Prim.Native.Nat.{ℕ, zero, suc, _+_, _-_, _*_, _<_, _≤_}
-use native.Mathlib.Nat.{le-of-suc-le-suc}
 use native.Mathlib.Omega.{arith}
 use lib.ListN.{length, getD, take}
 use lib.Seq.{take-length}
-use lib.IntN.{ℤ, pos}
+use lib.IntN.{pos}
 use lib.Ieee.{Float, nan}
 use Rattle.planes.specs.Samples.{_⊕_, _⊗_, _⊘_, b1}
-use Rattle.planes.specs.Picture.{Around}
 use Rattle.weights.specs.Steps.{Offset, Scaled, kernel, dists, along, distance, falloff, weightBy, weightAt, blend, divisor}
-use Rattle.distances.specs.declared.Tap.{Tap}
-use Rattle.distances.specs.Seen.{way, seen, seen-at}
-use Rattle.distances.specs.Taps.{tapOf, neighbour, TapIs, tap-is}
+use Rattle.distances.specs.Seen.{seen, seen-at}
+use Rattle.distances.specs.Taps.{tapOf, neighbour, tap-is}
 use Rattle.distances.specs.Fields.{along-suc}
 use Rattle.lanes.specs.Lanes.{weightsTo, samplesTo, weightOf, sampleOf, neighbourOf, laneOf}
 

@@ -33,15 +33,11 @@ part-fits a b n m h k =
 
 -- ---- the tests behind the number 0
 
-zero-is : (a b c : Bool) → cond (true && not (a && b)) outOfMeasure (cond (true && not c) notInside 0) ≡ 0 → T a × T b × T c
+pub zero-is : (a b c : Bool) → cond (true && not (a && b)) outOfMeasure (cond (true && not c) notInside 0) ≡ 0 → T a × T b × T c
 zero-is true true true e = (tt, tt, tt)
 zero-is true true false e = absurd (omega arith)
 zero-is true false c e = absurd (omega arith)
 zero-is false b c e = absurd (omega arith)
-
-T-true : (b : Bool) → T b → b ≡ true
-T-true true t = refl
-T-true false t = absurd t
 
 pub record Accepted (l : Layout) : Type 0 where
   pub fits : LayoutFits l
@@ -82,16 +78,16 @@ module _ (image filter : Region) (full : Bool) (ok : firstOf (placedChecks image
   unfolding layoutOf
   length-judged n len few = rw (layout-true, le-leb n 3 few)
 
--- ---- which number a pass gives
+-- ---- which number a pass gives: 4 and 5 come before the others
 
-placed-or : (a b c : Bool) (k m : ℕ) → k ≡ cond (true && not (a && b)) outOfMeasure (cond (true && not c) notInside 0) → (k ≡ 0 → ⊥)
+pub placed-or : (a b c : Bool) (k m : ℕ) → k ≡ cond (true && not (a && b)) outOfMeasure (cond (true && not c) notInside 0) → (k ≡ 0 → ⊥)
     → k ≡ cond (true && not (a && b)) outOfMeasure (cond (true && not c) notInside m)
 placed-or true true true k m e n = absurd (n e)
 placed-or true true false k m e n = e
 placed-or true false c k m e n = e
 placed-or false b c k m e n = e
 
-then : (a b c : Bool) (m : ℕ) → cond (true && not (a && b)) outOfMeasure (cond (true && not c) notInside 0) ≡ 0
+pub then : (a b c : Bool) (m : ℕ) → cond (true && not (a && b)) outOfMeasure (cond (true && not c) notInside 0) ≡ 0
     → m ≡ cond (true && not (a && b)) outOfMeasure (cond (true && not c) notInside m)
 then true true true m e = refl
 then true true false m e = absurd (omega arith)

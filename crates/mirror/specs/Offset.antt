@@ -4,7 +4,7 @@ use Prim.Native.Nat.{ℕ, suc, _+_, _-_, _<_}
 use native.Mathlib.Decide.{decLt}
 use native.Mathlib.Omega.{arith}
 use borrow.Author.Tests.{lt-ltb, le-ltb}
-use lib.IntN.{ℤ, pos, negsuc, _+ℤ_, subℕ, +ℤ-comm}
+use lib.IntN.{pos, negsuc, _+ℤ_, subℕ, +ℤ-comm}
 
 -- a place and an offset
 pub offset-from : (x a b : ℕ) → pos x +ℤ subℕ a b ≡ subℕ (x + a) b
@@ -32,11 +32,3 @@ offset-sum a b c d = go (decLt a b) (decLt c d)
     go (no p) q = rw (le-ltb a b (omega arith)) (offset-from (a - b) c d ∙ offset-same (a - b + c) d (a + c) (b + d) (omega arith))
     go (yes p) (no q) = +ℤ-comm (subℕ a b) (subℕ c d) ∙ rw (le-ltb c d (omega arith)) (offset-from (c - d) a b ∙ offset-same (c - d + a) b (a + c) (b + d) (omega arith))
     go (yes p) (yes q) = rw (lt-ltb a b p, lt-ltb c d q, lt-ltb (a + c) (b + d) (omega arith)) (ap negsuc (omega arith))
-
--- nothing back
-pub offset-ahead : (a : ℕ) → subℕ a 0 ≡ pos a
-offset-ahead a = rw (le-ltb a 0 (omega arith)) (ap pos (omega arith))
-
--- so many back
-pub offset-back : (b : ℕ) → subℕ 0 (suc b) ≡ negsuc b
-offset-back b = rw (lt-ltb 0 (suc b) (omega arith)) (ap negsuc (omega arith))

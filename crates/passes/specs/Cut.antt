@@ -1,6 +1,6 @@
 -- A filter region cut from a larger one: away from the cut edges each pass, and then any list of passes, gives the larger one's samples. Assumes nothing.
 use mathlib.Core.Path.{_≡_, refl, sym, _∙_}
-use mathlib.Core.Bool.{Bool, true, false, cond, _&&_}
+use mathlib.Core.Bool.{Bool, true, false, cond}
 use mathlib.Core.List.{List, [], _∷_}
 use mathlib.Core.Logic.{_⊎_, inl, inr}
 use Prim.Native.Nat.{ℕ, zero, suc, _+_, _-_, _*_, _/_, _%_, _<_, _≤_}
@@ -9,14 +9,14 @@ use native.Mathlib.Decide.{ℕ-discrete}
 use borrow.Author.Tests.{eq-eqb, ne-eqb}
 use lib.Dec.{T, eqb}
 use lib.Ieee.{Float}
-use lib.IntN.{ℤ, pos, _+ℤ_, natAbs}
+use lib.IntN.{pos, _+ℤ_}
 use Rattle.mirror.specs.Mirror.{mirror}
-use Rattle.mirror.specs.Cut.{Deep, Carried, mirror-cut}
+use Rattle.mirror.specs.Cut.{Deep, mirror-cut}
 use Rattle.planes.specs.Picture.{Picture, around}
 use Rattle.gabor_kernel.specs.Ends.{stands}
 use Rattle.gabor_kernel.specs.Gabor.{gaborPass, total, sideWeight, diagonalWeight}
 use Rattle.gabor_kernel.specs.Local.{scaled-same}
-use Rattle.weights.specs.Steps.{kernel, dists, border, multiplier, EpfPass, epfPass, reach as stepReach}
+use Rattle.weights.specs.Steps.{kernel, dists, border, multiplier, epfPass, reach as stepReach}
 use Rattle.weights.specs.Local.{Alike, channelsBelow, scaled-below, steps-near, epf-same}
 use Rattle.passes.specs.declared.Settings.{Settings}
 use Rattle.passes.specs.Pass.{Area, Pass, gaborLike, edgePreserving, pass, passes, reach, reaches}

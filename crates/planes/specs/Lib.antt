@@ -7,3 +7,5 @@ pub mod Join
 pub mod Band
 pub mod Outside
 pub mod Stored
+pub mod Loop
+pub mod Room

@@ -2,13 +2,12 @@
 use mathlib.Core.Path.{_≡_}
 use mathlib.Core.Bool.{Bool, true, false, cond, not, _&&_, _||_}
 use mathlib.Core.List.{List, [], _∷_}
-use Prim.Native.Nat.{ℕ, zero, suc, _+_}
-use lib.Dec.{eqb, leb, ltb}
+use Prim.Native.Nat.{ℕ, suc}
+use lib.Dec.{eqb, leb}
 use lib.ListN.{length, getD, set, replicate}
 use Rattle.numbers.specs.Numbers.{outOfRange, bandNotOpen, passNotDone}
 use Rattle.numbers.specs.Checks.{Check, always}
 use Rattle.grids.specs.Table.{someBelow}
-use Rattle.passes.specs.Pass.{Pass, gaborLike}
 use Rattle.passes.specs.Plan.{plan}
 use Rattle.record.specs.declared.Setup.{Setup}
 use Rattle.record.specs.declared.Run.{Run}

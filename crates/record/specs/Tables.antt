@@ -19,10 +19,6 @@ pub of-true : (b : Bool) → b ≡ true → T b
 of-true true e = tt
 of-true false e = absurd (true≢false (sym e))
 
-pub is-false : (b : Bool) → (T b → ⊥) → b ≡ false
-is-false true f = absurd (f tt)
-is-false false f = refl
-
 -- a condition that does not apply, as it stands in a table: what it negates holds,
 pub met : (b : Bool) → not b ≡ false → T b
 met true e = tt

@@ -1,11 +1,10 @@
 -- What the code's tests say of the definitions. Assumes nothing.
 use mathlib.Core.Path.{_≡_, refl, sym, ap, _∙_}
-use mathlib.Core.Bool.{Bool, true, false, cond, not, _&&_}
-use Prim.Native.Nat.{ℕ, _+_, _-_, _*_, _/_, _<_, _≤_}
-use native.Mathlib.Omega.{arith}
+use mathlib.Core.Bool.{Bool, true, false, cond, not, _&&_, and-false}
+use Prim.Native.Nat.{ℕ, _-_, _*_, _<_, _≤_}
 use native.Mathlib.Nat.{div-zero}
 use borrow.Author.Tests.{lt-leb, le-leb, lt-ltb}
-use lib.Dec.{leb, ltb}
+use lib.Dec.{leb}
 use Rattle.region.specs.declared.Region.{Region}
 use Rattle.region.specs.Regions.{inside}
 use Rattle.region.specs.Measures.{pictured}
@@ -14,15 +13,13 @@ use Rattle.placement.specs.Placed.{placedChecks, placedOutcome}
 use Rattle.numbers.specs.Numbers.{outOfMeasure, notInside}
 use Rattle.numbers.specs.Checks.{firstOf}
 use Rattle.layout.specs.Outcome.{layoutOf}
+use Rattle.layout.specs.Fits.{zero-is}
 use Rattle.epf.specs.Blocks.{onBlocks}
 use Rattle.record.specs.declared.Setup.{Setup}
 use Rattle.record.specs.declared.Run.{Run}
 use Rattle.record.specs.Record.{passCount, finished, strayDone, notOpen, isDone, runFits}
+use Rattle.record.specs.Tables.{is-true}
 use Rattle.record.specs.Setup.{rowCount, bandCount, sized, blocksFit, itersFit, heightFits, countFits, setupFits}
-
-pub both-false : (a b : Bool) → b ≡ false → (a && b) ≡ false
-both-false true b e = e
-both-false false b e = refl
 
 -- ---- a region's sides and area
 
@@ -33,15 +30,15 @@ module _ (r : Region) where
 
   pub too-high : 16384 < r .height → false ≡ sized r
   unfolding sized
-  too-high h = rw (lt-leb (r .height) 16384 h, both-false (leb (r .width) 16384) false refl)
+  too-high h = simp (lt-leb (r .height) 16384 h, and-false)
 
   pub no-width : r .width < 1 → false ≡ sized r
   unfolding sized
-  no-width h = rw (lt-leb 1 (r .width) h, both-false (leb (r .width) 16384 && leb (r .height) 16384) false refl)
+  no-width h = simp (lt-leb 1 (r .width) h, and-false)
 
   pub no-height : r .height < 1 → false ≡ sized r
   unfolding sized
-  no-height h = rw (lt-leb 1 (r .height) h, both-false (leb 1 (r .width)) false refl, both-false (leb (r .width) 16384 && leb (r .height) 16384) false refl)
+  no-height h = simp (lt-leb 1 (r .height) h, and-false)
 
   pub sized-by-area : r .width ≤ 16384 → r .height ≤ 16384 → 1 ≤ r .width → 1 ≤ r .height → leb (r .width * r .height) 16777216 ≡ sized r
   unfolding sized
@@ -76,12 +73,6 @@ module _ (s : Setup) where
 
 -- ---- what start would refuse
 
-placed-parts : (a b c : Bool) → (cond (true && not (a && b)) outOfMeasure (cond (true && not c) notInside 0) ≡ 0 → (a ≡ true) × (b ≡ true) × (c ≡ true))
-placed-parts true true true e = (refl, refl, refl)
-placed-parts true true false e = absurd (omega arith)
-placed-parts true false c e = absurd (omega arith)
-placed-parts false b c e = absurd (omega arith)
-
 none-placed : (a b c d e : Bool) → (cond (true && not (a && b)) outOfMeasure (cond (true && not c) notInside 0) ≡ 0 → ⊥) → false ≡ (((a && b) && (c && d)) && e)
 none-placed true true true d e h = absurd (h refl)
 none-placed true true false d e h = refl
@@ -101,7 +92,9 @@ module _ (s : Setup) (a : PlacedAnswer) (e : a ≡ placedOutcome (s .image) (s .
 
   module _ (z : a .number ≡ 0) where
     parts : (pictured (s .image) ≡ true) × (pictured (s .filter) ≡ true) × (inside (s .image) (s .filter) ≡ true)
-    parts = placed-parts (pictured (s .image)) (pictured (s .filter)) (inside (s .image) (s .filter)) (sym number-is ∙ z)
+    parts =
+        let t = zero-is (pictured (s .image)) (pictured (s .filter)) (inside (s .image) (s .filter)) (sym number-is ∙ z) in
+        (is-true _ (t .0), is-true _ (t .1), is-true _ (t .2))
 
     pub not-on-blocks : blocksFit s ≡ false → false ≡ setupFits s
     unfolding setupFits

@@ -1,16 +1,16 @@
 -- |x|, and |x - y| as the larger of the two differences added to 0, for every x and y. Assumes nothing.
 use mathlib.Core.Path.{_≡_, refl, sym, ap, _∙_}
 use mathlib.Core.Logic.{_⊎_, inl, inr}
-use mathlib.Core.Bool.{Bool, true, false, not, _&&_, cond, Bool·beq}
+use mathlib.Core.Bool.{Bool, true, false, not, _&&_, cond}
 use Prim.Native.Nat.{ℕ, zero, suc, _+_, _-_, _*_, _/_, _%_, _^_, _<_, _≤_}
-use native.Mathlib.Nat.{mul-comm, mul-assoc, mul-right-comm, mul-pos, add-comm, mul-one, zero-lt-suc, zero-mul, mul-lt-mul-of-pos-right}
+use native.Mathlib.Nat.{mul-comm, mul-pos, add-comm, zero-lt-suc, zero-mul, mul-lt-mul-of-pos-right}
 use native.Mathlib.Decide.{decLt}
 use native.Mathlib.Omega.{arith}
 use borrow.Author.Tests.{lt-ltb, le-ltb}
 use lib.Dec.{T, eqb, ltb, leb, eqb→eq, ltb→lt, leb→le}
 use lib.Pow.{pow-add, pow-pos, pow-lt}
 use lib.IntN.{ℤ, pos, negsuc}
-use lib.Ieee.{Float, nan, inf, fin, Format, binary32, prec, emax, low, top, hid, up, down, lt, neg, sub, add, sum, round, units, odd, fits, toBits, ofBits, ofFields}
+use lib.Ieee.{Float, nan, inf, fin, Format, binary32, prec, emax, low, up, down, lt, neg, sub, add, sum, round, units, odd, fits, toBits, ofBits, ofFields}
 use lib.Ieee.Fits.{up-pos, down-pos, and-l, and-r, round-is, round-fits, sub-fits}
 use lib.Ieee.Exact.{HasValue, round-exact}
 use lib.Ieee.Nearest.{div-same}

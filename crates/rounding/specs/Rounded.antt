@@ -6,8 +6,8 @@ use native.Mathlib.Nat.{le-trans, le-of-eq, le-of-lt, le-of-mul-le-mul-right, mu
 use native.Mathlib.Omega.{arith}
 use lib.Dec.{T, eqb, ltb, eqb→eq, ltb→lt}
 use lib.Ieee.{Float, nan, inf, fin, Format, binary32, binary64, prec, emax, low, up, down, odd, units, round, sum, add, le}
-use lib.IntN.{ℤ, pos}
-use lib.Ieee.Fits.{up-pos, down-pos, and-l, round-is}
+use lib.IntN.{pos}
+use lib.Ieee.Fits.{down-pos, and-l, round-is}
 use lib.Ieee.Exact.{HasValue}
 use lib.Ieee.Back.{round-whole}
 use lib.Ieee.Scale.{round-same}

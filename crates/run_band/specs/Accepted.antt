@@ -1,28 +1,28 @@
 -- What an accepted band or advance was lent, and the outcomes as the code's tests give them. Assumes nothing.
-use mathlib.Core.Path.{_≡_, refl, sym, ap, _∙_}
+use mathlib.Core.Path.{_≡_, sym, ap, _∙_}
 use mathlib.Core.Bool.{Bool, true, false, cond, not, _&&_, _||_}
-use mathlib.Core.List.{List, [], _∷_}
-use Prim.Native.Nat.{ℕ, suc, _+_, _-_, _*_, _%_, _<_, _≤_, min}
+use mathlib.Core.List.{List, _∷_}
+use Prim.Native.Nat.{ℕ, suc, _+_, _-_, _*_, _%_, _<_, _≤_}
 use native.Mathlib.Nat.{mul-le-mul, suc-mul, le-div-iff-mul-le}
 use native.Mathlib.Omega.{arith}
-use borrow.Author.Tests.{eq-eqb, ne-eqb, le-leb, eqb-true}
-use lib.Dec.{T, eqb, leb, eqb→eq}
+use borrow.Author.Tests.{eq-eqb, ne-eqb, le-leb}
+use lib.Dec.{T, eqb, eqb→eq}
 use lib.ListN.{length}
 use lib.Ieee.{Float}
-use lib.Ieee.Fits.{and-l, and-r, and-i}
-use Rattle.numbers.specs.Checks.{applies, firstOf}
+use lib.Ieee.Fits.{and-l, and-r}
+use Rattle.numbers.specs.Checks.{firstOf}
 use Rattle.region.specs.Measures.{pictured-measured, measured-height}
 use Rattle.layout.specs.Outcome.{layoutOf}
 use Rattle.passes.specs.Plan.{oneIf, plan-length}
 use Rattle.record.specs.declared.Setup.{Setup}
 use Rattle.record.specs.declared.Run.{Run}
-use Rattle.record.specs.Setup.{layout, epfOn, rowCount, bandCount, bandFrom, bandTo, sized, itersFit, setLength, sigmaLength}
+use Rattle.record.specs.Setup.{epfOn, rowCount, bandCount, bandFrom, bandTo, sized, itersFit, setLength, sigmaLength}
 use Rattle.record.specs.Record.{passCount, marked, advanced, openChecks, overChecks}
-use Rattle.record.specs.Tables.{is-true, of-true, met-given, row-passed}
-use Rattle.record.specs.Laws.{SetupFits, setup-fits, image-sized, filter-sized, RunFits, Open, pass-left}
+use Rattle.record.specs.Tables.{of-true, met-given, row-passed}
+use Rattle.record.specs.Laws.{SetupFits, setup-fits, image-sized, filter-sized, pass-left}
 use Rattle.runs.specs.declared.RunAnswer.{RunAnswer}
-use Rattle.runs.specs.Band.{State, Outcome, setCheck, sigmaCheck, readsFirst, source, target, bandChecks, bandNumber, banded, bandAccepted, bandOutcome, advanceChecks, advanceNumber, advanceOutcome}
-use Rattle.runs.specs.Laws.{BandFits, band-fits, AdvanceFits, advance-fits}
+use Rattle.runs.specs.Band.{State, Outcome, setCheck, sigmaCheck, readsFirst, source, target, bandChecks, bandNumber, banded, bandOutcome, advanceChecks, advanceNumber, advanceOutcome}
+use Rattle.runs.specs.Laws.{BandFits, band-fits, advance-fits}
 use Rattle.run_band.specs.Rows.{RowsFit, passedRows, bandWritten}
 
 -- at most four passes

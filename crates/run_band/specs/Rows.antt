@@ -1,20 +1,17 @@
 -- Rows of a pass of a run: what they leave, and that neither filter refuses them. Assumes nothing.
-use mathlib.Core.Path.{_≡_, refl, sym, ap, _∙_}
-use mathlib.Core.Bool.{Bool, true, false, true≢false, cond, not, _&&_, _||_}
-use mathlib.Core.List.{List, [], _∷_}
-use Prim.Native.Nat.{ℕ, suc, _+_, _-_, _*_, _/_, _%_, _<_, _≤_, min}
+use mathlib.Core.Path.{_≡_, sym, ap, _∙_}
+use mathlib.Core.Bool.{Bool, true, false, true≢false, cond, _&&_}
+use mathlib.Core.List.{List, []}
+use Prim.Native.Nat.{ℕ, _+_, _-_, _*_, _<_, _≤_, min}
 use native.Mathlib.Decide.{ℕ-discrete}
 use native.Mathlib.Omega.{arith}
-use borrow.Author.Tests.{eq-eqb, ne-eqb, le-leb, lt-ltb, le-ltb}
-use lib.Dec.{T, eqb, leb, ltb}
-use lib.ListN.{length, getD}
+use borrow.Author.Tests.{eq-eqb, le-leb, lt-ltb, le-ltb}
+use lib.Dec.{eqb}
+use lib.ListN.{length}
 use lib.Ieee.{Float}
 use Rattle.numbers.specs.Checks.{firstOf}
-use Rattle.region.specs.declared.Region.{Region}
 use Rattle.region.specs.Regions.{inside}
 use Rattle.region.specs.Measures.{pictured}
-use Rattle.planes.specs.declared.Layout.{Layout}
-use Rattle.planes.specs.Picture.{Picture}
 use Rattle.planes.specs.Band.{inner, passed, rowsFit}
 use Rattle.planes.specs.Stored.{and-first, and-second}
 use Rattle.layout.specs.Outcome.{layoutOf, passChecks, PassOutcome, passOutcome}
@@ -26,7 +23,7 @@ use Rattle.epf.specs.declared.EpfStep.{EpfStep}
 use Rattle.epf.specs.Outcome.{stepChecks, epfChecks, epfOutcome}
 use Rattle.passes.specs.declared.Settings.{Settings}
 use Rattle.passes.specs.Pass.{gaborLike, pass}
-use Rattle.passes.specs.Plan.{plan, gaborAt, stepIndex, stepOf, oneIf, plan-length, plan-gabor, plan-step}
+use Rattle.passes.specs.Plan.{gaborAt, stepIndex, stepOf, oneIf, plan-length, plan-gabor, plan-step}
 use Rattle.record.specs.declared.Setup.{Setup}
 use Rattle.record.specs.declared.Run.{Run}
 use Rattle.record.specs.Setup.{layout, epfOn, area, rowCount, setLength, sigmaLength}

@@ -2,7 +2,7 @@
 use mathlib.Core.Path.{_≡_, refl, sym, ap, subst, _∙_}
 use mathlib.Core.Bool.{Bool, true, false, cond, not, _&&_}
 use mathlib.Core.List.{List, [], _∷_}
-use Prim.Native.Nat.{ℕ, _+_, _*_, _/_, _≤_}
+use Prim.Native.Nat.{ℕ, _*_, _/_, _≤_}
 use native.Mathlib.Omega.{arith}
 use borrow.Author.Tests.{le-leb, le-ltb, ne-eqb}
 use lib.Dec.{T, eqb}
@@ -20,7 +20,6 @@ use Rattle.layout.specs.Outcome.{layoutOf}
 use Rattle.tiles.specs.Tile.{across as layoutAcross}
 use Rattle.tiles.specs.Region.{down as layoutDown}
 use Rattle.frame.specs.declared.Frame.{Frame}
-use Rattle.frame.specs.Sizes.{dividedUp}
 use Rattle.grids.specs.Table.{badPresence, badGrid}
 use Rattle.blocks.specs.Measures.{across, down, badBlocks}
 use Rattle.groups.specs.Held.{someNotHeld}
@@ -29,13 +28,14 @@ use Rattle.sigma.specs.Outcome.{SigmasOutcome, leftIn, sigmasOutcome}
 use Rattle.epf.specs.Blocks.{ahead, ahead-small, onBlocks}
 use Rattle.record.specs.declared.Setup.{Setup}
 use Rattle.record.specs.declared.Run.{Run}
-use Rattle.record.specs.Setup.{layout, epfOn, itersFit, heightFits, countFits, sized, setLength, sigmaLength}
+use Rattle.record.specs.Setup.{layout, epfOn, itersFit, sized, setLength, sigmaLength}
 use Rattle.record.specs.Record.{started}
 use Rattle.record.specs.Tests.{sized-by-area}
+use Rattle.runs.specs.Tests.{blocks-same}
 use Rattle.runs.specs.Band.{setCheck}
 use Rattle.runs.specs.Start.{Handed, StartOutcome, blocksOf, pictureChecks, startNumber, sigmasFilled, noRun, startOutcome}
 use Rattle.run_start.specs.Lowest.{lowest, Parted, none, left, right, first-lowest, lowest-left, lowest-none, ascending-from}
-use Rattle.run_start.specs.Pieces.{runsEpf, sigmasAsked, ownChecks, numberOf}
+use Rattle.run_start.specs.Pieces.{runsEpf, sigmasAsked, ownChecks, numberOf, toldChecks}
 
 -- ---- a region of a picture, as the pieces judge it
 
@@ -67,10 +67,6 @@ blocks-good s e =
     )
 
 -- ---- rows, by their tests
-
--- blocks along a side, by two forms
-blocks-same : (m : ℕ) → dividedUp m 8 ≡ (m + 7) / 8
-blocks-same m = omega arith
 
 count-same : (s : Setup) → down (blocksOf s) * across (blocksOf s) ≡ layoutDown (layout s) * layoutAcross (layout s)
 unfolding layoutOf
@@ -114,10 +110,7 @@ module _ (n : ℕ) (h : Handed) where
   ownRows =
       given (runsEpf s) notOnBlocks (not (onBlocks (s .filter)))
       ∷ always wrongLength (not (eqb (length (h .first)) (setLength n s) && eqb (length (h .second)) (setLength n s)))
-      ∷ always outOfRange (not (itersFit s))
-      ∷ always outOfRange (not (heightFits s))
-      ∷ given (heightFits s) outOfRange (not (countFits s))
-      ∷ []
+      ∷ toldChecks s
 
   abbrev groupRows : List Check
   groupRows =

@@ -23,15 +23,16 @@ runsEpf s = itersFit s && epfOn s
 abbrev pub sigmasAsked : Setup → ℕ → ℕ
 sigmasAsked s sigmas = cond (itersFit s) sigmas 0
 
+-- what is told: iterations, band height and number of bands
+abbrev pub toldChecks : Setup → List Check
+toldChecks s = always outOfRange (not (itersFit s)) ∷ always outOfRange (not (heightFits s)) ∷ given (heightFits s) outOfRange (not (countFits s)) ∷ []
+
 -- the corner, both sets' lengths, and the settings that the record holds
 abbrev pub ownChecks : ℕ → Setup → ℕ → ℕ → List Check
 ownChecks n s first second =
     given (runsEpf s) notOnBlocks (not (onBlocks (s .filter)))
     ∷ setCheck n s first second
-    ∷ always outOfRange (not (itersFit s))
-    ∷ always outOfRange (not (heightFits s))
-    ∷ given (heightFits s) outOfRange (not (countFits s))
-    ∷ []
+    ∷ toldChecks s
 
 -- the lowest of where the regions lie, of those, and of frame, table, grids and block sigmas
 unfoldable pub numberOf : ℕ → Setup → Frame → List ℕ → List Float → ℕ → ℕ → ℕ → ℕ

@@ -31,7 +31,7 @@ ghost use Rattle.groups.specs.Outcome.{sigmaNumber};
 ghost use Rattle.epf.specs.Blocks.{onBlocks};
 ghost use Rattle.record.specs.Setup.{itersFit, heightFits, countFits};
 ghost use Rattle.record.specs.Record.{started};
-ghost use Rattle.runs.specs.Start.{Handed, StartOutcome, blocksOf, noSetup, noRun, startOutcome};
+ghost use Rattle.runs.specs.Start.{StartOutcome, blocksOf, noSetup, noRun, startOutcome};
 ghost use Rattle.run_start.specs.Lowest.{lowest};
 ghost use Rattle.run_start.specs.Pieces.{runsEpf, sigmasAsked, ownChecks, numberOf};
 

@@ -1,5 +1,5 @@
 -- Band and advance: what is lent, which number they give, and what they leave (document 01, "Runs" and "Eleven numbers"). Definitions only.
-use mathlib.Core.Bool.{Bool, true, false, cond, not, _&&_, _||_}
+use mathlib.Core.Bool.{Bool, cond, not, _&&_, _||_}
 use mathlib.Core.List.{List, [], _∷_}
 use Prim.Native.Nat.{ℕ, _%_}
 use lib.Dec.{eqb}

@@ -1,6 +1,6 @@
 -- The result: which number it gives, and what it leaves in the lent slice (document 01, "Runs"). Definitions only.
-use mathlib.Core.Bool.{Bool, cond, not}
-use mathlib.Core.List.{List, [], _∷_}
+use mathlib.Core.Bool.{cond, not}
+use mathlib.Core.List.{List, _∷_}
 use Prim.Native.Nat.{ℕ, _+_}
 use lib.Dec.{eqb}
 use lib.ListN.{length}

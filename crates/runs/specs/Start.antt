@@ -1,10 +1,9 @@
 -- Start: everything that it is handed, which number it gives, and what it leaves (document 01, "Runs", "Eleven numbers", "Block sigmas"). Definitions only.
-use mathlib.Core.Bool.{Bool, true, false, cond, not, _&&_}
+use mathlib.Core.Bool.{Bool, false, cond, not, _&&_}
 use mathlib.Core.List.{List, [], _∷_}
 use Prim.Native.Nat.{ℕ, _/_}
 use lib.Dec.{eqb}
-use lib.IntN.{pos}
-use lib.ListN.{length, replicate}
+use lib.ListN.{length}
 use lib.Ieee.{Float}
 use Rattle.numbers.specs.Numbers.{outOfMeasure, notInside, notOnBlocks, wrongLength, blockNotHeld, outOfRange}
 use Rattle.numbers.specs.Checks.{Check, always, given, firstOf}
@@ -20,7 +19,7 @@ use Rattle.sigma.specs.Sigma.{blockSigmas}
 use Rattle.epf.specs.Blocks.{ahead, onBlocks}
 use Rattle.record.specs.declared.Setup.{Setup}
 use Rattle.record.specs.declared.Run.{Run}
-use Rattle.record.specs.Setup.{epfOn, bandCount, itersFit, heightFits, countFits, setLength, sigmaLength}
+use Rattle.record.specs.Setup.{epfOn, itersFit, heightFits, countFits, setLength, sigmaLength}
 use Rattle.record.specs.Record.{started}
 use Rattle.runs.specs.declared.RunAnswer.{RunAnswer}
 

@@ -1,7 +1,7 @@
 -- What the code's tests say of the lengths. Assumes nothing.
-use mathlib.Core.Path.{_≡_, refl, sym, ap, _∙_}
-use mathlib.Core.Bool.{Bool, true, false, cond, not, _&&_, _||_}
-use Prim.Native.Nat.{ℕ, _+_, _*_, _/_, _%_, _<_, _≤_}
+use mathlib.Core.Path.{_≡_, sym, ap, _∙_}
+use mathlib.Core.Bool.{true, false, not, _&&_}
+use Prim.Native.Nat.{ℕ, _+_, _*_, _/_, _<_, _≤_}
 use native.Mathlib.Omega.{arith}
 use borrow.Author.Tests.{leb-true, lt-leb, le-leb, lt-ltb, eq-eqb, ne-eqb}
 use lib.Dec.{eqb, leb}
@@ -11,7 +11,7 @@ use Rattle.layout.specs.Outcome.{layoutOf}
 use Rattle.planes.specs.Stored.{and-first, and-second}
 use Rattle.frame.specs.Sizes.{dividedUp}
 use Rattle.record.specs.declared.Setup.{Setup}
-use Rattle.record.specs.Setup.{sized, resultRegion, setLength, sigmaLength, resultLength}
+use Rattle.record.specs.Setup.{sized, resultRegion, setLength, resultLength}
 use Rattle.runs.specs.Band.{setCheck, sigmaCheck}
 use Rattle.runs.specs.Result.{sliceCheck}
 
@@ -29,10 +29,6 @@ sized-sides r e =
 
 -- ---- the sets
 
-not-both : (a : Bool) → not (a && false) ≡ true
-not-both true = refl
-not-both false = refl
-
 module _ (n : ℕ) (s : Setup) (first second : ℕ) where
   pub sets-unknown : sized (s .image) ≡ false → false ≡ applies (setCheck n s first second)
   sets-unknown e = rw e
@@ -46,7 +42,7 @@ module _ (n : ℕ) (s : Setup) (first second : ℕ) where
 -- ---- the block sigmas
 
 -- blocks along a side, by two forms
-blocks-same : (m : ℕ) → dividedUp m 8 ≡ (m + 7) / 8
+pub blocks-same : (m : ℕ) → dividedUp m 8 ≡ (m + 7) / 8
 blocks-same m = omega arith
 
 module _ (n : ℕ) (s : Setup) (sigmas : ℕ) where

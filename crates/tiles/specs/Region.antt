@@ -1,11 +1,11 @@
 -- Tiles beside each other make a strip, strips below each other rows of the filter region. Assumes nothing.
-use mathlib.Core.Path.{_≡_, refl, sym, ap, _∙_}
-use mathlib.Core.Bool.{Bool, true, false, cond, _&&_}
+use mathlib.Core.Path.{_≡_, refl, sym, _∙_}
+use mathlib.Core.Bool.{Bool, true, false, cond, _&&_, and-false}
 use mathlib.Core.List.{List}
 use Prim.Native.Nat.{ℕ, zero, suc, _+_, _-_, _*_, _/_, _%_, _<_, _≤_, min}
-use native.Mathlib.Nat.{suc-mul, mul-le-mul, mul-le-mul-right, mul-comm}
+use native.Mathlib.Nat.{suc-mul, mul-le-mul, mul-le-mul-right}
 use native.Mathlib.Omega.{arith}
-use borrow.Author.Tests.{le-leb, lt-leb, le-ltb, lt-ltb, leb-true, eq-eqb, ne-eqb, eqb-true}
+use borrow.Author.Tests.{le-leb, lt-leb, le-ltb, lt-ltb, eq-eqb, ne-eqb}
 use lib.Dec.{leb, ltb, eqb}
 use lib.ListN.{length}
 use lib.Ieee.{Float}
@@ -14,8 +14,9 @@ use Rattle.planes.specs.Picture.{Picture}
 use Rattle.planes.specs.Fill.{fill}
 use Rattle.planes.specs.Rect.{rowsFill, planesFill}
 use Rattle.planes.specs.Join.{rect-below, rect-beside}
-use Rattle.planes.specs.Band.{layoutFits, setFits}
-use Rattle.planes.specs.Stored.{LayoutFits, layout-fits, and-first, and-second}
+use Rattle.planes.specs.Band.{setFits}
+use Rattle.planes.specs.Stored.{LayoutFits}
+use Rattle.planes.specs.Room.{set-facts, set-true}
 use Rattle.tiles.specs.declared.Step.{Step}
 use Rattle.tiles.specs.Store.{RectFits}
 use Rattle.tiles.specs.Tile.{across, sigmaStart, blocksOf, TileFits, stepOver}
@@ -126,10 +127,6 @@ regionOf n l s scales top from to sigmas src dst =
     cond (regionFits l n s top from to (length src) (length dst) (length sigmas))
     (planesFill (l .image .width) (l .image .height) (l .left) (l .width) (l .top + from) (to - from) (λ c i r. stepOver n l s scales top sigmas src c i (from + r)) dst n) dst
 
-off : (a b : Bool) → b ≡ false → (a && b) ≡ false
-off true b e = e
-off false b e = refl
-
 module _ (n : ℕ) (l : Layout) (s : Step) (scales : List Float) (top from to : ℕ) (sigmas src dst : List Float) where
   abbrev Kept : Type 0
   Kept = dst ≡ regionOf n l s scales top from to sigmas src dst
@@ -142,56 +139,38 @@ module _ (n : ℕ) (l : Layout) (s : Step) (scales : List Float) (top from to : 
   no-source e = kept (rw e)
 
   pub no-target : setFits l n (length dst) ≡ false → Kept
-  no-target e = kept (off (setFits l n (length src)) _ (rw e))
+  no-target e = kept (simp (e, and-false))
 
   pub no-sigmas : (length sigmas ≡ down l * across l → ⊥) → Kept
-  no-sigmas h = kept (off (setFits l n (length src)) _ (off (setFits l n (length dst)) _ (rw (ne-eqb (length sigmas) (down l * across l) h))))
+  no-sigmas h = kept (simp (ne-eqb (length sigmas) (down l * across l) h, and-false))
 
   pub no-step : 2 < s .step → Kept
-  no-step h = kept (off (setFits l n (length src)) _ (off (setFits l n (length dst)) _ (off (eqb (length sigmas) (down l * across l)) _ (rw (le-ltb (s .step) 3 h)))))
+  no-step h = kept (simp (le-ltb (s .step) 3 h, and-false))
 
   pub no-top : 4294967296 < top → Kept
-  no-top h = kept (off (setFits l n (length src)) _ (off (setFits l n (length dst)) _ (off (eqb (length sigmas) (down l * across l)) _ (off (ltb (s .step) 3) _ (rw (lt-leb top 4294967296 h))))))
+  no-top h = kept (simp (lt-leb top 4294967296 h, and-false))
 
   pub no-order : to < from → Kept
-  no-order h = kept (off (setFits l n (length src)) _ (off (setFits l n (length dst)) _ (off (eqb (length sigmas) (down l * across l)) _ (off (ltb (s .step) 3) _ (off (leb top 4294967296) _ (rw (lt-leb from to h)))))))
+  no-order h = kept (simp (lt-leb from to h, and-false))
 
   pub no-rows : l .height < to → Kept
-  no-rows h = kept (off (setFits l n (length src)) _ (off (setFits l n (length dst)) _ (off (eqb (length sigmas) (down l * across l)) _ (off (ltb (s .step) 3) _ (off (leb top 4294967296) _ (off (leb from to) _ (lt-leb to (l .height) h)))))))
+  no-rows h = kept (simp (lt-leb to (l .height) h, and-false))
 
   pub region-fits : setFits l n (length src) ≡ true → setFits l n (length dst) ≡ true → length sigmas ≡ down l * across l → s .step ≤ 2 → top ≤ 4294967296
       → RegionFits l n s top (length dst) (length sigmas) × (length src ≡ length dst)
   region-fits a b c d e =
-      let size = n * l .image .height * l .image .width in
-      let p = and-second (layoutFits l) (leb n 3 && eqb (length src) size) a in
-      let q = and-second (layoutFits l) (leb n 3 && eqb (length dst) size) b in
-      let u : length src ≡ size = eqb-true _ _ (and-second (leb n 3) (eqb (length src) size) p) in
-      let v : length dst ≡ size = eqb-true _ _ (and-second (leb n 3) (eqb (length dst) size) q) in (
-        record {
-          layout = layout-fits l (and-first (layoutFits l) (leb n 3 && eqb (length src) size) a);
-          planes = leb-true _ _ (and-first (leb n 3) (eqb (length src) size) p);
-          set = v;
-          sigmas = c;
-          low = omega arith;
-          place = e;
-        },
-        u ∙ sym v,
-      )
+      let u = set-facts l n (length src) a in
+      let v = set-facts l n (length dst) b in
+      (record { layout = u .layout; planes = u .planes; set = v .size; sigmas = c; low = omega arith; place = e }, u .size ∙ sym (v .size))
 
   pub region-done : RegionFits l n s top (length dst) (length sigmas) → length src ≡ length dst → from ≤ to → to ≤ l .height
       → regionOf n l s scales top from to sigmas src dst
       ≡ planesFill (l .image .width) (l .image .height) (l .left) (l .width) (l .top + from) (to - from) (λ c i r. stepOver n l s scales top sigmas src c i (from + r)) dst n
   unfolding regionOf
   region-done f e p q =
-      let g = f .layout in
       rw (
-        le-leb (l .image .width) 16384 (g .wide),
-        le-leb (l .image .height) 16384 (g .high),
-        le-leb (l .left + l .width) (l .image .width) (g .across),
-        le-leb (l .top + l .height) (l .image .height) (g .down),
-        le-leb n 3 (f .planes),
-        eq-eqb (length src) (n * l .image .height * l .image .width) (e ∙ f .set),
-        eq-eqb (length dst) (n * l .image .height * l .image .width) (f .set),
+        set-true l n (length src) (record { layout = f .layout; planes = f .planes; size = e ∙ f .set }),
+        set-true l n (length dst) (record { layout = f .layout; planes = f .planes; size = f .set }),
         eq-eqb (length sigmas) (down l * across l) (f .sigmas),
         lt-ltb (s .step) 3 (f .low),
         le-leb top 4294967296 (f .place),
@@ -205,11 +184,10 @@ pub record BlocksRoom (l : Layout) : Type 0 where
   pub wide : l .width ≤ 16384
   pub count : down l * across l ≤ 4198401
 
-pub blocks-room : (l : Layout) (n len : ℕ) → setFits l n len ≡ true → BlocksRoom l
-blocks-room l n len e =
-    let g = layout-fits l (and-first (layoutFits l) (leb n 3 && eqb len (n * l .image .height * l .image .width)) e) in
-    let h : l .height ≤ 16384 = omega (arith, g .down, g .high) in
-    let w : l .width ≤ 16384 = omega (arith, g .across, g .wide) in
+pub blocks-room : (l : Layout) → LayoutFits l → BlocksRoom l
+blocks-room l f =
+    let h : l .height ≤ 16384 = omega (arith, f .down, f .high) in
+    let w : l .width ≤ 16384 = omega (arith, f .across, f .wide) in
     let a : down l ≤ 2049 = omega arith in
     let b : across l ≤ 2049 = omega arith in
     record { high = h; wide = w; count = mul-le-mul a b }

@@ -1,13 +1,13 @@
 -- The slopes of a tile's columns: (6.6 × (s − 1)) / sigma × M, for rows that lie at no block's border and for those that do. Assumes nothing.
 use mathlib.Core.Path.{_≡_, refl, sym, ap, _∙_}
-use mathlib.Core.Bool.{Bool, true, false, cond, _||_}
+use mathlib.Core.Bool.{Bool, true, false, cond}
 use mathlib.Core.List.{List}
-use Prim.Native.Nat.{ℕ, zero, suc, _+_, _-_, _*_, _/_, _%_, _<_, _≤_}
+use Prim.Native.Nat.{ℕ, _+_, _-_, _*_, _/_, _%_, _<_, _≤_}
 use native.Mathlib.Omega.{arith}
 use lib.ListN.{length, getD}
 use lib.Ieee.{Float, nan}
 use Rattle.planes.specs.Samples.{_⊗_, _⊘_}
-use Rattle.planes.specs.Fill.{fill, length-fill, fill-then, fill-before, fill-cong}
+use Rattle.planes.specs.Fill.{fill, length-fill, fill-then, fill-before}
 use Rattle.weights.specs.Steps.{falloff, border, multiplier}
 use Rattle.distances.specs.Runs.{run-at}
 use Rattle.lanes.specs.Lanes.{kindOf}

@@ -1,14 +1,14 @@
 -- A rectangle of a set taken from another list, row by row: what is asked, and what the loops leave. Assumes nothing.
-use mathlib.Core.Path.{_≡_, refl, sym, ap, _∙_}
+use mathlib.Core.Path.{_≡_, _∙_}
 use mathlib.Core.List.{List}
-use Prim.Native.Nat.{ℕ, zero, suc, _+_, _-_, _*_, _<_, _≤_}
+use Prim.Native.Nat.{ℕ, _+_, _-_, _*_, _<_, _≤_}
 use native.Mathlib.Nat.{suc-mul, mul-le-mul, mul-le-mul-right, add-mul}
 use native.Mathlib.Omega.{arith}
-use lib.ListN.{length, getD}
+use lib.ListN.{getD}
 use lib.Ieee.{Float, nan}
 use Rattle.planes.specs.declared.Layout.{Layout}
 use Rattle.planes.specs.Picture.{Picture}
-use Rattle.planes.specs.Rect.{rowsFill, planesFill, planes-turn, rows-cong}
+use Rattle.planes.specs.Rect.{rowsFill, planesFill, planes-turn}
 use Rattle.planes.specs.Stored.{LayoutFits}
 
 -- sample i of row r of plane c, in planes that start at index `at`, `plane` apart, with rows `step` apart

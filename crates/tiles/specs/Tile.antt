@@ -2,12 +2,12 @@
 use mathlib.Core.Path.{_≡_, refl, sym, ap, _∙_}
 use mathlib.Core.Bool.{Bool, true, false, cond, _&&_}
 use mathlib.Core.List.{List}
-use Prim.Native.Nat.{ℕ, zero, suc, _+_, _-_, _*_, _/_, _%_, _<_, _≤_, min}
+use Prim.Native.Nat.{ℕ, suc, _+_, _-_, _*_, _/_, _%_, _<_, _≤_, min}
 use native.Mathlib.Nat.{mul-assoc, add-mul, mul-le-mul}
 use native.Mathlib.Decide.{decLt}
 use native.Mathlib.Omega.{arith}
 use borrow.Author.Tests.{lt-ltb, le-ltb}
-use lib.Dec.{T, ltb}
+use lib.Dec.{ltb}
 use lib.ListN.{length, getD}
 use lib.IntN.{ℤ, pos, negsuc, _+ℤ_, subℕ, natAbs}
 use lib.Ieee.{Float, nan}
@@ -15,16 +15,16 @@ use Rattle.mirror.specs.Mirror.{mirror}
 use Rattle.mirror.specs.Offset.{offset-same}
 use Rattle.planes.specs.declared.Layout.{Layout}
 use Rattle.planes.specs.Samples.{_⊘_}
-use Rattle.planes.specs.Picture.{Picture, Around, around, around-inside}
+use Rattle.planes.specs.Picture.{Picture, around, around-inside}
 use Rattle.planes.specs.Sets.{of}
 use Rattle.planes.specs.Rect.{planesFill, length-planesFill}
 use Rattle.planes.specs.Join.{planes-cong, rect-at, rect-inside}
 use Rattle.planes.specs.Band.{inner}
 use Rattle.window.specs.Window.{windowSample, loaded, WindowFits, window-loaded}
-use Rattle.weights.specs.Steps.{Scaled, kernel, dists, reach, scaled, copied, blend, divisor, epf, multiplier, EpfPass, epfPass}
+use Rattle.weights.specs.Steps.{kernel, dists, reach, scaled, copied, blend, divisor, epf, multiplier, EpfPass, epfPass}
 use Rattle.weights.specs.Local.{Alike, epf-same, steps-near, scaled-below}
-use Rattle.distances.specs.Seen.{flat, seen}
-use Rattle.distances.specs.Taps.{half, tapOf, neighbour}
+use Rattle.distances.specs.Seen.{seen}
+use Rattle.distances.specs.Taps.{half}
 use Rattle.distances.specs.Fields.{fieldsFill, distancesOf, distances-done, length-fields, neighbour-at}
 use Rattle.lanes.specs.Lanes.{laneOf, kindOf, lanesOf, lanes-done}
 use Rattle.lanes.specs.Meaning.{lane-means}

@@ -2,7 +2,7 @@
 use weights::multiplier;
 use weights::slope;
 ghost use mathlib.Core.Path.{_≡_};
-ghost use Prim.Native.Nat.{ℕ, _+_, _-_, _*_, _<_, _≤_};
+ghost use Prim.Native.Nat.{ℕ, _+_, _*_, _<_, _≤_};
 ghost use lib.ListN.{length};
 ghost use Rattle.planes.specs.Samples.{_⊗_};
 ghost use Rattle.planes.specs.Fill.{fill};

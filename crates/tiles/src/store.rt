@@ -1,7 +1,7 @@
 // Rectangles of a set taken from another list. These functions know no formula.
 use planes::Layout;
 ghost use mathlib.Core.Path.{_≡_};
-ghost use Prim.Native.Nat.{ℕ, _+_, _-_, _*_, _<_, _≤_};
+ghost use Prim.Native.Nat.{ℕ, _+_, _*_, _<_, _≤_};
 ghost use lib.ListN.{length, getD};
 ghost use lib.Ieee.{nan};
 ghost use Rattle.planes.specs.Fill.{fill};

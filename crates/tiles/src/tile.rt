@@ -16,7 +16,7 @@ ghost use Rattle.planes.specs.Rect.{planesFill};
 ghost use Rattle.planes.specs.Band.{inner};
 ghost use Rattle.weights.specs.Steps.{copied as copiedOf};
 ghost use Rattle.tiles.specs.Store.{RectFits};
-ghost use Rattle.tiles.specs.Tile.{across, sigmaStart, blocksOf, TileFits, Scratch, Computed, Restored, stepOver};
+ghost use Rattle.tiles.specs.Tile.{sigmaStart, blocksOf, TileFits, Scratch, Computed, Restored, stepOver};
 
 pub(crate) fn at_most(x: usize, k: usize) -> usize
     ensures { λ r. ⌜ r ≡ min x k ⌝ }

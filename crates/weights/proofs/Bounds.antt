@@ -14,7 +14,7 @@ use lib.Ieee.{Float, nan, inf, fin, binary32, up, down, round, sum, add, sub, mu
 use lib.Ieee.Fits.{down-pos}
 use lib.Ieee.Positive.{above}
 use lib.Ieee.Exact.{HasValue}
-use Rattle.planes.specs.Samples.{_⊕_, _⊖_, _⊗_, _⊘_, bits, b0, b1}
+use Rattle.planes.specs.Samples.{_⊕_, _⊖_, _⊗_, _⊘_, b0, b1}
 use Rattle.planes.specs.Picture.{Around}
 use Rattle.rounding.specs.Rounded.{Within, round-within, round-signed, add-within, within-le}
 use Rattle.rounding.specs.Side.{Side, of-signed, add-side, mul-side, div-side, not-negative, not-under, either, wider}

@@ -1,14 +1,14 @@
 -- What a window holds: samples of a filter region, mirrored at its edges. Definitions, and the laws that the loops cite. Assumes nothing.
-use mathlib.Core.Path.{_≡_, refl, sym, ap, _∙_}
-use mathlib.Core.Bool.{Bool, true, false, cond, _&&_}
+use mathlib.Core.Path.{_≡_, refl, ap, _∙_}
+use mathlib.Core.Bool.{Bool, true, false, cond, _&&_, and-false}
 use mathlib.Core.List.{List}
-use Prim.Native.Nat.{ℕ, zero, suc, _+_, _-_, _*_, _<_, _≤_}
-use native.Mathlib.Nat.{suc-mul, mul-le-mul, mul-le-mul-right, add-mul}
+use Prim.Native.Nat.{ℕ, _+_, _-_, _*_, _<_, _≤_}
+use native.Mathlib.Nat.{mul-le-mul-right, add-mul}
 use native.Mathlib.Omega.{arith}
-use borrow.Author.Tests.{le-ltb, lt-ltb, le-leb, lt-leb, leb-true, eq-eqb, eqb-true}
-use lib.Dec.{leb, ltb, eqb}
+use borrow.Author.Tests.{le-ltb, lt-ltb, le-leb, lt-leb}
+use lib.Dec.{leb, ltb}
 use lib.ListN.{length, getD}
-use lib.IntN.{ℤ, pos, subℕ}
+use lib.IntN.{subℕ}
 use lib.Ieee.{Float, nan}
 use Rattle.mirror.specs.Mirror.{mirror, mirror-in}
 use Rattle.planes.specs.declared.Layout.{Layout}
@@ -16,8 +16,9 @@ use Rattle.planes.specs.Picture.{Picture}
 use Rattle.planes.specs.Sets.{of}
 use Rattle.planes.specs.Fill.{fill, fill-then}
 use Rattle.planes.specs.Rect.{rowsFill, planesFill, planes-turn, rows-cong}
-use Rattle.planes.specs.Band.{inner, layoutFits, setFits}
-use Rattle.planes.specs.Stored.{LayoutFits, layout-fits, and-first, and-second}
+use Rattle.planes.specs.Band.{inner, setFits}
+use Rattle.planes.specs.Stored.{LayoutFits}
+use Rattle.planes.specs.Room.{set-facts, set-true, regionStart, region-index, plane-room}
 
 -- ---- the samples
 
@@ -104,19 +105,10 @@ module _ (src : List Float) (row x w : ℕ) where
 pub row-room : (start stride w h len k : ℕ) → start + (h - 1) * stride + w ≤ len → k < h → start + k * stride + w ≤ len
 row-room start stride w h len k r l = let m : k * stride ≤ (h - 1) * stride = mul-le-mul-right stride (omega arith) in omega arith
 
--- where plane c of the filter region starts
-abbrev pub regionStart : Layout → ℕ → ℕ
-regionStart l c = (c * l .image .height + l .top) * l .image .width + l .left
-
 module _ (l : Layout) (src : List Float) (x y c : ℕ) where
-  index : (u v : ℕ) → regionStart l c + v * l .image .width + u ≡ (c * l .image .height + (l .top + v)) * l .image .width + (l .left + u)
-  index u v =
-      let e : c * l .image .height + (l .top + v) ≡ c * l .image .height + l .top + v = omega arith in
-      rw e (omega (arith, add-mul (c * l .image .height + l .top) v (l .image .width)))
-
   plane-sample : (i j : ℕ) → planeSample src (regionStart l c) (l .image .width) (l .width) (l .height) x y i j ≡ windowSample l src x y c j i
   unfolding planeSample rowSample windowSample inner of
-  plane-sample i j = ap (λ (k : ℕ). getD src k nan) (index (mirror (subℕ (x + j) 4) (l .width)) (mirror (subℕ (y + i) 3) (l .height)))
+  plane-sample i j = ap (λ (k : ℕ). getD src k nan) (region-index l c (mirror (subℕ (x + j) 4) (l .width)) (mirror (subℕ (y + i) 3) (l .height)))
 
 -- a turn of the loop over planes
 pub plane-next : (l : Layout) (src win a b : List Float) (x y top rows cols k at start : ℕ)
@@ -128,40 +120,26 @@ plane-next l src win a b x y top rows cols k at start p e f q =
     planes-turn 64 14 0 cols top rows (λ c j i. windowSample l src x y c j (top + i)) win a b k p
     (q ∙ rw (← z, f) (rows-cong a at 64 cols rows _ _ (λ i j r s. plane-sample l src x y k (top + i) j)))
 
--- plane c, in numbers of the machine
-pub record PlaneRoom (l : Layout) (c x y top rows cols len : ℕ) : Type 0 where
-  pub lines : c * l .image .height ≤ 49152
-  pub start : (c * l .image .height + l .top) * l .image .width ≤ 65536 * 16384
-  pub region : PlaneFits ((c * 14 + top) * 64) (regionStart l c) (l .image .width) (l .width) (l .height) x y rows cols len
-
-pub plane-room : (l : Layout) (n c len x y top rows cols : ℕ) → WindowFits l n len x y top rows cols → c < n → PlaneRoom l c x y top rows cols len
-plane-room l n c len x y top rows cols f p =
-    let few : c ≤ 2 = omega (arith, f .planes) in
+-- what plane c's loop asks
+pub plane-fits : (l : Layout) (n c len x y top rows cols : ℕ) → WindowFits l n len x y top rows cols → c < n
+    → PlaneFits ((c * 14 + top) * 64) (regionStart l c) (l .image .width) (l .width) (l .height) x y rows cols len
+plane-fits l n c len x y top rows cols f p =
     let g = f .layout in
-    let a : c * l .image .height ≤ 2 * 16384 = mul-le-mul few (g .high) in
-    let b : c * l .image .height + l .top ≤ 65536 = omega (arith, g .down, g .high) in
-    let t : c * l .image .height + l .top + l .height ≤ n * l .image .height = omega (arith, g .down, suc-mul c (l .image .height), mul-le-mul-right (l .image .height) p) in
+    let r = plane-room l n c g (f .planes) p in
+    let few : c ≤ 2 = omega (arith, f .planes) in
     let h : l .height - 1 + 1 ≡ l .height = omega (arith, f .row) in
     record {
-      lines = omega arith;
-      start = mul-le-mul b (g .wide);
-      region = record {
-        ends = omega (arith, f .source, g .across, add-mul (c * l .image .height + l .top) (l .height) (l .image .width), mul-le-mul-right (l .image .width) t, add-mul (l .height - 1) 1 (l .image .width), ap (λ (k : ℕ). k * l .image .width) h);
-        wide = omega (arith, g .across, g .wide);
-        high = omega (arith, g .down, g .high);
-        col = f .col;
-        row = f .row;
-        target = omega (arith, f .end);
-        least = f .least;
-        most = f .most;
-      };
+      ends = omega (arith, f .source, g .across, r .ends, add-mul (l .height - 1) 1 (l .image .width), ap (λ (k : ℕ). k * l .image .width) h);
+      wide = omega (arith, g .across, g .wide);
+      high = omega (arith, g .down, g .high);
+      col = f .col;
+      row = f .row;
+      target = omega (arith, f .end);
+      least = f .least;
+      most = f .most;
     }
 
 -- ---- the tests
-
-off : (a b : Bool) → b ≡ false → (a && b) ≡ false
-off true b e = e
-off false b e = refl
 
 module _ (l : Layout) (n : ℕ) (src : List Float) (x y top rows cols : ℕ) (win : List Float) where
   abbrev Kept : Type 0
@@ -175,33 +153,31 @@ module _ (l : Layout) (n : ℕ) (src : List Float) (x y top rows cols : ℕ) (wi
   no-source e = kept (rw e)
 
   pub no-column : l .width ≤ x → Kept
-  no-column h = kept (off (setFits l n (length src)) _ (rw (le-ltb x (l .width) h)))
+  no-column h = kept (simp (le-ltb x (l .width) h, and-false))
 
   pub no-row : l .height ≤ y → Kept
-  no-row h = kept (off (setFits l n (length src)) _ (off (ltb x (l .width)) _ (rw (le-ltb y (l .height) h))))
+  no-row h = kept (simp (le-ltb y (l .height) h, and-false))
 
   pub no-top : 14 < top → Kept
-  no-top h = kept (off (setFits l n (length src)) _ (off (ltb x (l .width)) _ (off (ltb y (l .height)) _ (rw (lt-leb top 14 h)))))
+  no-top h = kept (simp (lt-leb top 14 h, and-false))
 
   pub no-rows : 14 - top < rows → Kept
-  no-rows h = kept (off (setFits l n (length src)) _ (off (ltb x (l .width)) _ (off (ltb y (l .height)) _ (off (leb top 14) _ (rw (lt-leb rows (14 - top) h))))))
+  no-rows h = kept (simp (lt-leb rows (14 - top) h, and-false))
 
   pub few-columns : cols < 4 → Kept
-  few-columns h = kept (off (setFits l n (length src)) _ (off (ltb x (l .width)) _ (off (ltb y (l .height)) _ (off (leb top 14) _ (off (leb rows (14 - top)) _ (rw (lt-leb 4 cols h)))))))
+  few-columns h = kept (simp (lt-leb 4 cols h, and-false))
 
   pub many-columns : 64 < cols → Kept
-  many-columns h =
-      kept (off (setFits l n (length src)) _ (off (ltb x (l .width)) _ (off (ltb y (l .height)) _ (off (leb top 14) _ (off (leb rows (14 - top)) _ (off (leb 4 cols) _ (lt-leb cols 64 h)))))))
+  many-columns h = kept (simp (lt-leb cols 64 h, and-false))
 
   -- a set's length and a window's place
   pub window-fits : setFits l n (length src) ≡ true → x < l .width → y < l .height → top ≤ 14 → rows ≤ 14 - top → 4 ≤ cols → cols ≤ 64 → WindowFits l n (length src) x y top rows cols
   window-fits e a b t r u v =
-      let size = n * l .image .height * l .image .width in
-      let few = and-second (layoutFits l) (leb n 3 && eqb (length src) size) e in
+      let s = set-facts l n (length src) e in
       record {
-        layout = layout-fits l (and-first (layoutFits l) (leb n 3 && eqb (length src) size) e);
-        planes = leb-true _ _ (and-first (leb n 3) (eqb (length src) size) few);
-        source = eqb-true _ _ (and-second (leb n 3) (eqb (length src) size) few);
+        layout = s .layout;
+        planes = s .planes;
+        source = s .size;
         col = a;
         row = b;
         end = omega arith;
@@ -213,14 +189,8 @@ module _ (l : Layout) (n : ℕ) (src : List Float) (x y top rows cols : ℕ) (wi
   pub window-loaded : WindowFits l n (length src) x y top rows cols → loaded l n src x y top rows cols win ≡ planesFill 64 14 0 cols top rows (λ c j i. windowSample l src x y c j (top + i)) win n
   unfolding loaded
   window-loaded f =
-      let g = f .layout in
       rw (
-        le-leb (l .image .width) 16384 (g .wide),
-        le-leb (l .image .height) 16384 (g .high),
-        le-leb (l .left + l .width) (l .image .width) (g .across),
-        le-leb (l .top + l .height) (l .image .height) (g .down),
-        le-leb n 3 (f .planes),
-        eq-eqb (length src) (n * l .image .height * l .image .width) (f .source),
+        set-true l n (length src) (record { layout = f .layout; planes = f .planes; size = f .source }),
         lt-ltb x (l .width) (f .col),
         lt-ltb y (l .height) (f .row),
         le-leb top 14 (omega (arith, f .end)),

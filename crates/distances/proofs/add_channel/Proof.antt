@@ -1,7 +1,6 @@
 -- `distances::add_channel` meets its contract. Step 2 compares single samples; steps 0 and 1 store the differences first. Assumes nothing.
 use mathlib.Core.Path.{ap, _∙_}
 use native.Mathlib.Omega.{arith}
-use borrow.Author.Needs.{needs}
 use denote.Ref.{now}
 use lib.ListN.{length}
 use Rattle.planes.specs.Fill.{length-fill}

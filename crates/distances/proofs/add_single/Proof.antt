@@ -1,33 +1,28 @@
 -- `distances::add_single` meets its contract. The invariant: i of n are added. Assumes nothing.
-use mathlib.Core.Path.{_≡_, refl}
-use Prim.Native.Nat.{ℕ, _+_, _-_, _*_, _≤_}
+use Prim.Native.Nat.{ℕ, _+_, _-_}
 use native.Mathlib.Omega.{arith}
 use borrow.Author.Needs.{needs}
 use denote.Ref.{now}
 use lib.ListN.{getD}
 use lib.Ieee.{Float, nan}
 use Rattle.planes.specs.Samples.{_⊕_, _⊗_}
-use Rattle.planes.specs.Fill.{fill, fill-end}
-use Rattle.distances.specs.Runs.{run-turn}
+use Rattle.planes.specs.Loop.{Written, written-none, written-all}
+use Rattle.distances.specs.Runs.{run-more}
 use Rattle.distances.specs.Seen.{nearby, apartBy}
 use Rattle.distances.proofs.add_single.Statement.{statement}
 use Rattle.distances.proofs.add_single.Tie as tie
 
 abbrev Inv-loop : tie.InvT-loop
-Inv-loop e₀ at win c k scale from n base i₀ e i = (i ≤ n) × (e ≡ fill e₀ at i (λ (j : ℕ). getD e₀ (at + j) nan ⊕ scale ⊗ nearby 2 (apartBy win c k) (from + j)))
+Inv-loop e₀ at win c k scale from n base i₀ e i = Written e₀ at n (λ (j : ℕ). getD e₀ (at + j) nan ⊕ scale ⊗ nearby 2 (apartBy win c k) (from + j)) e i
 
 abbrev μ-loop : tie.MeasureT-loop
 μ-loop e₀ at win c k scale from n base i₀ e i = n - i
-
-loop-holds : tie.Need-loop-holds Inv-loop μ-loop
-unfolding fill
-loop-holds c = (omega arith, refl)
 
 loop-again : tie.Need-loop-again Inv-loop μ-loop
 unfolding nearby apartBy
 loop-again c =
     let l = c .before .before .before .before .before in let s = l .before in
-    (omega arith, run-turn _ _ _ _ (λ (x : Float) (j : ℕ). x ⊕ s .args .scale ⊗ nearby 2 (apartBy (now (s .args .win)) (s .args .c) (s .args .k)) (s .args .from + j)) _ (l .loop .inv .1) (rw (c .difference .ensures)))
+    run-more (λ (x : Float) (j : ℕ). x ⊕ s .args .scale ⊗ nearby 2 (apartBy (now (s .args .win)) (s .args .c) (s .args .k)) (s .args .from + j)) (l .loop .inv) (omega arith) (rw (c .difference .ensures))
 
 pub add-single-spec : {M : Type 1} → statement M
 add-single-spec = tie.close
@@ -35,7 +30,7 @@ add-single-spec = tie.close
     Inv-loop
     μ-loop
     (λ c. omega arith)
-    loop-holds
+    (λ c. written-none _ _ _ _)
     (λ c. omega arith)
     (λ c. omega arith)
     (λ c. omega arith)
@@ -54,4 +49,4 @@ add-single-spec = tie.close
     (λ c. omega arith)
     (λ c. omega arith)
     loop-again
-    (λ c. let inv = c .before .loop .inv in fill-end _ _ _ _ _ _ (inv .1) (inv .0) (c .loop-test .left)))
+    (λ c. written-all (c .before .loop .inv) (c .loop-test .left)))

@@ -1,5 +1,4 @@
 -- `distances::ahead` meets its contract. Assumes nothing.
-use mathlib.Core.Path.{_≡_}
 use native.Mathlib.Omega.{arith}
 use borrow.Author.Needs.{needs}
 use Rattle.distances.specs.Taps.{shift-far}

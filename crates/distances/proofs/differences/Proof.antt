@@ -1,26 +1,21 @@
 -- `distances::differences` meets its contract. The invariant: i of n are there. Assumes nothing.
-use mathlib.Core.Path.{_≡_, refl}
-use Prim.Native.Nat.{ℕ, _+_, _-_, _*_, _≤_}
+use Prim.Native.Nat.{ℕ, _+_, _-_}
 use native.Mathlib.Omega.{arith}
 use borrow.Author.Needs.{needs}
-use Rattle.planes.specs.Fill.{fill, fill-turn, fill-end}
+use Rattle.planes.specs.Loop.{Written, written-none, written-more, written-all}
 use Rattle.distances.specs.Seen.{apartBy}
 use Rattle.distances.proofs.differences.Statement.{statement}
 use Rattle.distances.proofs.differences.Tie as tie
 
 abbrev Inv-loop : tie.InvT-loop
-Inv-loop d₀ win c k from n base i₀ d i = (i ≤ n) × (d ≡ fill d₀ from i (λ (j : ℕ). apartBy win c k (from + j)))
+Inv-loop d₀ win c k from n base i₀ d i = Written d₀ from n (λ (j : ℕ). apartBy win c k (from + j)) d i
 
 abbrev μ-loop : tie.MeasureT-loop
 μ-loop d₀ win c k from n base i₀ d i = n - i
 
-loop-holds : tie.Need-loop-holds Inv-loop μ-loop
-unfolding fill
-loop-holds c = (omega arith, refl)
-
 loop-again : tie.Need-loop-again Inv-loop μ-loop
 unfolding apartBy
-loop-again c = (omega arith, fill-turn _ _ _ _ _ _ (c .before .before .before .before .loop .inv .1) (c .difference .ensures))
+loop-again c = written-more (c .before .before .before .before .loop .inv) (omega arith) (c .difference .ensures)
 
 pub differences-spec : {M : Type 1} → statement M
 differences-spec = tie.close
@@ -28,7 +23,7 @@ differences-spec = tie.close
     Inv-loop
     μ-loop
     (λ c. omega arith)
-    loop-holds
+    (λ c. written-none _ _ _ _)
     (λ c. omega arith)
     (λ c. omega arith)
     (λ c. omega arith)
@@ -44,4 +39,4 @@ differences-spec = tie.close
     (λ c. omega arith)
     (λ c. omega arith)
     loop-again
-    (λ c. let inv = c .before .loop .inv in fill-end _ _ _ _ _ _ (inv .1) (inv .0) (c .loop-test .left)))
+    (λ c. written-all (c .before .loop .inv) (c .loop-test .left)))

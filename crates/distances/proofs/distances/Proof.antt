@@ -1,8 +1,6 @@
 -- `distances::distances` meets its contract. Where there are too many planes or rows the fields are as they were. Assumes nothing.
 use mathlib.Core.Path.{sym, _∙_}
 use native.Mathlib.Omega.{arith}
-use borrow.Author.Needs.{needs}
-use denote.Ref.{now}
 use Rattle.distances.specs.Fields.{many-planes, no-rows, many-rows, distances-done}
 use Rattle.distances.proofs.distances.Statement.{statement}
 use Rattle.distances.proofs.distances.Tie as tie

@@ -1,6 +1,5 @@
 -- `distances::field_of` meets its contract. Assumes nothing.
 use mathlib.Core.Path.{_∙_}
-use native.Mathlib.Omega.{arith}
 use borrow.Author.Needs.{needs}
 use Rattle.distances.specs.Taps.{field-low, field-high, field-first, field-second}
 use Rattle.distances.proofs.field_of.Statement.{statement}

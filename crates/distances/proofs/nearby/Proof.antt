@@ -2,7 +2,6 @@
 use mathlib.Core.Path.{_≡_, refl}
 use Prim.Native.Nat.{ℕ, zero, suc, _+_, _-_, _<_}
 use native.Mathlib.Omega.{arith}
-use borrow.Author.Needs.{needs}
 use lib.Ieee.{Float}
 use Rattle.planes.specs.Samples.{_⊕_, b0}
 use Rattle.distances.specs.Seen.{nearby}

@@ -1,6 +1,4 @@
 -- `distances::shift_of_first` meets its contract. Assumes nothing.
-use mathlib.Core.Path.{_≡_, refl}
-use borrow.Author.Needs.{needs}
 use Rattle.distances.specs.Taps.{shift-last}
 use Rattle.distances.proofs.shift_of_first.Statement.{statement}
 use Rattle.distances.proofs.shift_of_first.Tie as tie

@@ -1,11 +1,11 @@
 -- `epf::ahead` meets its contract. The machine's bits are cleared (`toZ-ofZ`), then it goes by the sign. Assumes nothing.
-use mathlib.Core.Path.{_≡_, ap, _∙_}
+use mathlib.Core.Path.{ap, _∙_}
 use Prim.Native.Nat.{_^_, _<_, _≤_}
 use native.Mathlib.Omega.{arith}
 use mir.Facts.{toZ-ofZ}
 use mir.Syntax.{w32, w64}
 use mir.Val.{Fits, SFits}
-use lib.IntN.{ℤ, pos, natAbs}
+use lib.IntN.{ℤ, natAbs}
 use lib.Signed.{mag}
 use Rattle.epf.specs.Blocks.{ahead, ahead-small, not-negative, negative}
 use Rattle.epf.proofs.ahead.Statement.{statement}

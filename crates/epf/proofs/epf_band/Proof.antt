@@ -1,11 +1,9 @@
 -- `epf::epf_band` meets its contract. What lies outside the filter region is copied, then its rows are filtered. Assumes nothing.
-use mathlib.Core.Path.{_≡_, sym, _∙_}
-use Prim.Native.Nat.{_≤_}
+use mathlib.Core.Path.{_∙_}
 use native.Mathlib.Omega.{arith}
 use borrow.Author.Needs.{needs}
 use denote.Ref.{now}
-use lib.ListN.{length}
-use Rattle.planes.specs.Stored.{FilterRows, filter-rows}
+use Rattle.planes.specs.Stored.{filter-rows}
 use Rattle.tiles.specs.Tile.{stepOver}
 use Rattle.tiles.specs.Region.{region-long, region-done}
 use Rattle.epf.specs.Fits.{band-passed}

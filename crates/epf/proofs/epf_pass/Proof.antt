@@ -1,5 +1,5 @@
 -- `epf::epf_pass` meets its contract. Each test gives its number and leaves `dst`, and else the band is what the definition says. Assumes nothing.
-use mathlib.Core.Path.{_≡_, sym, ap, _∙_}
+use mathlib.Core.Path.{sym, ap, _∙_}
 use native.Mathlib.Omega.{arith}
 use borrow.Author.Needs.{needs}
 use mir.Facts.{toZ-ofZ}

@@ -1,5 +1,4 @@
 -- `epf::on_block` meets its contract. Assumes nothing.
-use mathlib.Core.Path.{_≡_}
 use borrow.Author.Needs.{needs}
 use mir.Facts.{toZ-ofZ}
 use Rattle.epf.specs.Blocks.{negative, multiple}

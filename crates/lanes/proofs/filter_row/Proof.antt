@@ -1,9 +1,7 @@
 -- `lanes::filter_row` meets its contract. The weights, then the sums of each plane. Assumes nothing.
-use mathlib.Core.Path.{_≡_}
 use native.Mathlib.Omega.{arith}
-use borrow.Author.Needs.{needs}
 use denote.Ref.{now}
-use Rattle.lanes.specs.Lanes.{Weighed, row-lanes}
+use Rattle.lanes.specs.Lanes.{row-lanes}
 use Rattle.lanes.proofs.filter_row.Statement.{statement}
 use Rattle.lanes.proofs.filter_row.Tie as tie
 

@@ -1,6 +1,6 @@
 -- `lanes::kind_of` meets its contract. Assumes nothing.
 use mathlib.Core.Path.{_≡_, sym, _∙_}
-use mathlib.Core.Bool.{Bool, true, false}
+use mathlib.Core.Bool.{true, false}
 use borrow.Author.Needs.{needs}
 use Rattle.weights.specs.Steps.{border}
 use Rattle.lanes.proofs.kind_of.Statement.{statement}

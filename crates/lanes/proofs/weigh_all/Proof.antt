@@ -1,13 +1,11 @@
 -- `lanes::weigh_all` meets its contract. The invariant: q neighbours are weighed. Assumes nothing.
-use mathlib.Core.Path.{_≡_, refl, ap, _∙_}
-use Prim.Native.Nat.{ℕ, _+_, _-_, _*_, _≤_, _<_}
+use mathlib.Core.Path.{_≡_}
+use Prim.Native.Nat.{ℕ, _-_, _≤_, _<_}
 use native.Mathlib.Omega.{arith}
 use borrow.Author.Needs.{needs}
-use denote.Ref.{now}
 use lib.ListN.{length}
 use Rattle.weights.specs.Steps.{kernel}
-use Rattle.distances.specs.declared.Tap.{Tap}
-use Rattle.distances.specs.Taps.{tapOf, kernel-few, TapRoom, tap-room}
+use Rattle.distances.specs.Taps.{kernel-few, TapRoom, tap-room}
 use Rattle.lanes.specs.Lanes.{weightOf, Weighed, weighed-none, weighed-more}
 use Rattle.lanes.proofs.weigh_all.Statement.{statement}
 use Rattle.lanes.proofs.weigh_all.Tie as tie

@@ -1,5 +1,4 @@
 -- `rounding::difference` meets its contract. Assumes nothing.
-use mathlib.Core.Path.{_≡_}
 use borrow.Author.Needs.{needs}
 use Rattle.rounding.specs.Magnitude.{difference-is}
 use Rattle.rounding.proofs.difference.Statement.{statement}

@@ -1,5 +1,4 @@
 -- `rounding::larger` meets its contract. Assumes nothing.
-use mathlib.Core.Path.{_≡_, refl}
 use Rattle.rounding.proofs.larger.Statement.{statement}
 use Rattle.rounding.proofs.larger.Tie as tie
 

@@ -1,6 +1,4 @@
 -- `run_band::advanced` meets its contract. Assumes nothing.
-use mathlib.Core.Path.{_≡_, refl, ap}
-use Prim.Native.Nat.{ℕ}
 use native.Mathlib.Numerals.{add-one}
 use borrow.Author.Needs.{needs}
 use Rattle.record.specs.Record.{advanced}

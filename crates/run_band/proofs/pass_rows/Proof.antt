@@ -1,5 +1,5 @@
 -- `run_band::pass_rows` meets its contract. Assumes nothing.
-use mathlib.Core.Path.{_≡_, sym, _∙_}
+use mathlib.Core.Path.{sym, _∙_}
 use borrow.Author.Needs.{needs}
 use denote.Ref.{now}
 use Rattle.run_band.specs.Rows.{gabor-rows, step-rows}

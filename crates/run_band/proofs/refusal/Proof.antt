@@ -1,9 +1,6 @@
 -- `run_band::refusal` meets its contract. Assumes nothing.
-use mathlib.Core.Path.{_≡_, sym, _∙_}
-use mathlib.Core.Bool.{true, false}
+use mathlib.Core.Path.{sym, _∙_}
 use borrow.Author.Needs.{needs}
-use Rattle.numbers.specs.Checks.{applies}
-use Rattle.runs.specs.Band.{setCheck, sigmaCheck}
 use Rattle.run_band.proofs.refusal.Statement.{statement}
 use Rattle.run_band.proofs.refusal.Tie as tie
 

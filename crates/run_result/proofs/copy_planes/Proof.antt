@@ -7,6 +7,7 @@ use lib.ListN.{length}
 use Rattle.planes.specs.declared.Layout.{Layout}
 use Rattle.planes.specs.Rect.{planesFill, planes-end}
 use Rattle.planes.specs.Stored.{LayoutFits}
+use Rattle.planes.specs.Room.{PlaneRoom, plane-room}
 use Rattle.planes.specs.Band.{inner}
 use Rattle.run_result.specs.Part.{plane-next}
 use Rattle.run_result.proofs.copy_planes.Statement.{statement}
@@ -25,9 +26,7 @@ loop-holds c = (omega arith, refl, refl)
 
 -- rows of plane c, in numbers of the machine and within the n planes of either slice
 record Room (c n : ℕ) (l : Layout) : Type 0 where
-  pub rows : c * l .image .height ≤ 49152
-  pub from : (c * l .image .height + l .top) * l .image .width ≤ 65536 * 16384
-  pub read : (c * l .image .height + l .top) * l .image .width + l .height * l .image .width ≤ n * l .image .height * l .image .width
+  pub read : PlaneRoom l n c
   pub written : c * l .height ≤ 49152
   pub at : c * l .height * l .width ≤ 49152 * 16384
   pub stored : c * l .height * l .width + l .height * l .width ≤ n * l .height * l .width
@@ -37,15 +36,10 @@ room c n l p q f =
     let few : c ≤ 3 = omega arith in
     let h : l .height ≤ 16384 = omega (arith, f .high, f .down) in
     let w : l .width ≤ 16384 = omega (arith, f .wide, f .across) in
-    let a : c * l .image .height ≤ 3 * 16384 = mul-le-mul few (f .high) in
-    let b : c * l .image .height + l .top ≤ 65536 = omega (arith, f .high, f .down) in
-    let e : c * l .image .height + l .top + l .height ≤ n * l .image .height = omega (arith, f .down, suc-mul c (l .image .height), mul-le-mul-right (l .image .height) p) in
     let g : c * l .height ≤ 3 * 16384 = mul-le-mul few h in
     let k : c * l .height + l .height ≤ n * l .height = omega (arith, suc-mul c (l .height), mul-le-mul-right (l .height) p) in
     record {
-      rows = omega arith;
-      from = mul-le-mul b (f .wide);
-      read = omega (arith, add-mul (c * l .image .height + l .top) (l .height) (l .image .width), mul-le-mul-right (l .image .width) e);
+      read = plane-room l n c f q p;
       written = omega arith;
       at = mul-le-mul g w;
       stored = omega (arith, add-mul (c * l .height) (l .height) (l .width), mul-le-mul-right (l .width) k);

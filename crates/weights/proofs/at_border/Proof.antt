@@ -1,5 +1,4 @@
 -- `weights::at_border` meets its contract. Assumes nothing.
-use mathlib.Core.Path.{_≡_, refl}
 use Prim.Native.Nat.{_%_}
 use borrow.Author.Tests.{eq-eqb, ne-eqb}
 use Rattle.weights.specs.Steps.{border}

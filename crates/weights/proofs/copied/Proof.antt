@@ -1,5 +1,5 @@
 -- `weights::copied` meets its contract. Assumes nothing.
-use mathlib.Core.Path.{_≡_, refl}
+use mathlib.Core.Path.{refl}
 use Rattle.weights.specs.Steps.{copied}
 use Rattle.weights.proofs.copied.Statement.{statement}
 use Rattle.weights.proofs.copied.Tie as tie

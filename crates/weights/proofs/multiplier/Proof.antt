@@ -1,6 +1,6 @@
 -- `weights::multiplier` meets its contract. Assumes nothing.
 use mathlib.Core.Path.{_≡_, sym, _∙_}
-use mathlib.Core.Bool.{Bool, true, false}
+use mathlib.Core.Bool.{true, false}
 use borrow.Author.Needs.{needs}
 use Rattle.weights.specs.Steps.{border, multiplier}
 use Rattle.weights.proofs.multiplier.Statement.{statement}

@@ -1,5 +1,4 @@
 -- `weights::positive` meets its contract. Assumes nothing.
-use mathlib.Core.Path.{_≡_, refl}
 use Rattle.weights.specs.Steps.{positive}
 use Rattle.weights.proofs.positive.Statement.{statement}
 use Rattle.weights.proofs.positive.Tie as tie

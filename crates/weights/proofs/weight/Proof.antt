@@ -1,5 +1,4 @@
 -- `weights::weight` meets its contract. Assumes nothing.
-use mathlib.Core.Path.{_≡_}
 use borrow.Author.Needs.{needs}
 use Rattle.weights.specs.Steps.{weightBy}
 use Rattle.weights.proofs.weight.Statement.{statement}

@@ -1,12 +1,10 @@
 -- `window::load_plane` meets its contract. The invariant: i rows are there. Assumes nothing.
 use mathlib.Core.Path.{_≡_, refl}
-use Prim.Native.Nat.{ℕ, _+_, _-_, _*_, _≤_, _<_}
+use Prim.Native.Nat.{ℕ, _+_, _-_, _*_, _≤_}
 use native.Mathlib.Omega.{arith}
 use borrow.Author.Needs.{needs}
 use lib.IntN.{ℤ}
-use lib.ListN.{length}
 use Rattle.mirror.specs.Mirror.{mirror, mirror-lt}
-use Rattle.planes.specs.Fill.{fill}
 use Rattle.planes.specs.Rect.{rowsFill, rows-turn, rows-end}
 use Rattle.window.specs.Window.{planeSample, PlaneFits, row-room}
 use Rattle.window.proofs.load_plane.Statement.{statement}

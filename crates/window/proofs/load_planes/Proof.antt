@@ -1,11 +1,11 @@
 -- `window::load_planes` meets its contract. The invariant: c planes are there. Assumes nothing.
 use mathlib.Core.Path.{_≡_, refl}
-use Prim.Native.Nat.{ℕ, _+_, _-_, _*_, _≤_, _<_}
+use Prim.Native.Nat.{ℕ, _+_, _-_, _≤_}
 use native.Mathlib.Omega.{arith}
 use denote.Ref.{now}
-use lib.ListN.{length}
 use Rattle.planes.specs.Rect.{planesFill, planes-end}
-use Rattle.window.specs.Window.{windowSample, WindowFits, PlaneRoom, plane-room, plane-next}
+use Rattle.planes.specs.Room.{PlaneRoom, plane-room}
+use Rattle.window.specs.Window.{windowSample, plane-fits, plane-next}
 use Rattle.window.proofs.load_planes.Statement.{statement}
 use Rattle.window.proofs.load_planes.Tie as tie
 
@@ -24,8 +24,8 @@ module _ (c : tie.In-loop Inv-loop μ-loop) where
   abbrev start : tie.Start Inv-loop μ-loop
   start = c .before .before .before
 
-  room : PlaneRoom (start .args .l) (c .before .loop .c) (start .args .x) (start .args .y) (start .args .top) (start .args .rows) (start .args .cols) (length (now (start .args .src)))
-  room = plane-room (start .args .l) (start .args .n) (c .before .loop .c) (length (now (start .args .src))) (start .args .x) (start .args .y) (start .args .top) (start .args .rows) (start .args .cols) (start .pre) (c .loop-test .taken)
+  room : PlaneRoom (start .args .l) (start .args .n) (c .before .loop .c)
+  room = plane-room (start .args .l) (start .args .n) (c .before .loop .c) (start .pre .layout) (start .pre .planes) (c .loop-test .taken)
 
 loop-again : tie.Need-loop-again Inv-loop μ-loop
 loop-again c =
@@ -45,7 +45,7 @@ load-planes-spec = tie.close
     (λ c. omega (arith, room (c .before .before)))
     (λ c. omega (arith, room (c .before .before)))
     (λ c. omega (arith, room (c .before .before .before)))
-    (λ c κs. let d = c .before .before .before .before in (room d .region, omega (arith, start d .pre .end)))
+    (λ c κs. let d = c .before .before .before .before in (plane-fits _ _ _ _ _ _ _ _ _ (start d .pre) (d .loop-test .taken), omega (arith, start d .pre .end)))
     (λ c. omega arith)
     (λ c. omega arith)
     loop-again

@@ -5,7 +5,8 @@ use native.Mathlib.Omega.{arith}
 use borrow.Author.Needs.{needs}
 use lib.ListN.{length}
 use Rattle.planes.specs.Rect.{planesFill, planes-end}
-use Rattle.gabor.specs.Pass.{passRows, plane-next, PlaneRoom, plane-room}
+use Rattle.planes.specs.Room.{PlaneRoom, plane-room}
+use Rattle.gabor.specs.Pass.{passRows, plane-next, plane-region}
 use Rattle.gabor.proofs.pass.gabor_planes.Statement.{statement}
 use Rattle.gabor.proofs.pass.gabor_planes.Tie as tie
 
@@ -23,7 +24,7 @@ loop-holds c = (omega arith, refl, refl)
 
 -- in a turn
 turn : (c : tie.In-loop Inv-loop μ-loop) → let s = c .before .before .before .before in PlaneRoom (s .args .l) (s .args .n) (c .before .loop .c)
-turn c = let s = c .before .before .before .before in plane-room (s .args .l) (s .args .n) (c .before .loop .c) (s .pre .0) (s .pre .1 .0) (c .loop-test .taken) (s .pre .1 .1) (s .pre .1 .2)
+turn c = let s = c .before .before .before .before in plane-room (s .args .l) (s .args .n) (c .before .loop .c) (s .pre .0) (s .pre .1 .0) (c .loop-test .taken)
 
 loop-again : tie.Need-loop-again Inv-loop μ-loop
 loop-again c =
@@ -34,7 +35,7 @@ loop-again c =
     let inv = at-loop .loop .inv in (
       omega (arith, in-loop .loop-test .taken),
       called .gabor-plane .kept .1 .0 ∙ inv .1,
-      plane-next _ _ _ _ _ _ _ _ _ _ (inv .2) refl (rw (start .pre .1 .3) (turn in-loop .region)) (omega (arith, start .pre .1 .3, start .pre .1 .4, inv .1)) (start .pre .1 .5) (called .gabor-plane .ensures),
+      plane-next _ _ _ _ _ _ _ _ _ _ (inv .2) refl (rw (start .pre .1 .3) (plane-region _ _ _ (start .pre .0) (turn in-loop) (start .pre .1 .1) (start .pre .1 .2))) (omega (arith, start .pre .1 .3, start .pre .1 .4, inv .1)) (start .pre .1 .5) (called .gabor-plane .ensures),
     )
 
 pub gabor-planes-spec : {M : Type 1} → statement M
@@ -46,8 +47,8 @@ gabor-planes-spec =
     loop-holds
     (λ c. omega (arith, c .before .before .before .before .pre .1 .0))
     (λ c. omega (arith, c .before .before .before .before .pre .1 .0))
-    (λ c. omega (arith, turn (c .before .before) .rows))
-    (λ c. let s = c .before .before .before .before .before .before .before in omega (arith, turn (c .before .before .before) .rows, s .pre .0 .down, s .pre .0 .high))
+    (λ c. omega (arith, turn (c .before .before) .lines))
+    (λ c. let s = c .before .before .before .before .before .before .before in omega (arith, turn (c .before .before .before) .lines, s .pre .0 .down, s .pre .0 .high))
     (λ c. omega (arith, turn (c .before .before .before .before) .start))
     (λ c. let s = c .before .before .before .before .before .before .before .before .before in omega (arith, turn (c .before .before .before .before .before) .start, s .pre .0 .across, s .pre .0 .wide))
     (λ c. search needs)

@@ -7,6 +7,7 @@ use borrow.Author.Tests.{not-true, not-false}
 use denote.Ref.{now}
 use lib.ListN.{length}
 use Rattle.planes.specs.Band.{setFits}
+use Rattle.planes.specs.Room.{set-facts}
 use Rattle.tiles.specs.Region.{RegionFits, BlocksRoom, blocks-room, no-source, no-target, no-sigmas, no-step, no-top, no-order, no-rows, region-fits, region-done}
 use Rattle.tiles.proofs.region.filter_region.Statement.{statement}
 use Rattle.tiles.proofs.region.filter_region.Tie as tie
@@ -23,7 +24,7 @@ module _ (c : tie.Else2) where
   target = sym (c .before .set-fits2 .ensures) ∙ not-false _ (c .if2 .left)
 
   blocks : BlocksRoom (start .args .l)
-  blocks = blocks-room (start .args .l) (start .args .n) _ source
+  blocks = blocks-room (start .args .l) (set-facts (start .args .l) (start .args .n) (length (now (start .args .src))) source .layout)
 
 -- every test held
 module _ (c : tie.Else7) where

@@ -1,6 +1,6 @@
 -- `tiles::slopes::row_slopes` meets its contract. The invariant: b blocks are there. Assumes nothing.
 use mathlib.Core.Path.{_≡_, refl}
-use Prim.Native.Nat.{ℕ, _+_, _-_, _*_, _≤_, _<_}
+use Prim.Native.Nat.{_-_, _*_, _≤_}
 use native.Mathlib.Omega.{arith}
 use borrow.Author.Needs.{needs}
 use Rattle.planes.specs.Fill.{fill}

@@ -1,6 +1,6 @@
 -- `tiles::store::store_rows` meets its contract. The invariant: r rows are there. Assumes nothing.
 use mathlib.Core.Path.{_≡_, refl, _∙_}
-use Prim.Native.Nat.{ℕ, _+_, _-_, _*_, _≤_, _<_}
+use Prim.Native.Nat.{ℕ, _+_, _-_, _*_, _≤_}
 use native.Mathlib.Omega.{arith}
 use denote.Ref.{now}
 use lib.ListN.{length, getD}

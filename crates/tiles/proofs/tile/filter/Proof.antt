@@ -3,7 +3,7 @@ use mathlib.Core.Path.{_∙_}
 use native.Mathlib.Omega.{arith}
 use borrow.Author.Needs.{needs}
 use denote.Ref.{now}
-use Rattle.tiles.specs.Tile.{Scratch, lanes-lie, computed}
+use Rattle.tiles.specs.Tile.{lanes-lie, computed}
 use Rattle.tiles.proofs.tile.filter.Statement.{statement}
 use Rattle.tiles.proofs.tile.filter.Tie as tie
 

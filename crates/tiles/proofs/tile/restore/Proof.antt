@@ -1,11 +1,10 @@
 -- `tiles::tile::restore` meets its contract. The invariant: b blocks are told apart. Assumes nothing.
-use mathlib.Core.Path.{_≡_, refl, ap, _∙_}
-use Prim.Native.Nat.{ℕ, _+_, _-_, _*_, _/_, _≤_, _<_}
+use mathlib.Core.Path.{_≡_, refl, _∙_}
+use Prim.Native.Nat.{_-_, _*_, _≤_, _<_}
 use native.Mathlib.Omega.{arith}
 use borrow.Author.Needs.{needs}
 use denote.Ref.{now}
 use lib.ListN.{length}
-use Rattle.tiles.specs.Store.{RectFits}
 use Rattle.tiles.specs.Tile.{Restored, restored-none, restored-next, restored-end, rect-long, part-fits}
 use Rattle.tiles.proofs.tile.restore.Statement.{statement}
 use Rattle.tiles.proofs.tile.restore.Tie as tie

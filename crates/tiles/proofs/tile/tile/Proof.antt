@@ -1,10 +1,8 @@
 -- `tiles::tile::tile` meets its contract. Assumes nothing.
-use mathlib.Core.Path.{_≡_, _∙_}
 use native.Mathlib.Omega.{arith}
 use borrow.Author.Needs.{needs}
 use denote.Ref.{now}
-use lib.ListN.{length}
-use Rattle.tiles.specs.Tile.{Scratch, rect-long, tile-done, tile-copied}
+use Rattle.tiles.specs.Tile.{rect-long, tile-done, tile-copied}
 use Rattle.tiles.proofs.tile.tile.Statement.{statement}
 use Rattle.tiles.proofs.tile.tile.Tie as tie
 

@@ -1,6 +1,6 @@
 -- `window::row::copy_row` meets its contract. Mirrored left of the row, as it stands inside, mirrored right of it. Assumes nothing.
-use mathlib.Core.Path.{_≡_, refl}
-use Prim.Native.Nat.{ℕ, _+_, _-_, _≤_, _<_}
+use mathlib.Core.Path.{refl}
+use Prim.Native.Nat.{_-_}
 use native.Mathlib.Omega.{arith}
 use borrow.Author.Needs.{needs}
 use Rattle.window.specs.Window.{row-loaded}
