@@ -228,7 +228,7 @@ fn filter_row(
 }
 
 // Where the slopes of a row of the image start.
-fn kind_of(row: usize) -> usize
+pub fn kind_of(row: usize) -> usize
     ensures { λ r. ⌜ r ≡ kindOf row ⌝ }
 {
     if at_border(row) {

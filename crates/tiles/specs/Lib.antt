@@ -1,4 +1,5 @@
 pub mod Store
 pub mod Slopes
 pub mod Tile
+pub mod Inside
 pub mod Region

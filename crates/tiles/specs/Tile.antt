@@ -15,7 +15,7 @@ use Rattle.mirror.specs.Mirror.{mirror}
 use Rattle.mirror.specs.Offset.{offset-same}
 use Rattle.planes.specs.declared.Layout.{Layout}
 use Rattle.planes.specs.Samples.{_⊘_}
-use Rattle.planes.specs.Picture.{Picture, around, around-inside}
+use Rattle.planes.specs.Picture.{Picture, Around, around, around-inside}
 use Rattle.planes.specs.Sets.{of}
 use Rattle.planes.specs.Rect.{planesFill, length-planesFill}
 use Rattle.planes.specs.Join.{planes-cong, rect-at, rect-inside}
@@ -115,31 +115,42 @@ module _ (l : Layout) (n : ℕ) (s : Step) (scales : List Float) (top : ℕ) (si
       let f : copied (sigmaOf (across l) sigmas ((x + i) / 8) ((y + r) / 8)) (s .limit) ≡ true = rw (sigma-is r i R I) at e in
       rw f (sym (around-inside (l .width) (l .height) (inner l src) (x + i) (y + r) c (pos 0) (pos 0) (x + i) (y + r) (ap pos (omega arith)) (ap pos (omega arith)) (omega (arith, fits .across)) (omega (arith, fits .down))))
 
-  -- a filtered one
+  -- a filtered one, through a reader that shows what the definition sees
+  pub reader-is : (v : Around) (c r i : ℕ) → s .step < 3 → c < n → r < rows → i < cols → copied (getD sigmas (sigmaStart l x y + i / 8) nan) (s .limit) ≡ false
+      → Alike n (reach (s .step)) v (around (l .width) (l .height) (inner l src) (x + i) (y + r))
+      → blend (scaled n scales) (kernel (s .step)) (dists (s .step)) (getD sigmas (sigmaStart l x y + i / 8) nan) (multiplier (s .scale) (s .edge) (top + y + r) i) v c
+      ⊘ divisor (scaled n scales) (kernel (s .step)) (dists (s .step)) (getD sigmas (sigmaStart l x y + i / 8) nan) (multiplier (s .scale) (s .edge) (top + y + r) i) v
+      ≡ stepOver n l s scales top sigmas src c (x + i) (y + r)
+  unfolding stepOver epfPass
+  reader-is v c r i low C R I uncopied alike =
+      let st = s .step in
+      let sigma = getD sigmas (sigmaStart l x y + i / 8) nan in
+      let m = multiplier (s .scale) (s .edge) (top + y + r) i in
+      let same = epf-same n (reach st) _ _ alike (scaled n scales) (kernel st) (dists st) sigma m (scaled-below n scales) (steps-near st low) (s .limit) c C in
+      let row : top + y + r ≡ top + (y + r) = omega arith in
+      let factor : m ≡ multiplier (s .scale) (s .edge) (top + (y + r)) (x + i) = rw row (multiplier-same (s .scale) (s .edge) (top + (y + r)) (top + (y + r)) i (x + i) refl (omega (arith, fits .start))) in
+      divided (s .limit) uncopied ∙ same ∙ rw (sigma-is r i R I, factor)
+    where
+      divided : (limit : Float) → copied (getD sigmas (sigmaStart l x y + i / 8) nan) limit ≡ false
+          → blend (scaled n scales) (kernel (s .step)) (dists (s .step)) (getD sigmas (sigmaStart l x y + i / 8) nan) (multiplier (s .scale) (s .edge) (top + y + r) i) v c
+          ⊘ divisor (scaled n scales) (kernel (s .step)) (dists (s .step)) (getD sigmas (sigmaStart l x y + i / 8) nan) (multiplier (s .scale) (s .edge) (top + y + r) i) v
+          ≡ epf (scaled n scales) (kernel (s .step)) (dists (s .step)) (getD sigmas (sigmaStart l x y + i / 8) nan) (multiplier (s .scale) (s .edge) (top + y + r) i) limit v c
+      divided limit h = unfold epf in rw h
+
+  -- a lane
   pub lane-is : (win w₀ e e₀ sl : List Float) → s .step < 3 → length w₀ ≡ 2688 → 5376 ≤ length e₀
       → win ≡ planesFill 64 14 0 (cols + 8) (s .step) (rows + 6 - 2 * s .step) (λ c j i. windowSample l src x y c j (s .step + i)) w₀ n
       → e ≡ fieldsFill (s .step) (scaled n scales) win rows e₀ (half (s .step)) → Sloped sigmas (sigmaStart l x y) (blocksOf cols) (s .scale) (s .edge) sl
       → (c r i : ℕ) → c < n → r < rows → i < cols → copied (getD sigmas (sigmaStart l x y + i / 8) nan) (s .limit) ≡ false
       → laneOf (s .step) e sl win (kindOf (top + y + r)) c i r ≡ stepOver n l s scales top sigmas src c (x + i) (y + r)
-  unfolding stepOver epfPass
   lane-is win w₀ e e₀ sl low lw le ew ee sloped c r i C R I uncopied =
       let st = s .step in
       let cs = scaled n scales in
-      let sigma = getD sigmas (sigmaStart l x y + i / 8) nan in
-      let m = multiplier (s .scale) (s .edge) (top + y + r) i in
       let small : rows ≤ 8 = omega (arith, fits .rows-in) in
-      let mean = lane-means st cs e sl win (kindOf (top + y + r)) c r i sigma m (λ q h. rw ee (neighbour-at st cs win rows small e₀ q (r * 64 + i) h (omega (arith, fits .wide)) le))
-      (slope-of sigmas sl (sigmaStart l x y) (blocksOf cols) (s .scale) (s .edge) (top + y + r) i sloped (omega arith)) in
-      let same = epf-same n (reach st) _ _ (windows-alike l src win w₀ n st x y rows cols (fits .few) low small (fits .wide) lw ew r i R I) cs (kernel st) (dists st) sigma m (scaled-below n scales) (steps-near st low) (s .limit) c C in
-      let row : top + y + r ≡ top + (y + r) = omega arith in
-      let factor : m ≡ multiplier (s .scale) (s .edge) (top + (y + r)) (x + i) = rw row (multiplier-same (s .scale) (s .edge) (top + (y + r)) (top + (y + r)) i (x + i) refl (omega (arith, fits .start))) in
-      mean ∙ divided (s .limit) uncopied ∙ same ∙ rw (sigma-is r i R I, factor)
-    where
-      divided : (limit : Float) → copied (getD sigmas (sigmaStart l x y + i / 8) nan) limit ≡ false
-          → blend (scaled n scales) (kernel (s .step)) (dists (s .step)) (getD sigmas (sigmaStart l x y + i / 8) nan) (multiplier (s .scale) (s .edge) (top + y + r) i) (seen win (r * 64 + i)) c
-          ⊘ divisor (scaled n scales) (kernel (s .step)) (dists (s .step)) (getD sigmas (sigmaStart l x y + i / 8) nan) (multiplier (s .scale) (s .edge) (top + y + r) i) (seen win (r * 64 + i))
-          ≡ epf (scaled n scales) (kernel (s .step)) (dists (s .step)) (getD sigmas (sigmaStart l x y + i / 8) nan) (multiplier (s .scale) (s .edge) (top + y + r) i) limit (seen win (r * 64 + i)) c
-      divided limit h = unfold epf in rw h
+      lane-means st cs e sl win (kindOf (top + y + r)) c r i (getD sigmas (sigmaStart l x y + i / 8) nan) (multiplier (s .scale) (s .edge) (top + y + r) i)
+      (λ q h. rw ee (neighbour-at st cs win rows small e₀ q (r * 64 + i) h (omega (arith, fits .wide)) le))
+      (slope-of sigmas sl (sigmaStart l x y) (blocksOf cols) (s .scale) (s .edge) (top + y + r) i sloped (omega arith))
+      ∙ reader-is (seen win (r * 64 + i)) c r i low C R I uncopied (windows-alike l src win w₀ n st x y rows cols (fits .few) low small (fits .wide) lw ew r i R I)
 
 -- ---- copied columns over filtered ones
 

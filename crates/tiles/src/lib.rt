@@ -1,4 +1,5 @@
 // An edge-preserving step by tiles of at most eight rows of 56 columns, each within one row of blocks.
+mod inside;
 pub mod region;
 mod slopes;
 mod store;

@@ -1,5 +1,7 @@
 // One tile: its lanes where a block is filtered, its samples where one is copied.
 use crate::Step;
+use crate::inside::filter_inside;
+use crate::inside::lies_inside;
 use crate::slopes::tile_slopes;
 use crate::store::store_planes;
 use distances::distances;
@@ -132,8 +134,8 @@ fn all_copied(sigmas: &[f32], sb: usize, blocks: usize, limit: f32) -> bool
     true
 }
 
-// The lanes of a tile, stored.
-fn filter(
+// A tile from its windows, all its blocks filtered.
+fn filter_window(
     dst: &mut [f32],
     src: &[f32],
     l: Layout,
@@ -173,6 +175,72 @@ fn filter(
     tile_slopes(sl, sigmas, sb, (cols + 7) / 8, s.scale, s.edge);
     filter_tile(out, e, sl, win, s.step, n, top + y, rows);
     store_planes(dst, l, out, 0, 64, 512, n, x, y, rows, cols);
+}
+
+// A tile, all its blocks filtered.
+fn filter(
+    dst: &mut [f32],
+    src: &[f32],
+    l: Layout,
+    n: usize,
+    s: Step,
+    scales: &[f32; 3],
+    sigmas: &[f32],
+    sb: usize,
+    top: usize,
+    x: usize,
+    y: usize,
+    rows: usize,
+    cols: usize,
+    win: &mut [f32; 2688],
+    e: &mut [f32; 5376],
+    sl: &mut [f32; 128],
+    out: &mut [f32],
+)
+    requires { ⌜ TileFits l n x y rows cols ⌝ }
+    requires { ⌜ RectFits l n x y rows cols (length (now dst)) × (length (now src) ≡ length (now dst)) × (s .step < 3) × (top ≤ 4294967296) ⌝ }
+    requires { ⌜ (sb ≡ sigmaStart l x y) × (sb + blocksOf cols ≤ length (now sigmas)) ⌝ }
+    requires { ⌜ Scratch (now win) (now e) (now sl) (now out) ⌝ }
+    ensures { λ _. ⌜ Computed l n s (now (scales .entry)) top (now (sigmas .entry)) (now (src .entry)) x y rows cols (now (dst .entry)) (now (dst .exit)) (now (win .exit)) (now (e .exit)) (now (sl .exit)) (now (out .exit)) ⌝ }
+{
+    if lies_inside(l, n, s.step, x, y, rows, cols) {
+        filter_inside(
+            dst,
+            src,
+            l,
+            n,
+            s,
+            scales,
+            sigmas,
+            sb,
+            top,
+            x,
+            y,
+            rows,
+            cols,
+            sl,
+        );
+        return;
+    }
+    filter_window(
+        dst,
+        src,
+        l,
+        n,
+        s,
+        scales,
+        sigmas,
+        sb,
+        top,
+        x,
+        y,
+        rows,
+        cols,
+        win,
+        e,
+        sl,
+        out,
+    )
 }
 
 // One tile: its samples copied where all its blocks are, else filtered with the copied blocks restored.
