@@ -13,15 +13,15 @@ use lib.Ieee.{Float, nan}
 use lib.Ieee.Fits.{and-i}
 use lib.Signed.{leZ, ltZ}
 use Rattle.interval.specs.declared.Span.{Span}
-use Rattle.overlap.specs.Overlap.{covers}
-use Rattle.overlap.specs.Laws.{In}
+use Rattle.overlap.specs.Overlap.{covers, In}
 use Rattle.interval.specs.Order.{le-refl}
 use Rattle.region.specs.declared.Region.{Region}
-use Rattle.region.specs.Regions.{columns, rows, inside}
-use Rattle.region.specs.Regions.{Holds}
+use Rattle.region.specs.Regions.{columns, rows, inside, Holds}
 use Rattle.layout.specs.Outcome.{layoutOf}
-use Rattle.planes.specs.Sets.{of, length-setOf, sets-ext}
-use Rattle.planes.specs.Rect.{inRect, Between, between}
+use Rattle.planes.specs.Sets.{of}
+use Rattle.planes.specs.SetLaws.{length-setOf, sets-ext}
+use Rattle.planes.specs.Rect.{Between, between}
+use Rattle.planes.specs.Picture.{inRect}
 use Rattle.planes.specs.Band.{inFilter}
 use Rattle.record.specs.declared.Setup.{Setup}
 use Rattle.record.specs.Setup.{layout, epfOn, resultRegion, resultLength}

@@ -7,12 +7,12 @@ use lib.Ieee.Fits.{and-l, and-r}
 use lib.IntN.{ℤ, pos, natAbs, _+ℤ_, _-ℤ_}
 use Rattle.mirror.specs.Cut.{Deep}
 use Rattle.region.specs.declared.Region.{Region}
-use Rattle.region.specs.Regions.{columns, rows}
-use Rattle.region.specs.Regions.{Holds}
+use Rattle.region.specs.Regions.{columns, rows, Holds}
 use Rattle.epf.specs.Blocks.{onBlock}
 use Rattle.passes.specs.Pass.{Area, passes}
 use Rattle.passes.specs.Cut.{Fits, SameBlocks, SomeStep, cut-same, plan-sound, plan-some-step}
-use Rattle.passes.specs.Plan.{plan, margin, plan-reach}
+use Rattle.passes.specs.Plan.{plan, margin}
+use Rattle.passes.specs.PlanLaws.{plan-reach}
 use Rattle.record.specs.declared.Setup.{Setup}
 use Rattle.record.specs.Setup.{epfOn, area}
 use Rattle.record.specs.Record.{started}

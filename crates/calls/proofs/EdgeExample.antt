@@ -5,9 +5,8 @@ use Prim.Native.Nat.{ℕ, _+_, _/_, _<_}
 use native.Mathlib.Omega.{arith}
 use lib.IntN.{ℤ, pos, natAbs, _-ℤ_}
 use lib.Ieee.{Float}
-use Rattle.region.specs.Regions.{inside}
+use Rattle.region.specs.Regions.{inside, Holds}
 use Rattle.region.specs.Measures.{measured, pictured}
-use Rattle.region.specs.Regions.{Holds}
 use Rattle.axis.specs.Measures.{place, side}
 use Rattle.frame.specs.Sizes.{sizesOf}
 use Rattle.grids.specs.Table.{badGrid, cells, gridStart, lacks, someBelow}
@@ -16,7 +15,8 @@ use Rattle.groups.specs.Outcome.{badSides, badSettings, tableFits, gridsFit}
 use Rattle.sigma.specs.Sigma.{sigmaIn, sigmaOf, aboveAt, sigmaAt as blockSigma, blockSigmas}
 use Rattle.layout.specs.Outcome.{layoutOf}
 use Rattle.planes.specs.Picture.{Picture}
-use Rattle.planes.specs.Sets.{setOf, tab, of-setOf}
+use Rattle.planes.specs.Sets.{setOf, tab}
+use Rattle.planes.specs.SetLaws.{of-setOf}
 use Rattle.planes.specs.Band.{inner}
 use Rattle.passes.specs.Plan.{plan, steps, stepOf, scaleOf, stepMargin}
 use Rattle.record.specs.Setup.{bandCount, setupFits, sized}

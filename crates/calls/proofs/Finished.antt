@@ -9,7 +9,8 @@ use lib.Dec.{T, eqb→eq}
 use lib.ListN.{length, drop, drop-of-length-le}
 use lib.Ieee.{Float}
 use lib.IntN.{ℤ, natAbs, _-ℤ_}
-use Rattle.planes.specs.Sets.{of, setOf, of-setOf}
+use Rattle.planes.specs.Sets.{of, setOf}
+use Rattle.planes.specs.SetLaws.{of-setOf}
 use Rattle.planes.specs.Band.{inFilter, inner}
 use Rattle.region.specs.Regions.{Holds}
 use Rattle.layout.specs.Outcome.{layoutOf}

@@ -7,8 +7,7 @@ use lib.Ieee.Fits.{and-l, and-r}
 use lib.IntN.{ℤ, pos, negsuc, natAbs, _+ℤ_, _-ℤ_}
 use lib.Signed.{leZ, ltZ}
 use Rattle.interval.specs.Interval.{spanOf}
-use Rattle.overlap.specs.Overlap.{covers}
-use Rattle.overlap.specs.Laws.{In}
+use Rattle.overlap.specs.Overlap.{covers, In}
 use Rattle.interval.specs.Order.{above, below, le-to, le-of, lt-to, lt-of, sum-is, difference-is, size-is, ahead, le-trans}
 use Rattle.mirror.specs.Cut.{Deep}
 use Rattle.region.specs.declared.Region.{Region}

@@ -7,9 +7,9 @@ use native.Mathlib.Omega.{arith}
 use borrow.Author.Tests.{le-leb, lt-ltb}
 use lib.Ieee.{Float}
 use Rattle.planes.specs.declared.Layout.{Layout}
-use Rattle.planes.specs.Picture.{Picture}
-use Rattle.planes.specs.Sets.{of, of-setOf}
-use Rattle.planes.specs.Rect.{inRect}
+use Rattle.planes.specs.Picture.{Picture, inRect}
+use Rattle.planes.specs.Sets.{of}
+use Rattle.planes.specs.SetLaws.{of-setOf}
 use Rattle.planes.specs.Band.{resultLeft, resultTop, resultWidth, resultHeight, inFilter, written, passed}
 use Rattle.planes.specs.Stored.{LayoutFits}
 

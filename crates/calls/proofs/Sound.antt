@@ -13,12 +13,13 @@ use lib.Seq.{getD-set-other, drop-cons}
 use lib.Ieee.{Float}
 use Rattle.planes.specs.declared.Layout.{Layout}
 use Rattle.planes.specs.Picture.{Picture}
-use Rattle.planes.specs.Sets.{length-setOf}
+use Rattle.planes.specs.SetLaws.{length-setOf}
 use Rattle.planes.specs.Band.{resultTop, inFilter, written, inner, passed}
 use Rattle.layout.specs.Outcome.{layoutOf}
 use Rattle.passes.specs.Pass.{Area, Pass, gaborLike, pass, passes}
 use Rattle.passes.specs.Cut.{AllSound, passes-cong, plan-sound}
-use Rattle.passes.specs.Plan.{plan, plan-length}
+use Rattle.passes.specs.Plan.{plan}
+use Rattle.passes.specs.PlanLaws.{plan-length}
 use Rattle.record.specs.declared.Setup.{Setup}
 use Rattle.record.specs.Setup.{layout, area, bandFrom, bandTo, setLength, sigmaLength}
 use Rattle.record.specs.Record.{passCount, isDone, started, marked, advanced}

@@ -8,8 +8,7 @@ use lib.IntN.{ℤ}
 use lib.ListN.{length}
 use lib.Ieee.{Float}
 use Rattle.numbers.specs.Checks.{firstOf}
-use Rattle.region.specs.Regions.{inside}
-use Rattle.region.specs.Regions.{Holds}
+use Rattle.region.specs.Regions.{inside, Holds}
 use Rattle.passes.specs.Plan.{plan, margin}
 use Rattle.record.specs.declared.Setup.{Setup}
 use Rattle.record.specs.declared.Run.{Run}

@@ -7,7 +7,8 @@ use borrow.Author.Tests.{le-ltb}
 use lib.ListN.{getD}
 use lib.IntN.{ℤ, pos, negsuc, _+ℤ_, subℕ, natAbs}
 use lib.Ieee.{Float, nan, binary32}
-use Rattle.rounding.specs.Magnitude.{magnitude, difference-swap}
+use Rattle.rounding.specs.Magnitude.{magnitude}
+use Rattle.rounding.specs.MagnitudeLaws.{difference-swap}
 use Rattle.mirror.specs.Offset.{offset-from, offset-sum}
 use Rattle.planes.specs.Samples.{_⊕_, _⊖_, b0}
 use Rattle.planes.specs.Picture.{Around}

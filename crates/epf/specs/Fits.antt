@@ -23,8 +23,8 @@ use Rattle.planes.specs.Stored.{LayoutFits, BandFits, passed-over, fits-copied,
 use Rattle.layout.specs.declared.LayoutAnswer.{LayoutAnswer}
 use Rattle.layout.specs.Outcome.{layoutOf, layoutOutcome, PassOutcome}
 use Rattle.layout.specs.Fits.{Accepted, layout-accepted, placed-or, then, answer-number, answer-layout, pass-refused, pass-done}
-use Rattle.tiles.specs.Tile.{across}
-use Rattle.tiles.specs.Region.{down, BlocksRoom, blocks-room}
+use Rattle.tiles.specs.Blocks.{across, down}
+use Rattle.tiles.specs.Region.{BlocksRoom, blocks-room}
 use Rattle.epf.specs.declared.EpfStep.{EpfStep}
 use Rattle.epf.specs.Blocks.{ahead, onBlock, onBlocks}
 use Rattle.epf.specs.Outcome.{epfOver, stepChecks, epfChecks, epfOutcome}

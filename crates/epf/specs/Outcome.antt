@@ -14,8 +14,7 @@ use Rattle.planes.specs.Picture.{Picture}
 use Rattle.planes.specs.Band.{inner, passed, rowsFit}
 use Rattle.layout.specs.Outcome.{layoutOf, PassOutcome, passOutcome}
 use Rattle.weights.specs.Steps.{scaled, standardLimit, EpfPass, epfPass}
-use Rattle.tiles.specs.Tile.{across, sigmaOf}
-use Rattle.tiles.specs.Region.{down}
+use Rattle.tiles.specs.Blocks.{across, sigmaOf, down}
 use Rattle.epf.specs.declared.EpfStep.{EpfStep}
 use Rattle.epf.specs.Blocks.{ahead, onBlocks}
 

@@ -1,4 +1,4 @@
--- What crosses the C boundary in another form than the library has.
+-- What crosses the C boundary in another form than document 01 has it.
 use mathlib.Core.Bool.{Bool, true, false}
 use Rattle.epf_header.specs.declared.Encoding.{Encoding}
 use Rattle.epf_header.specs.declared.Encoding.the-variants.{VarDct, Modular}

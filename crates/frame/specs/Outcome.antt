@@ -1,4 +1,4 @@
--- What `group_sizes` and `split_block` answer: the tables of their checks, and the outcome for every input.
+-- What `group_sizes` and `split_block` answer (document 01, "Block sigmas"): the tables of their checks, and the outcome for every input.
 use mathlib.Core.Bool.{Bool, cond, not, _||_}
 use mathlib.Core.List.{List, [], _∷_}
 use Prim.Native.Nat.{ℕ}

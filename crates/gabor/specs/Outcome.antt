@@ -1,4 +1,4 @@
--- The outcome of the Gabor-like pass over rows of its result, for every input.
+-- The outcome of the Gabor-like pass over rows of its result, for every input (document 01, "Gabor pass", "Eleven numbers").
 use mathlib.Core.Path.{_≡_, sym, _∙_}
 use mathlib.Core.Bool.{Bool, true, false}
 use mathlib.Core.List.{List}

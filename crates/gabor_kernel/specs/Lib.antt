@@ -1,4 +1,5 @@
 pub mod Ends
+pub mod EndLaws
 pub mod Formula
 pub mod Gabor
 pub mod Nine

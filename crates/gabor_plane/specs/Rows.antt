@@ -10,7 +10,8 @@ use lib.Ieee.{Float, nan}
 use Rattle.mirror.specs.Mirror.{mirror}
 use Rattle.planes.specs.Picture.{Picture, around}
 use Rattle.planes.specs.Fill.{fill, row-of-one, row-of-more}
-use Rattle.gabor_kernel.specs.Ends.{End, only, first, last, inner, stands, stands-only, stands-first, stands-last, stands-inner, before-first, before-other, after-last, after-other, itself}
+use Rattle.gabor_kernel.specs.Ends.{End, only, first, last, inner, stands}
+use Rattle.gabor_kernel.specs.EndLaws.{stands-only, stands-first, stands-last, stands-inner, before-first, before-other, after-last, after-other, itself}
 use Rattle.gabor_kernel.specs.Formula.{value, formula}
 use Rattle.gabor_kernel.specs.Gabor.{alone, scaled}
 use Rattle.gabor_kernel.specs.Nine.{pick, nine}

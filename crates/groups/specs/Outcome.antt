@@ -1,4 +1,4 @@
--- Which number the inputs of block sigmas get.
+-- Which number the inputs of block sigmas get (document 01, "Block sigmas", "Eleven numbers").
 use mathlib.Core.Bool.{Bool, cond, not, _&&_, _||_}
 use mathlib.Core.List.{List, [], _∷_}
 use Prim.Native.Nat.{ℕ, _*_}

@@ -2,7 +2,7 @@
 use mathlib.Core.Path.{refl}
 use lib.Ieee.{ofBits, lt, add, sub, mul, div}
 use Rattle.mirror.specs.Mirror.{mirror}
-use Rattle.interval.specs.Powers.{powerBelow}
+use Rattle.interval.specs.Interval.{powerBelow}
 use Rattle.axis.specs.Measures.{place, side}
 use Rattle.region.specs.Regions.{regionOf, inside}
 use Rattle.region_arithmetic.specs.Arithmetic.{shrunkBy, alignedTo}
@@ -14,9 +14,8 @@ use Rattle.half.specs.Half.{f16}
 use Rattle.fields.specs.Fields.{nested, read}
 use Rattle.gabor_channel.specs.Channel.{nearZero, channelFields}
 use Rattle.gabor_header.specs.Gabor.{channelsFields, weightFields, gaborFields}
-use Rattle.planes.specs.Picture.{around}
+use Rattle.planes.specs.Picture.{around, inRect}
 use Rattle.planes.specs.Sets.{of, setOf, tab}
-use Rattle.planes.specs.Rect.{inRect}
 use Rattle.planes.specs.Band.{inFilter, written, inner, passed}
 use Rattle.gabor_kernel.specs.Ends.{stands}
 use Rattle.gabor_kernel.specs.Formula.{value, formula}

@@ -1,4 +1,4 @@
--- Division of an integer by a natural number, rounded down and rounded up; the lesser and the greater of two integers.
+-- Division of an integer by a natural number, rounded down and rounded up, and the lesser and the greater of two integers, for the arithmetic of document 01, "Regions".
 use mathlib.Core.Path.{_≡_, refl}
 use mathlib.Core.Bool.{cond}
 use Prim.Native.Nat.{ℕ, _/_}

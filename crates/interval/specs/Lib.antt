@@ -1,5 +1,5 @@
 pub mod Integers
 pub mod Order
+pub mod Interval
 pub mod Powers
 pub mod Division
-pub mod Interval

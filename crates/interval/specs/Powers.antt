@@ -1,19 +1,15 @@
 -- The powers of two below a limit, and the count of trailing zero bits, which is a power's exponent. Assumes nothing.
 use mathlib.Core.Path.{_≡_, refl, sym, ap, _∙_}
-use mathlib.Core.Bool.{Bool, true, false, cond, _&&_, true≢false, false≢true}
+use mathlib.Core.Bool.{Bool, true, false, _&&_, true≢false, false≢true}
 use mathlib.Core.Logic.{⊎-elim}
 use Prim.Native.Nat.{ℕ, zero, suc, _^_, _<_}
 use native.Mathlib.Nat.{eq-or-lt-of-le, le-of-suc-le-suc}
 use native.Mathlib.Omega.{arith}
-use lib.Dec.{T, eqb, eqb→eq, eqb-refl}
+use lib.Dec.{T, eqb, eqb→eq}
 use lib.Ieee.Fits.{and-l, and-r}
 use borrow.Author.Tests.{eq-eqb}
 use lib.Count.{trailingZeros}
-
--- d is 2 to a power below n
-unfoldable pub powerBelow : ℕ → ℕ → Bool
-powerBelow zero d = false
-powerBelow (suc n) d = cond (eqb d (2 ^ n)) true (powerBelow n d)
+use Rattle.interval.specs.Interval.{powerBelow}
 
 pub power-in : (n k : ℕ) → k < n → powerBelow n (2 ^ k) ≡ true
 unfolding powerBelow

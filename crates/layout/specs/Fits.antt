@@ -17,7 +17,8 @@ use Rattle.overlap.specs.Overlap.{covers}
 use Rattle.interval.specs.Order.{le-to, sum-is, difference-is, size-is, ahead}
 use Rattle.region.specs.declared.Region.{Region}
 use Rattle.region.specs.Regions.{columns, rows, inside}
-use Rattle.region.specs.Measures.{pictured, pictured-measured, pictured-width, pictured-height, measured-width, measured-height}
+use Rattle.region.specs.Measures.{pictured}
+use Rattle.region.specs.Laws.{pictured-measured, pictured-width, pictured-height, measured-width, measured-height}
 use Rattle.placement.specs.declared.PlacedAnswer.{PlacedAnswer}
 use Rattle.placement.specs.Placed.{placedChecks, placedOutcome}
 use Rattle.planes.specs.declared.Layout.{Layout}

@@ -1,4 +1,4 @@
--- The layout of a filter region in an image region, and the outcome of a pass. Definitions only; Fits.antt has their laws.
+-- The layout of a filter region in an image region, and the outcome of a pass (document 01, "Measures", "Eleven numbers"). Definitions only; Fits.antt has their laws.
 use mathlib.Core.Bool.{Bool, false, cond, _&&_, not}
 use mathlib.Core.List.{List, [], _∷_, _++_}
 use Prim.Native.Nat.{ℕ, _*_}

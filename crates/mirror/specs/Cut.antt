@@ -6,7 +6,8 @@ use native.Mathlib.Decide.{decLt, decLe, ℕ-discrete}
 use native.Mathlib.Omega.{arith}
 use borrow.Author.Tests.{lt-ltb, le-ltb}
 use lib.IntN.{ℤ, pos, negsuc, _+ℤ_, natAbs}
-use Rattle.mirror.specs.Mirror.{mirror, mirror-lt, mirror-in, mirror-under, mirror-over}
+use Rattle.mirror.specs.Mirror.{mirror}
+use Rattle.mirror.specs.Laws.{mirror-lt, mirror-in, mirror-under, mirror-over}
 
 -- The part [lo, lo + n) of [0, N), and a place x counted in the part: between it and each edge of the part that is a cut edge stand at least k samples.
 pub record Deep (k lo n N x : ℕ) : Type 0 where

@@ -1,4 +1,5 @@
 pub mod Mirror
+pub mod Laws
 pub mod Offset
 pub mod Cut
 pub mod Outcome

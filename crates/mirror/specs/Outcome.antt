@@ -1,4 +1,4 @@
--- What `mirror` answers: the table of its checks, and the outcome for every offset and length.
+-- What `mirror` answers (document 01, "Mirror"): the table of its checks, and the outcome for every offset and length.
 use mathlib.Core.Bool.{cond}
 use mathlib.Core.List.{List, [], _∷_}
 use Prim.Native.Nat.{ℕ}

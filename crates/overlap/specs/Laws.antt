@@ -1,25 +1,20 @@
 -- Laws of intervals: meets, widening to multiples, and the cells that an interval touches. Assumes nothing.
-use mathlib.Core.Path.{_≡_, refl, sym, ap, _∙_}
-use mathlib.Core.Bool.{Bool, true, false, _&&_}
+use mathlib.Core.Path.{_≡_, refl}
+use mathlib.Core.Bool.{Bool, true, false}
 use Prim.Native.Nat.{ℕ, _+_, _*_, _<_, _≤_}
 use native.Mathlib.Nat.{mul-le-mul-right}
 use native.Mathlib.Decide.{decLe}
 use native.Mathlib.Omega.{arith}
 use lib.Dec.{T}
 use lib.Ieee.Fits.{and-l, and-r, and-i}
-use lib.IntN.{ℤ, pos, negℤ, _+ℤ_, _*ℤ_}
-use lib.Signed.{leZ, ltZ}
-use Rattle.interval.specs.Integers.{floorDiv, ceilDiv, least, greatest}
+use lib.IntN.{ℤ, pos, _+ℤ_, _*ℤ_}
+use lib.Signed.{leZ}
+use Rattle.interval.specs.Integers.{floorDiv, ceilDiv}
 use Rattle.interval.specs.Order.{above, below, sum-is, le-to, le-of, lt-to, lt-of, not-le, greatest-over-left, greatest-over-right, greatest-under, least-under-left, least-under-right, least-over}
 use Rattle.interval.specs.Division.{Floor, floor-is, floor-most, floor-only, ceil-under, ceil-least, multiple-above, multiple-below}
 use Rattle.interval.specs.Interval.{spanOf, shrunk, aligned}
-use Rattle.overlap.specs.Overlap.{vacant, covers, meet}
+use Rattle.overlap.specs.Overlap.{vacant, covers, meet, In}
 use Rattle.interval.specs.declared.Span.{Span}
-
--- p is a place of s
-pub record In (s : Span) (p : ℤ) : Type 0 where
-  pub from : T (leZ (s .start) p)
-  pub before : T (ltZ p (s .end))
 
 covers-of : (a b : Span) → T (leZ (a .start) (b .start)) → T (leZ (b .end) (a .end)) → T (covers a b)
 covers-of a b h k = and-i (leZ (a .start) (b .start)) (leZ (b .end) (a .end)) h k

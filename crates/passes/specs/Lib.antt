@@ -1,3 +1,4 @@
 pub mod Pass
 pub mod Plan
+pub mod PlanLaws
 pub mod Cut

@@ -1,4 +1,4 @@
--- Where a filter region lies in an image region: columns and rows from the image's corner, or zeros where it is refused.
+-- Where a filter region lies in an image region (document 01, "Eleven numbers", 4 and 5): columns and rows from the image's corner, or zeros where it is refused.
 use mathlib.Core.Path.{_≡_}
 use mathlib.Core.Bool.{true, false, cond, _&&_, not}
 use mathlib.Core.List.{List, [], _∷_}

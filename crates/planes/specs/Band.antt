@@ -1,4 +1,5 @@
--- One pass over rows of its result: which samples it writes, and what it leaves. Definitions only; Stored.antt has their laws.
+-- One pass over rows of its result (document 01, "Runs"; bands and the two kinds of result are its own terms): which samples it writes, and what it leaves.
+-- Definitions only; Stored.antt has their laws.
 use mathlib.Core.Bool.{Bool, cond, _&&_}
 use mathlib.Core.List.{List}
 use Prim.Native.Nat.{ℕ, _+_, _-_, _*_, min}
@@ -6,9 +7,8 @@ use lib.Dec.{leb, eqb}
 use lib.ListN.{length}
 use lib.Ieee.{Float}
 use Rattle.planes.specs.declared.Layout.{Layout}
-use Rattle.planes.specs.Picture.{Picture}
+use Rattle.planes.specs.Picture.{Picture, inRect}
 use Rattle.planes.specs.Sets.{of, setOf}
-use Rattle.planes.specs.Rect.{inRect}
 
 -- ---- the result: the full planes or the filter region (document 01, "Runs")
 

@@ -11,9 +11,10 @@ use borrow.Author.Tests.{le-leb, lt-ltb}
 use lib.Dec.{leb, ltb}
 use lib.ListN.{length}
 use lib.Ieee.{Float}
-use Rattle.planes.specs.Picture.{Picture}
-use Rattle.planes.specs.Sets.{of, sets-ext}
-use Rattle.planes.specs.Rect.{rowsFill, planesFill, rows-cong, inRect, Between, between, planes-at, planes-later, length-planesFill}
+use Rattle.planes.specs.Picture.{Picture, inRect}
+use Rattle.planes.specs.Sets.{of}
+use Rattle.planes.specs.SetLaws.{sets-ext}
+use Rattle.planes.specs.Rect.{rowsFill, planesFill, rows-cong, Between, between, planes-at, planes-later, length-planesFill}
 
 -- only the samples of the rectangle count
 pub planes-cong : (w h left n top m : ℕ) (u v : Picture) (d : List Float) (k : ℕ) → ((c x i : ℕ) → c < k → x < n → i < m → u c x i ≡ v c x i)

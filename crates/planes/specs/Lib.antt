@@ -1,6 +1,7 @@
 pub mod Samples
 pub mod Picture
 pub mod Sets
+pub mod SetLaws
 pub mod Fill
 pub mod Rect
 pub mod Join

@@ -10,10 +10,10 @@ use lib.Dec.{leb, ltb}
 use lib.ListN.{length, getD}
 use lib.Ieee.{Float, nan}
 use Rattle.planes.specs.declared.Layout.{Layout}
-use Rattle.planes.specs.Picture.{Picture}
+use Rattle.planes.specs.Picture.{Picture, inRect}
 use Rattle.planes.specs.Sets.{of}
 use Rattle.planes.specs.Fill.{fill, length-fill, fill-after, fill-cong, fill-then, fill-same}
-use Rattle.planes.specs.Rect.{rowsFill, planesFill, planes-turn, planes-later, rows-cong, inRect}
+use Rattle.planes.specs.Rect.{rowsFill, planesFill, planes-turn, planes-later, rows-cong}
 use Rattle.planes.specs.Band.{inFilter}
 
 -- ---- one row of w samples from index o on: s has the samples read, d is the list written

@@ -1,6 +1,6 @@
 -- The same rectangle of each plane of a set written anew, row by row: what loops over planes and rows leave, as the set of a picture. Assumes nothing.
 use mathlib.Core.Path.{_≡_, refl, sym, _∙_}
-use mathlib.Core.Bool.{Bool, true, false, cond, _&&_}
+use mathlib.Core.Bool.{true, false, cond, _&&_}
 use mathlib.Core.List.{List}
 use mathlib.Core.Logic.{_⊎_, inl, inr, ⊎-elim}
 use Prim.Native.Nat.{ℕ, zero, suc, _+_, _-_, _*_, _<_, _≤_}
@@ -12,8 +12,9 @@ use borrow.Author.Tests.{lt-ltb, le-ltb, le-leb, lt-leb}
 use lib.Dec.{leb, ltb}
 use lib.ListN.{length, getD}
 use lib.Ieee.{Float, nan}
-use Rattle.planes.specs.Picture.{Picture}
-use Rattle.planes.specs.Sets.{of, setOf, length-setOf, of-setOf, sets-ext}
+use Rattle.planes.specs.Picture.{Picture, inRect}
+use Rattle.planes.specs.Sets.{of, setOf}
+use Rattle.planes.specs.SetLaws.{length-setOf, of-setOf, sets-ext}
 use Rattle.planes.specs.Fill.{fill, length-fill, fill-before, fill-after, fill-at, fill-cong}
 
 -- d with m runs of n samples, a stride apart from index at on: v i is run i
@@ -26,10 +27,6 @@ rowsFill d at stride n (suc m) v = fill (rowsFill d at stride n m v) (at + m * s
 unfoldable pub planesFill : ℕ → ℕ → ℕ → ℕ → ℕ → ℕ → Picture → List Float → ℕ → List Float
 planesFill w h left n top m v d zero = d
 planesFill w h left n top m v d (suc k) = rowsFill (planesFill w h left n top m v d k) ((k * h + top) * w + left) w n m (λ i x. v k x i)
-
--- column x and row y lie in the rectangle
-unfoldable pub inRect : ℕ → ℕ → ℕ → ℕ → ℕ → ℕ → Bool
-inRect left n top m x y = (leb left x && ltb x (left + n)) && (leb top y && ltb y (top + m))
 
 -- ---- loops over rows: a turn, the end, and what counts
 

@@ -10,9 +10,10 @@ use lib.ListN.{length}
 use lib.Ieee.{Float}
 use lib.Ieee.Fits.{and-l, and-r, and-i}
 use Rattle.planes.specs.declared.Layout.{Layout}
-use Rattle.planes.specs.Picture.{Picture}
-use Rattle.planes.specs.Sets.{of, sets-ext, of-setOf, length-setOf}
-use Rattle.planes.specs.Rect.{planesFill, planes-at, length-planesFill, inRect}
+use Rattle.planes.specs.Picture.{Picture, inRect}
+use Rattle.planes.specs.Sets.{of}
+use Rattle.planes.specs.SetLaws.{sets-ext, of-setOf, length-setOf}
+use Rattle.planes.specs.Rect.{planesFill, planes-at, length-planesFill}
 use Rattle.planes.specs.Outside.{planesOutside}
 use Rattle.planes.specs.Band.{resultHeight, inFilter, written, inner, passed, layoutFits, setFits, rowsFit, filterRow, copiedOutside}
 

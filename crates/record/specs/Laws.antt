@@ -10,7 +10,8 @@ use lib.ListN.{getD, replicate}
 use lib.Seq.{getD-set-other}
 use lib.Ieee.Fits.{and-l, and-r, and-i}
 use Rattle.region.specs.Regions.{inside}
-use Rattle.region.specs.Measures.{pictured, pictured-measured, pictured-width, pictured-height, pictured-area, measured-width, measured-height}
+use Rattle.region.specs.Measures.{pictured}
+use Rattle.region.specs.Laws.{pictured-measured, pictured-width, pictured-height, pictured-area, measured-width, measured-height}
 use Rattle.numbers.specs.Checks.{firstOf}
 use Rattle.region.specs.declared.Region.{Region}
 use Rattle.placement.specs.Placed.{placedChecks, placed-inside}

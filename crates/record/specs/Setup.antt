@@ -10,8 +10,7 @@ use Rattle.region.specs.Measures.{areaFits, pictured}
 use Rattle.planes.specs.declared.Layout.{Layout}
 use Rattle.planes.specs.Band.{resultHeight}
 use Rattle.layout.specs.Outcome.{layoutOf}
-use Rattle.tiles.specs.Tile.{across, sigmaOf}
-use Rattle.tiles.specs.Region.{down}
+use Rattle.tiles.specs.Blocks.{across, sigmaOf, down}
 use Rattle.epf.specs.Blocks.{ahead, onBlocks}
 use Rattle.passes.specs.Pass.{Area}
 use Rattle.record.specs.declared.Setup.{Setup}

@@ -1,4 +1,4 @@
--- What each method answers: the first number that applies, and the value, or zeros where it refuses.
+-- What each method answers (document 01, "Regions"): the first number that applies, and the value, or zeros where it refuses.
 use mathlib.Core.Path.{_≡_}
 use mathlib.Core.Bool.{Bool, true, false, cond, _&&_, not}
 use mathlib.Core.List.{List, [], _∷_}

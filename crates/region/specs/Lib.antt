@@ -1,3 +1,4 @@
 pub mod Regions
 pub mod Measures
+pub mod Laws
 pub mod Answers

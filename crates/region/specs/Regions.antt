@@ -1,12 +1,11 @@
--- A region as its columns and rows, and what it has and contains.
+-- A region as its columns and rows, and what it has and contains (document 01, "Regions").
 use mathlib.Core.Path.{_≡_}
 use mathlib.Core.Bool.{Bool, _&&_, _||_}
 use lib.Dec.{eqb}
 use lib.IntN.{ℤ, pos}
 use Rattle.interval.specs.Interval.{spanOf, extent}
-use Rattle.overlap.specs.Overlap.{covers}
-use Rattle.overlap.specs.Laws.{In}
-use Rattle.axis.specs.Measures.{extent-back}
+use Rattle.overlap.specs.Overlap.{covers, In}
+use Rattle.axis.specs.Laws.{extent-back}
 use Rattle.interval.specs.declared.Span.{Span}
 use Rattle.region.specs.declared.Region.{Region}
 

@@ -1,4 +1,4 @@
--- What each function answers: the first number that applies, and the region, or zeros where it refuses.
+-- What each function answers (document 01, "Regions"): the first number that applies, and the region, or zeros where it refuses.
 use mathlib.Core.Path.{_≡_}
 use mathlib.Core.Bool.{Bool, true, false, cond, not}
 use mathlib.Core.List.{List, [], _∷_}
@@ -7,7 +7,7 @@ use lib.Dec.{eqb, leb}
 use lib.IntN.{ℤ}
 use Rattle.numbers.specs.Numbers.{outOfMeasure, outOfRange}
 use Rattle.numbers.specs.Checks.{Check, always, given, firstOf}
-use Rattle.interval.specs.Powers.{powerBelow}
+use Rattle.interval.specs.Interval.{powerBelow}
 use Rattle.region.specs.Measures.{measured}
 use Rattle.region.specs.Regions.{zeroRegion}
 use Rattle.region.specs.Answers.{givenChecks, pairChecks}

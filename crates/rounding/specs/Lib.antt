@@ -1,3 +1,4 @@
 pub mod Rounded
 pub mod Side
 pub mod Magnitude
+pub mod MagnitudeLaws

@@ -11,9 +11,10 @@ use lib.ListN.{length}
 use lib.Ieee.{Float}
 use lib.Ieee.Fits.{and-l, and-r}
 use Rattle.numbers.specs.Checks.{firstOf}
-use Rattle.region.specs.Measures.{pictured-measured, measured-height}
+use Rattle.region.specs.Laws.{pictured-measured, measured-height}
 use Rattle.layout.specs.Outcome.{layoutOf}
-use Rattle.passes.specs.Plan.{oneIf, plan-length}
+use Rattle.passes.specs.Plan.{oneIf}
+use Rattle.passes.specs.PlanLaws.{plan-length}
 use Rattle.record.specs.declared.Setup.{Setup}
 use Rattle.record.specs.declared.Run.{Run}
 use Rattle.record.specs.Setup.{epfOn, rowCount, bandCount, bandFrom, bandTo, sized, itersFit, setLength, sigmaLength}

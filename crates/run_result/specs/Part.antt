@@ -12,10 +12,11 @@ use Rattle.layout.specs.declared.LayoutAnswer.{LayoutAnswer}
 use Rattle.layout.specs.Outcome.{layoutOf, layoutOutcome}
 use Rattle.layout.specs.Fits.{answer-number, answer-layout}
 use Rattle.planes.specs.declared.Layout.{Layout}
-use Rattle.planes.specs.Picture.{Picture}
-use Rattle.planes.specs.Sets.{of, setOf, length-setOf, of-setOf, sets-ext}
+use Rattle.planes.specs.Picture.{Picture, inRect}
+use Rattle.planes.specs.Sets.{of, setOf}
+use Rattle.planes.specs.SetLaws.{length-setOf, of-setOf, sets-ext}
 use Rattle.planes.specs.Fill.{fill}
-use Rattle.planes.specs.Rect.{rowsFill, planesFill, rows-turn, rows-cong, planes-turn, planes-at, length-planesFill, inRect}
+use Rattle.planes.specs.Rect.{rowsFill, planesFill, rows-turn, rows-cong, planes-turn, planes-at, length-planesFill}
 use Rattle.planes.specs.Stored.{LayoutFits}
 use Rattle.planes.specs.Band.{resultLeft, resultTop, resultWidth, resultHeight, inner}
 use Rattle.record.specs.declared.Setup.{Setup}

@@ -10,22 +10,23 @@ use lib.ListN.{length}
 use lib.Ieee.{Float}
 use Rattle.numbers.specs.Numbers.{outOfMeasure, notInside, notOnBlocks, wrongLength, blockNotHeld, outOfRange}
 use Rattle.numbers.specs.Checks.{Check, always, given, applies, firstOf}
-use Rattle.axis.specs.Measures.{place-size}
+use Rattle.axis.specs.Laws.{place-size}
 use Rattle.region.specs.declared.Region.{Region}
 use Rattle.region.specs.Regions.{inside}
-use Rattle.region.specs.Measures.{pictured, pictured-measured, pictured-width, pictured-height, pictured-area, measured-left, measured-top, measured-width, measured-height}
+use Rattle.region.specs.Measures.{pictured}
+use Rattle.region.specs.Laws.{pictured-measured, pictured-width, pictured-height, pictured-area, measured-left, measured-top, measured-width, measured-height}
 use Rattle.placement.specs.Placed.{placedChecks}
 use Rattle.planes.specs.Stored.{and-first, and-second}
 use Rattle.layout.specs.Outcome.{layoutOf}
-use Rattle.tiles.specs.Tile.{across as layoutAcross}
-use Rattle.tiles.specs.Region.{down as layoutDown}
+use Rattle.tiles.specs.Blocks.{across as layoutAcross, down as layoutDown}
 use Rattle.frame.specs.declared.Frame.{Frame}
 use Rattle.grids.specs.Table.{badPresence, badGrid}
 use Rattle.blocks.specs.Measures.{across, down, badBlocks}
 use Rattle.groups.specs.Held.{someNotHeld}
 use Rattle.groups.specs.Outcome.{badSides, badSettings, frameFits, tableFits, tableRead, someGroup, gridsFit, sigmaChecks, sigmaNumber}
 use Rattle.sigma.specs.Outcome.{SigmasOutcome, leftIn, sigmasOutcome}
-use Rattle.epf.specs.Blocks.{ahead, ahead-small, onBlocks}
+use Rattle.epf.specs.Blocks.{ahead, onBlocks}
+use Rattle.epf.specs.BlockLaws.{ahead-small}
 use Rattle.record.specs.declared.Setup.{Setup}
 use Rattle.record.specs.declared.Run.{Run}
 use Rattle.record.specs.Setup.{layout, epfOn, itersFit, sized, setLength, sigmaLength}

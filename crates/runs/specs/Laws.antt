@@ -12,8 +12,7 @@ use Rattle.numbers.specs.Checks.{firstOf}
 use Rattle.region.specs.Regions.{inside}
 use Rattle.region.specs.Measures.{pictured}
 use Rattle.layout.specs.Outcome.{layoutOf}
-use Rattle.tiles.specs.Tile.{across}
-use Rattle.tiles.specs.Region.{down}
+use Rattle.tiles.specs.Blocks.{across, down}
 use Rattle.sigma.specs.Sigma.{blockSigmas}
 use Rattle.sigma.specs.Laws.{length-sigmas}
 use Rattle.epf.specs.Blocks.{onBlocks}

@@ -6,7 +6,7 @@ use borrow.Author.Tests.{eq-eqb, ne-eqb}
 use lib.Arith.{digits-lt, digits-div, digits-mod}
 use lib.ListN.{length, getD}
 use lib.Ieee.{Float, nan}
-use Rattle.planes.specs.Sets.{length-tab, getD-tab}
+use Rattle.planes.specs.SetLaws.{length-tab, getD-tab}
 use Rattle.frame.specs.declared.Frame.{Frame}
 use Rattle.frame.specs.Sizes.{innerOf}
 use Rattle.blocks.specs.declared.Blocks.{Blocks}

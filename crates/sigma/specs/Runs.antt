@@ -12,7 +12,8 @@ use lib.Dec.{ltb}
 use lib.ListN.{length, getD}
 use lib.Seq.{ext-getD}
 use lib.Ieee.{Float, nan}
-use Rattle.planes.specs.Sets.{tab, length-tab, getD-tab}
+use Rattle.planes.specs.Sets.{tab}
+use Rattle.planes.specs.SetLaws.{length-tab, getD-tab}
 use Rattle.planes.specs.Fill.{fill, length-fill, fill-before, fill-at, fill-then}
 use Rattle.frame.specs.declared.Frame.{Frame}
 use Rattle.frame.specs.declared.GroupSizes.{GroupSizes}

@@ -14,7 +14,8 @@ use lib.Ieee.{Float, nan}
 use Rattle.rounding.specs.Magnitude.{magnitude}
 use Rattle.planes.specs.declared.Layout.{Layout}
 use Rattle.planes.specs.Samples.{_⊕_, _⊖_, _⊗_, _⊘_, b0, b1}
-use Rattle.planes.specs.Picture.{Picture, Around, around, around-inside}
+use Rattle.planes.specs.Picture.{Picture, Around, around}
+use Rattle.planes.specs.SetLaws.{around-inside}
 use Rattle.planes.specs.Fill.{fill}
 use Rattle.planes.specs.Rect.{rowsFill, planesFill, planes-turn}
 use Rattle.planes.specs.Join.{rect-below}

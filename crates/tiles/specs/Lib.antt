@@ -1,3 +1,4 @@
+pub mod Blocks
 pub mod Store
 pub mod Slopes
 pub mod Tile

@@ -19,7 +19,8 @@ use Rattle.planes.specs.Stored.{LayoutFits}
 use Rattle.planes.specs.Room.{set-facts, set-true}
 use Rattle.tiles.specs.declared.Step.{Step}
 use Rattle.tiles.specs.Store.{RectFits}
-use Rattle.tiles.specs.Tile.{across, sigmaStart, blocksOf, TileFits, stepOver}
+use Rattle.tiles.specs.Tile.{sigmaStart, blocksOf, TileFits, stepOver}
+use Rattle.tiles.specs.Blocks.{across, down}
 
 -- no columns, no rows
 rows-empty : (d : List Float) (at stride m : ℕ) (v : ℕ → ℕ → Float) → d ≡ rowsFill d at stride 0 m v
@@ -39,10 +40,6 @@ rows-none w h left n top v d (suc k) = rows-none w h left n top v d k
 
 pub rows-start : (w h left n top y : ℕ) (v : Picture) (d : List Float) (k : ℕ) → d ≡ planesFill w h left n top (y - y) v d k
 rows-start w h left n top y v d k = let z : y - y ≡ 0 = omega arith in rw z (rows-none w h left n top v d k)
-
--- blocks below each other in the filter region
-abbrev pub down : Layout → ℕ
-down l = (l .height + 7) / 8
 
 -- rows of the filter region in a set of n planes: `len` and `count` are the numbers of its samples and of its sigmas
 pub record RegionFits (l : Layout) (n : ℕ) (s : Step) (top len count : ℕ) : Type 0 where

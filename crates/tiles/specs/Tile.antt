@@ -15,7 +15,8 @@ use Rattle.mirror.specs.Mirror.{mirror}
 use Rattle.mirror.specs.Offset.{offset-same}
 use Rattle.planes.specs.declared.Layout.{Layout}
 use Rattle.planes.specs.Samples.{_⊘_}
-use Rattle.planes.specs.Picture.{Picture, Around, around, around-inside}
+use Rattle.planes.specs.Picture.{Picture, around, Around}
+use Rattle.planes.specs.SetLaws.{around-inside}
 use Rattle.planes.specs.Sets.{of}
 use Rattle.planes.specs.Rect.{planesFill, length-planesFill}
 use Rattle.planes.specs.Join.{planes-cong, rect-at, rect-inside}
@@ -31,16 +32,9 @@ use Rattle.lanes.specs.Meaning.{lane-means}
 use Rattle.tiles.specs.declared.Step.{Step}
 use Rattle.tiles.specs.Store.{taken, Lies, RectFits, rectStart, plane-room}
 use Rattle.tiles.specs.Slopes.{Sloped, slope-of, multiplier-same}
+use Rattle.tiles.specs.Blocks.{across, sigmaOf}
 
 -- ---- the step over the filter region
-
--- blocks across the filter region
-abbrev pub across : Layout → ℕ
-across l = (l .width + 7) / 8
-
--- sigmas row of blocks after row of blocks
-abbrev pub sigmaOf : ℕ → List Float → ℕ → ℕ → Float
-sigmaOf n sigmas = λ bx by. getD sigmas (by * n + bx) nan
 
 -- the settings of a step on n planes
 abbrev pub passOf : ℕ → Step → List Float → EpfPass

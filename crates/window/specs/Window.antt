@@ -10,7 +10,8 @@ use lib.Dec.{leb, ltb}
 use lib.ListN.{length, getD}
 use lib.IntN.{subℕ}
 use lib.Ieee.{Float, nan}
-use Rattle.mirror.specs.Mirror.{mirror, mirror-in}
+use Rattle.mirror.specs.Mirror.{mirror}
+use Rattle.mirror.specs.Laws.{mirror-in}
 use Rattle.planes.specs.declared.Layout.{Layout}
 use Rattle.planes.specs.Picture.{Picture}
 use Rattle.planes.specs.Sets.{of}

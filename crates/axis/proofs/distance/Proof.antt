@@ -3,18 +3,15 @@ use mathlib.Core.Path.{_≡_, refl, sym, _∙_}
 use mathlib.Core.Bool.{Bool, true, false}
 use native.Mathlib.Omega.{arith}
 use lib.Dec.{T}
-use lib.IntN.{ℤ, natAbs, _-ℤ_}
+use lib.IntN.{ℤ, natAbs, _-ℤ_, negℤ}
 use lib.Signed.{leZ, nonNeg, mag, natAbs-le}
 use mir.Syntax.{w64}
 use mir.Val.{SFits, Fits}
 use mir.Facts.{toZ-ofZ}
-use Rattle.interval.specs.Order.{le-to, not-le, ahead, not-negative, size-is, same-size}
-use Rattle.interval.specs.Order.{mag-add, mag-neg}
+use Rattle.interval.specs.Order.{le-to, not-le, ahead, not-negative, size-is, same-size, mag-add, mag-neg, above, below}
 use Rattle.axis.proofs.distance.Statement.{statement}
 use Rattle.axis.proofs.distance.Tie as tie
-use lib.IntN.{negℤ}
 use Prim.Native.Nat.{_<_, _≤_, _+_}
-use Rattle.interval.specs.Order.{above, below}
 
 true-T : {x : Bool} → x ≡ true → T x
 true-T e = rw e tt

@@ -12,7 +12,7 @@ use mir.Val.{SFits}
 use mir.Facts.{toZ-ofZ}
 use Rattle.axis.specs.Measures.{place}
 use Rattle.interval.specs.declared.Span.{Span}
-use Rattle.axis.specs.Measures.{place-size, axis-unplaced, axis-long, axis-in, far-end}
+use Rattle.axis.specs.Laws.{place-size, axis-unplaced, axis-long, axis-in, far-end}
 use Rattle.interval.specs.Order.{not-le, lt-not-le, not-lt-le}
 use Rattle.interval.proofs.Flags.{not-true, not-false, yes}
 use Rattle.axis.proofs.judged.Statement.{statement}

@@ -7,7 +7,8 @@ use mir.Syntax.{w32, w64}
 use mir.Val.{Fits, SFits}
 use lib.IntN.{ℤ, natAbs}
 use lib.Signed.{mag}
-use Rattle.epf.specs.Blocks.{ahead, ahead-small, not-negative, negative}
+use Rattle.epf.specs.Blocks.{ahead}
+use Rattle.epf.specs.BlockLaws.{ahead-small, not-negative, negative}
 use Rattle.epf.proofs.ahead.Statement.{statement}
 use Rattle.epf.proofs.ahead.Tie as tie
 

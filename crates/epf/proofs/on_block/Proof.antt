@@ -1,7 +1,7 @@
 -- `epf::on_block` meets its contract. Assumes nothing.
 use borrow.Author.Needs.{needs}
 use mir.Facts.{toZ-ofZ}
-use Rattle.epf.specs.Blocks.{negative, multiple}
+use Rattle.epf.specs.BlockLaws.{negative, multiple}
 use Rattle.epf.proofs.on_block.Statement.{statement}
 use Rattle.epf.proofs.on_block.Tie as tie
 

@@ -1,7 +1,7 @@
 -- `passes::pass_count` meets its contract. Assumes nothing.
 use borrow.Author.Needs.{needs}
 use native.Mathlib.Omega.{arith}
-use Rattle.passes.specs.Plan.{plan-length}
+use Rattle.passes.specs.PlanLaws.{plan-length}
 use Rattle.passes.proofs.pass_count.Statement.{statement}
 use Rattle.passes.proofs.pass_count.Tie as tie
 

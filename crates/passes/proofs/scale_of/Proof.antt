@@ -1,7 +1,8 @@
 -- `passes::scale_of` meets its contract. Assumes nothing.
 use mathlib.Core.Path.{_≡_}
 use native.Mathlib.Omega.{arith}
-use Rattle.passes.specs.Plan.{scaleOf, scale-last}
+use Rattle.passes.specs.Plan.{scaleOf}
+use Rattle.passes.specs.PlanLaws.{scale-last}
 use Rattle.passes.proofs.scale_of.Statement.{statement}
 use Rattle.passes.proofs.scale_of.Tie as tie
 

@@ -1,7 +1,8 @@
 -- `passes::step_margin` meets its contract. Assumes nothing.
 use mathlib.Core.Path.{_≡_, refl}
 use native.Mathlib.Omega.{arith}
-use Rattle.passes.specs.Plan.{stepMargin, step-margin-most}
+use Rattle.passes.specs.Plan.{stepMargin}
+use Rattle.passes.specs.PlanLaws.{step-margin-most}
 use Rattle.passes.proofs.step_margin.Statement.{statement}
 use Rattle.passes.proofs.step_margin.Tie as tie
 

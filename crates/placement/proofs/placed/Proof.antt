@@ -9,7 +9,8 @@ use Rattle.interval.proofs.Flags.{not-true, not-false, yes, true-of}
 use mir.Syntax.{w32}
 use mir.Facts.{toZ-ofZ}
 use Rattle.placement.specs.Placed.{placedAnswer, placed-image, placed-filter, placed-outside, placed-inside}
-use Rattle.region.specs.Measures.{measured, pictured, pictured-measured, pictured-width, pictured-height}
+use Rattle.region.specs.Measures.{measured, pictured}
+use Rattle.region.specs.Laws.{pictured-measured, pictured-width, pictured-height}
 use Rattle.region.specs.Regions.{inside}
 use Rattle.region.specs.Answers.{containsOutcome, pair-holds}
 use Rattle.region.specs.declared.Region.{Region}

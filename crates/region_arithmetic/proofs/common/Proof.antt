@@ -9,7 +9,8 @@ use Rattle.interval.proofs.Flags.{not-true, not-false, yes, true-of}
 use Rattle.overlap.specs.Overlap.{vacant, meet}
 use Rattle.region.specs.Answers.{given-holds}
 use Rattle.region_arithmetic.specs.Answers.{regionAnswer, judgedNumber}
-use Rattle.region.specs.Measures.{measured, meet-measured}
+use Rattle.region.specs.Measures.{measured}
+use Rattle.region.specs.Laws.{meet-measured}
 use Rattle.region.specs.Regions.{columns, rows, regionOf}
 use Rattle.region_arithmetic.specs.Arithmetic.{intersected}
 use Rattle.interval.specs.declared.Span.{Span}

@@ -4,7 +4,8 @@ use Prim.Native.Nat.{ℕ, _+_, _-_, _*_, _≤_}
 use native.Mathlib.Omega.{arith}
 use borrow.Author.Needs.{needs}
 use lib.IntN.{ℤ}
-use Rattle.mirror.specs.Mirror.{mirror, mirror-lt}
+use Rattle.mirror.specs.Mirror.{mirror}
+use Rattle.mirror.specs.Laws.{mirror-lt}
 use Rattle.planes.specs.Rect.{rowsFill, rows-turn, rows-end}
 use Rattle.window.specs.Window.{planeSample, PlaneFits, row-room}
 use Rattle.window.proofs.load_plane.Statement.{statement}

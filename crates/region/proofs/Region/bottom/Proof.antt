@@ -7,7 +7,8 @@ use borrow.Author.Needs.{needs}
 use Rattle.interval.proofs.Flags.{not-true, not-false, yes}
 use Rattle.region.specs.Answers.{edgeAnswer, given-fails, given-holds}
 use Rattle.region.specs.Regions.{rows}
-use Rattle.region.specs.Measures.{measured, far-row}
+use Rattle.region.specs.Measures.{measured}
+use Rattle.region.specs.Laws.{far-row}
 use Rattle.region.proofs.Region.bottom.Statement.{statement}
 use Rattle.region.proofs.Region.bottom.Tie as tie
 

@@ -7,7 +7,8 @@ use borrow.Author.Needs.{needs}
 use Rattle.interval.proofs.Flags.{not-true, not-false, yes}
 use Rattle.region.specs.Answers.{edgeAnswer, given-fails, given-holds}
 use Rattle.region.specs.Regions.{columns}
-use Rattle.region.specs.Measures.{measured, far-column}
+use Rattle.region.specs.Measures.{measured}
+use Rattle.region.specs.Laws.{far-column}
 use Rattle.region.proofs.Region.right.Statement.{statement}
 use Rattle.region.proofs.Region.right.Tie as tie
 

@@ -7,7 +7,8 @@ use denote.Ref.{now}
 use lib.ListN.{length}
 use Rattle.planes.specs.Rect.{planesFill}
 use Rattle.tiles.specs.Store.{RectFits}
-use Rattle.tiles.specs.Tile.{across, sigmaStart, blocksOf, TileFits, Scratch, stepOver, rect-long}
+use Rattle.tiles.specs.Tile.{sigmaStart, blocksOf, TileFits, Scratch, stepOver, rect-long}
+use Rattle.tiles.specs.Blocks.{across}
 use Rattle.tiles.specs.Region.{columns-none, tile-fits, tile-room, strip-sigmas, tile-sigmas, tile-beside}
 use Rattle.tiles.proofs.region.strip.Statement.{statement}
 use Rattle.tiles.proofs.region.strip.Tie as tie

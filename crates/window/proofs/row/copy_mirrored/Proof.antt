@@ -4,7 +4,8 @@ use Prim.Native.Nat.{ℕ, _-_, _<_}
 use native.Mathlib.Omega.{arith}
 use borrow.Author.Needs.{needs}
 use lib.IntN.{ℤ}
-use Rattle.mirror.specs.Mirror.{mirror, mirror-lt}
+use Rattle.mirror.specs.Mirror.{mirror}
+use Rattle.mirror.specs.Laws.{mirror-lt}
 use Rattle.planes.specs.Loop.{Written, written-none, written-more, written-all}
 use Rattle.window.specs.Window.{rowSample}
 use Rattle.window.proofs.row.copy_mirrored.Statement.{statement}
