@@ -46,7 +46,7 @@ module _ (n : ℕ) (h : Handed) where
 abbrev pub resultAt : Setup → List Float → ℕ → ℤ → ℤ → Float
 resultAt s out = at (resultRegion s) (of (resultRegion s .width) (resultRegion s .height) out)
 
--- Between the place and each cut edge of the smaller region lie at least m samples: an edge is cut if it does not lie on the same side of the larger region.
+-- Between the place and each cut edge of the smaller region (a term of document 01, demand 3) lie at least m samples: an edge is cut if it does not lie on the same side of the larger region.
 pub record Clear (m : ℕ) (small large : Region) (x y : ℤ) : Type 0 where
   pub left : (columns small .start ≡ columns large .start → ⊥) → T (leZ (columns small .start +ℤ pos m) x)
   pub right : (columns small .end ≡ columns large .end → ⊥) → T (ltZ (x +ℤ pos m) (columns small .end))

@@ -8,7 +8,7 @@ use borrow.Author.Tests.{ltb-true, ltb-false, le-ltb}
 use lib.Dec.{T, ltb}
 use lib.IntN.{pos}
 use lib.Ieee.{Float, nan, inf, fin, lt, neg, ofBits, ofFields, odd, binary32, up, down, below}
-use Rattle.gabor_channel.specs.Channel.{magnitude}
+use Rattle.rounding.specs.Magnitude.{magnitude}
 
 abbrev zero : Float
 zero = fin false 0 (pos 0)
@@ -21,7 +21,7 @@ clash : {A : Type 0} → false ≡ true → A
 clash e = absurd (subst T (sym e) tt)
 
 negative : (x : Float) → lt x zero ≡ true → neg x ≡ magnitude x
-unfolding lt neg
+unfolding lt neg magnitude
 negative nan h = clash h
 negative (inf s) h = ap (λ (b : Bool). inf (not b)) h
 negative (fin true m e) h = refl
@@ -39,7 +39,7 @@ sign-apart a false b h = ap (λ (n : ℕ). ltb 0 (n + b)) h ∙ ap (ltb 0) (zero
 sign-apart a true b h = le-ltb b a (omega arith)
 
 not-negative : (x y : Float) → lt x zero ≡ false → lt x y ≡ lt (magnitude x) y
-unfolding lt
+unfolding lt magnitude
 not-negative nan y h = refl
 not-negative (inf s) y h = ap (λ (b : Bool). lt (inf b) y) h
 not-negative (fin false m e) y h = refl

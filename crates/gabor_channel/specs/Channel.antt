@@ -1,8 +1,9 @@
 -- The two weights of a channel in the Gabor bundle (document 01, "Header bits"; ISO/IEC 18181-1, restoration filter, `gab_x_weight1` and those after it).
-use mathlib.Core.Bool.{Bool, false, _&&_}
+use mathlib.Core.Bool.{Bool, _&&_}
 use mathlib.Core.List.{List, [], _∷_}
-use lib.Ieee.{Float, nan, inf, fin, add, mul, lt, ofBits, binary32}
+use lib.Ieee.{Float, add, mul, lt, ofBits, binary32}
 use Rattle.numbers.specs.Numbers.{kernelNearZero}
+use Rattle.rounding.specs.Magnitude.{magnitude}
 use Rattle.bits.specs.Outcome.{Outcome, accepted, refused}
 use Rattle.fields.specs.Fields.{Fields, half, refuse, bundle}
 use Rattle.gabor_channel.specs.declared.Channel.{Channel}
@@ -14,11 +15,6 @@ sideWeight = ofBits binary32 0x3deb_de00
 
 abbrev pub cornerWeight : Float
 cornerWeight = ofBits binary32 0x3d7a_dfce
-
-abbrev pub magnitude : Float → Float
-magnitude nan = nan
-magnitude (inf s) = inf false
-magnitude (fin s m e) = fin false m e
 
 -- |1 + (w0 + w1) × 4| is under 2^-23, each operation rounded once
 unfoldable pub nearZero : Float → Float → Bool

@@ -1,6 +1,6 @@
 -- Rectangles of a set that lie below or beside each other, written one after the other: together they are one rectangle. Assumes nothing.
 use mathlib.Core.Path.{_≡_, refl, sym, _∙_}
-use mathlib.Core.Bool.{Bool, true, false, cond, _&&_}
+use mathlib.Core.Bool.{Bool, true, false, cond, _&&_, and-false}
 use mathlib.Core.List.{List}
 use mathlib.Core.Logic.{_⊎_, inl, inr, ⊎-elim}
 use Prim.Native.Nat.{ℕ, zero, suc, _+_, _-_, _*_, _<_, _≤_}
@@ -33,10 +33,6 @@ rect-at w h left n top m v d k c x i fits high room l p q =
     let b : top + i - top ≡ i = omega arith in
     planes-at w h left n top m v fits high d k c (left + x) (top + i) l room (omega arith) (omega arith)
     ∙ rw (le-leb left (left + x) (omega arith), lt-ltb (left + x) (left + n) (omega arith), le-leb top (top + i) (omega arith), lt-ltb (top + i) (top + m) (omega arith), a, b)
-
-off : (a : Bool) → (a && false) ≡ false
-off true = refl
-off false = refl
 
 -- the first k of N planes
 module _ (N w h k : ℕ) (few : k ≤ N) where
@@ -101,7 +97,7 @@ module _ (N w h k : ℕ) (few : k ≤ N) where
             part : c < k → Between top m y → Between left n x → Between (left + n) n' x → Between left (n + n') x
                 → cond (inRect (left + n) n' top m x y) (v c (x - (left + n)) (y - top)) (cond (inRect left n top m x y) (u c (x - left) (y - top)) (of w h d c x y))
                 ≡ cond (inRect left (n + n') top m x y) (t c (x - left) (y - top)) (of w h d c x y)
-            part l (inr p) q r s = rw (p .1, off (leb (left + n) x && ltb x (left + n + n')), off (leb left x && ltb x (left + n)), off (leb left x && ltb x (left + (n + n'))))
+            part l (inr p) q r s = simp (p .1, and-false)
             part l (inl p) (inl q) (inl r) s = absurd (omega arith)
             part l (inl p) (inl q) (inr r) (inl s) = rw (p .2, q .2, r .1, s .2) (first c (x - left) (y - top) l (omega arith) (omega arith))
             part l (inl p) (inl q) (inr r) (inr s) = absurd (⊎-elim (λ (e : x < left). omega arith) (λ (e : left + (n + n') ≤ x). omega arith) (s .0))
@@ -142,7 +138,7 @@ module _ (N w h k : ℕ) (few : k ≤ N) where
             part : c < k → Between top m y → Between left n x → Between (left + at) n' x
                 → cond (inRect (left + at) n' top m x y) (v c (x - (left + at)) (y - top)) (cond (inRect left n top m x y) (u c (x - left) (y - top)) (of w h d c x y))
                 ≡ cond (inRect left n top m x y) (t c (x - left) (y - top)) (of w h d c x y)
-            part l (inr p) q r = rw (p .1, off (leb (left + at) x && ltb x (left + at + n')), off (leb left x && ltb x (left + n)))
+            part l (inr p) q r = simp (p .1, and-false)
             part l (inl p) (inl q) (inl r) =
                 let i : at + (x - (left + at)) ≡ x - left = omega arith in
                 rw (p .2, q .2, r .2) (inner c (x - (left + at)) (y - top) l (omega arith) (omega arith) ∙ rw i)

@@ -1,6 +1,6 @@
 -- Copying what lies outside the filter region: what the loops along rows, over rows and over planes leave. Assumes nothing.
 use mathlib.Core.Path.{_≡_, refl, sym, ap, _∙_}
-use mathlib.Core.Bool.{Bool, true, false, cond, _&&_}
+use mathlib.Core.Bool.{Bool, true, false, cond, _&&_, and-false}
 use mathlib.Core.List.{List}
 use Prim.Native.Nat.{ℕ, zero, suc, _+_, _-_, _*_, _<_, _≤_}
 use native.Mathlib.Nat.{suc-mul, add-mul}
@@ -24,20 +24,11 @@ module _ (l : Layout) (y o : ℕ) (s d : List Float) where
 
   above : (x : ℕ) → y < l .top → inFilter l x y ≡ false
   unfolding inFilter inRect
-  above x h = rw (lt-leb (l .top) y h) (off (leb (l .left) x && ltb x (l .left + l .width)))
-    where
-      off : (a : Bool) → (a && false) ≡ false
-      off true = refl
-      off false = refl
+  above x h = simp (lt-leb (l .top) y h, and-false)
 
   below : (x : ℕ) → l .top + l .height ≤ y → inFilter l x y ≡ false
   unfolding inFilter inRect
-  below x h = rw (le-ltb y (l .top + l .height) h) (off (leb (l .left) x && ltb x (l .left + l .width)) (leb (l .top) y))
-    where
-      off : (a b : Bool) → (a && (b && false)) ≡ false
-      off true true = refl
-      off true false = refl
-      off false b = refl
+  below x h = simp (le-ltb y (l .top + l .height) h, and-false)
 
   left-of : (x : ℕ) → x < l .left → inFilter l x y ≡ false
   unfolding inFilter inRect

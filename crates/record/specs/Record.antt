@@ -1,4 +1,4 @@
--- The record of a run (document 01, "Runs"): as start gives it, as calls change it, and which pass and done bands accepted calls lead to. Definitions only.
+-- The record of a run, a term of document 01's own ("Runs"): as start gives it, as calls change it, and which pass and done bands accepted calls lead to. Definitions only.
 use mathlib.Core.Path.{_≡_}
 use mathlib.Core.Bool.{Bool, true, false, cond, not, _&&_, _||_}
 use mathlib.Core.List.{List, [], _∷_}

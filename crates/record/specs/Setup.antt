@@ -27,7 +27,7 @@ epfOn s = ltb 0 (s .settings .epf .iters)
 abbrev pub area : Setup → List Float → Area
 area s sigmas = record { width = s .filter .width; height = s .filter .height; top = ahead (s .filter .top); sigma = sigmaOf (across (layout s)) sigmas }
 
--- ---- bands over the rows of the result, the last perhaps shorter
+-- ---- bands, a term of document 01's own: rows of the result, the last band perhaps shorter
 
 abbrev pub rowCount : Setup → ℕ
 rowCount s = resultHeight (layout s)

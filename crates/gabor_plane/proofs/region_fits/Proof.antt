@@ -3,10 +3,10 @@ use mathlib.Core.Path.{_≡_, refl}
 use mathlib.Core.Bool.{Bool, true, false}
 use Prim.Native.Nat.{ℕ, _+_, _-_, _*_, _≤_}
 use native.Mathlib.Nat.{mul-le-mul}
-use native.Mathlib.Decide.{decLe}
 use native.Mathlib.Omega.{arith}
-use borrow.Author.Tests.{le-leb, lt-leb}
+use borrow.Author.Tests.{le-leb}
 use lib.Dec.{leb}
+use Rattle.planes.specs.Room.{run-ends}
 use Rattle.gabor_plane.specs.Rows.{RegionFits}
 use Rattle.gabor_plane.specs.Plane.{regionFits, region-facts}
 use Rattle.gabor_plane.proofs.region_fits.Statement.{statement}
@@ -24,17 +24,10 @@ module _ (s : tie.Start) where
   facts : Fit ≡ true → RegionFits (s .args .at) (s .args .stride) (s .args .w) (s .args .h) (s .args .len)
   facts = region-facts (s .args .at) (s .args .stride) (s .args .w) (s .args .h) (s .args .len)
 
-moved : (at n end : ℕ) → n ≤ end → leb at (end - n) ≡ leb (at + n) end
-moved at n end h = go (decLe (at + n) end)
-  where
-    go : Dec (at + n ≤ end) → leb at (end - n) ≡ leb (at + n) end
-    go (yes p) = rw (le-leb at (end - n) (omega arith), le-leb (at + n) end p)
-    go (no p) = rw (lt-leb at (end - n) (omega arith), lt-leb (at + n) end (omega arith))
-
 fit : (at stride w h len : ℕ) → 1 ≤ w → 1 ≤ h → w ≤ stride → stride ≤ 16384 → h ≤ 16384 → (h - 1) * stride + w ≤ len
     → leb at (len - ((h - 1) * stride + w)) ≡ regionFits at stride w h len
 fit at stride w h len a b c d e f =
-    rw (le-leb 1 w a, le-leb 1 h b, le-leb w stride c, le-leb stride 16384 d, le-leb h 16384 e) (moved at ((h - 1) * stride + w) len f)
+    rw (le-leb 1 w a, le-leb 1 h b, le-leb w stride c, le-leb stride 16384 d, le-leb h 16384 e) (run-ends at ((h - 1) * stride + w) len f)
 
 -- the span, in numbers of the machine
 span : (c : tie.Else5) → let s = c .before .before .before .before .before in (s .args .h - 1) * s .args .stride ≤ 16384 * 16384

@@ -1,12 +1,11 @@
 -- `outside::copy_rows_outside` meets its contract. The invariant: i rows of n are written, and o is where row i starts. Assumes nothing.
 use mathlib.Core.Path.{_≡_, refl, _∙_}
-use Prim.Native.Nat.{ℕ, _+_, _-_, _*_, _≤_, _<_}
-use native.Mathlib.Nat.{suc-mul, mul-le-mul-right}
-use native.Mathlib.Numerals.{add-one}
+use Prim.Native.Nat.{_+_, _-_, _*_, _≤_}
 use native.Mathlib.Omega.{arith}
 use lib.ListN.{length}
 use Rattle.planes.specs.Rect.{rowsFill, rows-turn, rows-end}
 use Rattle.planes.specs.Outside.{rowsOutside, row-next}
+use Rattle.planes.specs.Room.{row-room, next-row}
 use Rattle.outside.proofs.copy_rows_outside.Statement.{statement}
 use Rattle.outside.proofs.copy_rows_outside.Tie as tie
 
@@ -21,17 +20,10 @@ loop-holds : tie.Need-loop-holds Inv-loop μ-loop
 unfolding rowsFill
 loop-holds c = (omega arith, omega arith, refl, refl)
 
--- row i of n ends within n rows
-room : (i n w : ℕ) → i < n → i * w + w ≤ n * w
-room i n w p = omega (arith, suc-mul i w, mul-le-mul-right w p)
-
-one-more : (i w : ℕ) → (i + 1) * w ≡ i * w + w
-one-more i w = rw add-one (suc-mul i w)
-
 -- in a turn
 fits : (c : tie.In-loop Inv-loop μ-loop) → c .before .loop .i * c .before .before .before .before .args .l .image .width + c .before .before .before .before .args .l .image .width
     ≤ c .before .before .before .before .args .n * c .before .before .before .before .args .l .image .width
-fits c = room (c .before .loop .i) (c .before .before .before .before .args .n) (c .before .before .before .before .args .l .image .width) (c .loop-test .taken)
+fits c = row-room (c .before .loop .i) (c .before .before .before .before .args .n) (c .before .before .before .before .args .l .image .width) (c .loop-test .taken)
 
 loop-again : tie.Need-loop-again Inv-loop μ-loop
 loop-again c =
@@ -39,7 +31,7 @@ loop-again c =
     let at-loop = called .before .before .before in
     let inv = at-loop .loop .inv in (
       omega arith,
-      omega (arith, one-more (at-loop .loop .i) (at-loop .before .before .before .args .l .image .width)),
+      omega (arith, next-row (at-loop .loop .i) (at-loop .before .before .before .args .l .image .width)),
       called .copy-row-outside .kept .1 .0 ∙ inv .2,
       rows-turn _ _ _ _ _ _ _ _ _ (inv .3) (inv .1) (row-next _ _ _ _ _ _ _ _ _ _ (inv .3) (inv .1) (called .copy-row-outside .ensures)),
     )

@@ -1,12 +1,11 @@
 -- `run_result::copy_rows` meets its contract. The invariant: y rows are written, and `row` and `o` are where row y starts in either slice. Assumes nothing.
 use mathlib.Core.Path.{_≡_, refl, _∙_}
-use Prim.Native.Nat.{ℕ, _+_, _-_, _*_, _≤_, _<_}
-use native.Mathlib.Nat.{suc-mul, mul-le-mul-right}
-use native.Mathlib.Numerals.{add-one}
+use Prim.Native.Nat.{ℕ, _+_, _-_, _*_, _≤_}
 use native.Mathlib.Omega.{arith}
 use lib.ListN.{length}
 use Rattle.planes.specs.declared.Layout.{Layout}
 use Rattle.planes.specs.Rect.{rowsFill, rows-end}
+use Rattle.planes.specs.Room.{row-room, next-row}
 use Rattle.run_result.specs.Part.{rowsOf, row-next}
 use Rattle.run_result.proofs.copy_rows.Statement.{statement}
 use Rattle.run_result.proofs.copy_rows.Tie as tie
@@ -23,13 +22,6 @@ loop-holds : tie.Need-loop-holds Inv-loop μ-loop
 unfolding rowsFill
 loop-holds c = (omega arith, omega arith, omega arith, refl, refl)
 
--- row y of n ends within n rows
-room : (y n w : ℕ) → y < n → y * w + w ≤ n * w
-room y n w p = omega (arith, suc-mul y w, mul-le-mul-right w p)
-
-one-more : (y w : ℕ) → (y + 1) * w ≡ y * w + w
-one-more y w = rw add-one (suc-mul y w)
-
 -- in a turn
 record Turn (l : Layout) (y : ℕ) : Type 0 where
   pub source : y * l .image .width + l .image .width ≤ l .height * l .image .width
@@ -39,7 +31,7 @@ turn : (c : tie.Then1 Inv-loop μ-loop) → Turn (c .before .before .before .bef
 turn c =
     let l = c .before .before .before .before .before .args .l in
     let y = c .before .before .loop .y in
-    record { source = room y (l .height) (l .image .width) (c .if1 .taken); target = room y (l .height) (l .width) (c .if1 .taken) }
+    record { source = row-room y (l .height) (l .image .width) (c .if1 .taken); target = row-room y (l .height) (l .width) (c .if1 .taken) }
 
 loop-again : tie.Need-loop-again Inv-loop μ-loop
 loop-again c =
@@ -48,8 +40,8 @@ loop-again c =
     let l = at-loop .before .before .before .args .l in
     let inv = at-loop .loop .inv in (
       omega arith,
-      omega (arith, one-more (at-loop .loop .y) (l .image .width)),
-      omega (arith, one-more (at-loop .loop .y) (l .width)),
+      omega (arith, next-row (at-loop .loop .y) (l .image .width)),
+      omega (arith, next-row (at-loop .loop .y) (l .width)),
       called .copy-row .kept .1 .1 .0 ∙ inv .3,
       row-next l _ _ _ _ _ _ _ _ _ (inv .4) (inv .1) (inv .2) (called .copy-row .ensures),
     )
