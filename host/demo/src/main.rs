@@ -1,6 +1,14 @@
 //! Smooths a picture by the proved library: one of its own, to show that rectangles laid edge to
 //! edge are the whole picture's samples, or a PFM file.
 
+/// Prints a line; whoever has stopped reading is told nothing more.
+macro_rules! say {
+    ($($line:tt)*) => {{
+        use std::io::Write;
+        let _ = writeln!(std::io::stdout(), $($line)*);
+    }};
+}
+
 mod engraving;
 mod lettering;
 mod number;
@@ -50,7 +58,7 @@ fn main() -> ExitCode {
 /// Whether all samples that were compared agree.
 fn run() -> Result<bool, Refused> {
     match options::parse(env::args_os().skip(1))? {
-        Command::Help => print!("{}", options::HELP),
+        Command::Help => say!("{}", options::HELP.trim_end()),
         Command::Show(folder) => return show::show(&folder),
         Command::Smooth(job) => smooth_file(&job)?,
     }
@@ -78,7 +86,7 @@ fn smooth_file(job: &Job) -> Result<(), Refused> {
         .asked(|| format!("{} iterations", settings.epf.iters))?;
     let bytes = pfm::bytes(&smooth, &file.scale);
     store::all(&[(job.output.clone(), bytes)])?;
-    println!("{}: {:?}", placed(part), job.output);
+    say!("{}: {:?}", placed(part), job.output);
     Ok(())
 }
 

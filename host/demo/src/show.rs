@@ -42,9 +42,7 @@ pub fn show(folder: &Path) -> Result<bool, Refused> {
         file("after.png", pixels(&whole)),
         file("seams.png", seams),
     ])?;
-    println!(
-        "written     before.png, after.png, seams.png (these differences in red) in {folder:?}"
-    );
+    say!("written     before.png, after.png, seams.png (these differences in red) in {folder:?}");
     Ok(rectangles && original)
 }
 
@@ -65,18 +63,18 @@ fn say_settings(picture: &Picture, filters: &Filters) {
     let sigmas = filters.grids.iter().copied();
     let least = sigmas.clone().fold(f32::INFINITY, f32::min);
     let most = sigmas.fold(0.0, f32::max);
-    println!("picture     {width} x {height}, three planes: noisy sky, hatching, lettering");
-    println!("settings    Gabor-like filter: weights {side} and {corner}");
-    println!(
+    say!("picture     {width} x {height}, three planes: noisy sky, hatching, lettering");
+    say!("settings    Gabor-like filter: weights {side} and {corner}");
+    say!(
         "            edge-preserving filter: {} iterations, sigma {least} to {most} by block",
         epf.iters
     );
-    println!("            margin: {} samples", filters.margin());
+    say!("            margin: {} samples", filters.margin());
 }
 
 fn whole(picture: &Picture, filters: &Filters) -> Result<Picture, Refusal> {
     let (whole, time) = timed(|| filters.smooth(picture.clone()));
-    println!("whole       {time:.1} ms");
+    say!("whole       {time:.1} ms");
     whole
 }
 
@@ -85,8 +83,8 @@ fn in_rectangles(picture: &Picture, filters: &Filters, whole: &Picture) -> Resul
     let (laid, time) = timed(|| lay(picture, filters, margin));
     let count = rectangles(picture.region).len();
     let (width, height) = SIDES;
-    println!("rectangles  {count} of up to {width} x {height}, edge to edge: {time:.1} ms");
-    println!("            each widened by the margin, from block to block, and cut back");
+    say!("rectangles  {count} of up to {width} x {height}, edge to edge: {time:.1} ms");
+    say!("            each widened by the margin, from block to block, and cut back");
     Ok(compared("compared", "with the whole's", &laid?, whole))
 }
 
@@ -94,20 +92,20 @@ fn in_rectangles(picture: &Picture, filters: &Filters, whole: &Picture) -> Resul
 fn compared(name: &str, with: &str, given: &Picture, whole: &Picture) -> bool {
     let differing = differing(&given.planes, &whole.planes);
     let samples = grouped(whole.planes.len());
-    println!("{name:12}{samples} samples {with}, bit by bit; differing: {differing}");
+    say!("{name:12}{samples} samples {with}, bit by bit; differing: {differing}");
     differing == 0
 }
 
 #[cfg(feature = "original")]
 fn by_original(picture: &Picture, filters: &Filters, whole: &Picture) -> bool {
     let (given, time) = timed(|| crate::original::smooth(filters, picture));
-    println!("the Rust    {time:.1} ms for the whole");
+    say!("the Rust    {time:.1} ms for the whole");
     compared("", "with the Rust's", &given, whole)
 }
 
 #[cfg(not(feature = "original"))]
 fn by_original(_: &Picture, _: &Filters, _: &Picture) -> bool {
-    println!("the Rust    is not here: no time and no samples to compare with");
+    say!("the Rust    is not here: no time and no samples to compare with");
     true
 }
 
@@ -118,7 +116,7 @@ fn seams(picture: &Picture, filters: &Filters, whole: &Picture) -> Result<Vec<[u
     let apart: Vec<f32> = laid.pixels().zip(whole.pixels()).map(apart).collect();
     let most = apart.iter().copied().fold(0.0, f32::max);
     let differing = grouped(differing(&laid.planes, &whole.planes));
-    println!("margin {margin}    one too small: {differing} samples differ, by up to {most:.1e}");
+    say!("margin {margin}    one too small: {differing} samples differ, by up to {most:.1e}");
     let seam = |([red, green, blue], apart): ([f32; 3], f32)| {
         let seam = if apart > 0.0 {
             FAINT + apart / most
