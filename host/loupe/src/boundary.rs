@@ -21,6 +21,7 @@ macro_rules! entries {
     (@ { $(#[$doc:meta])* $name:ident $symbol:ident $answer:ty }
         [$($own:tt)*] [$($c:tt)*] [$($lent:tt)*] $(,)?) => {
         $(#[$doc])*
+        #[must_use = "a refusal is told by the number alone"]
         #[allow(clippy::too_many_arguments, reason = "the parameters are the library's")]
         pub fn $name($($own)*) -> $answer {
             unsafe extern "C" {
