@@ -94,13 +94,9 @@ pub fn settings(chosen: &Chosen) -> Settings {
 }
 
 fn header(bits: u8) -> Settings {
-    let (gabor, epf, _) = loupe::read_filters(&[bits], 0, false)
-        .value()
-        .expect("a header of seven bits");
-    Settings {
-        gabor,
-        epf: epf.into(),
-    }
+    let read = loupe::read_filters(&[bits], 0, false).value();
+    let (filter, _) = read.expect("a header of seven bits");
+    filter.into()
 }
 
 /// Whether samples are a picture with these sides and a part lies inside it: start says so.

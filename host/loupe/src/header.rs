@@ -29,11 +29,19 @@ pub struct EdgePreservingFilter {
     pub sigma_for_modular: f32,
 }
 
+/// Both filters of a header.
+#[repr(C)]
+#[derive(Debug, Clone, Copy, PartialEq)]
+pub struct RestorationFilter {
+    pub gabor: Gabor,
+    pub epf: EdgePreservingFilter,
+}
+
 answers! {
     HalfAnswer { value: f32, next: usize }
     GaborAnswer { gabor: Gabor, next: usize }
     EpfAnswer { epf: EdgePreservingFilter, next: usize }
-    FiltersAnswer { gabor: Gabor, epf: EdgePreservingFilter, next: usize }
+    RestorationAnswer { filter: RestorationFilter, next: usize }
 }
 
 entries! {
@@ -63,5 +71,18 @@ entries! {
     read_epf = loupe_read_epf(bytes: &[u8], place: usize, modular: bool) -> EpfAnswer;
 
     /// Both filters, the Gabor-like one first.
-    read_filters = loupe_read_filters(bytes: &[u8], place: usize, modular: bool) -> FiltersAnswer;
+    ///
+    /// ```
+    /// // The Gabor-like bundle is an enabled and a custom bit here; the edge filter's follows.
+    /// let bytes = [0b000_11_01];
+    /// let (gabor, after) = loupe::read_gabor(&bytes, 0).value()?;
+    /// let (epf, end) = loupe::read_epf(&bytes, after, false).value()?;
+    /// let (filter, next) = loupe::read_filters(&bytes, 0, false).value()?;
+    /// assert_eq!((filter.gabor, filter.epf, next), (gabor, epf, end));
+    /// let refused = loupe::read_filters(&bytes, next, false).value();
+    /// assert_eq!(refused, Err(loupe::Refusal::BitsRunOut));
+    /// # Ok::<(), loupe::Refusal>(())
+    /// ```
+    read_filters =
+        loupe_read_filters(bytes: &[u8], place: usize, modular: bool) -> RestorationAnswer;
 }

@@ -8,10 +8,10 @@
 //! use loupe::{Frame, Gabor, Region, Settings, Setup, Smoothing};
 //!
 //! // The Gabor-like filter alone, on three planes of one row.
-//! let (_, epf, _) = loupe::read_filters(&[0], 0, false).value()?;
+//! let (off, _) = loupe::read_filters(&[0], 0, false).value()?;
 //! let settings = Settings {
 //!     gabor: Gabor { enabled: true, weights: [[0.5, 0.25]; 3] },
-//!     epf: epf.into(),
+//!     epf: off.epf.into(),
 //! };
 //! let image = Region { left: 0, top: 0, width: 3, height: 1 };
 //! let setup = Setup {

@@ -3,7 +3,7 @@
 use core::fmt;
 
 use crate::{
-    EdgePreservingFilter, EpfSigma, Frame, Gabor, Region,
+    EdgePreservingFilter, EpfSigma, Frame, Gabor, Region, RestorationFilter,
     boundary::{answers, entries},
 };
 
@@ -33,6 +33,15 @@ impl From<EdgePreservingFilter> for EpfSettings {
 pub struct Settings {
     pub gabor: Gabor,
     pub epf: EpfSettings,
+}
+
+impl From<RestorationFilter> for Settings {
+    fn from(read: RestorationFilter) -> Self {
+        Self {
+            gabor: read.gabor,
+            epf: read.epf.into(),
+        }
+    }
 }
 
 #[repr(C)]
@@ -78,9 +87,8 @@ entries! {
     /// ```
     /// // The Gabor-like filter and three iterations with default settings, in seven bits. The margin
     /// // is 1 + 6 (`crates/passes/specs/Plan.antt`).
-    /// let (gabor, epf, next) = loupe::read_filters(&[0b000_11_01], 0, false).value()?;
-    /// let settings = loupe::Settings { gabor, epf: epf.into() };
-    /// assert_eq!((next, loupe::margin(settings)), (7, 7));
+    /// let (filter, next) = loupe::read_filters(&[0b000_11_01], 0, false).value()?;
+    /// assert_eq!((next, loupe::margin(filter.into())), (7, 7));
     /// # Ok::<(), loupe::Refusal>(())
     /// ```
     margin = loupe_margin(settings: Settings) -> u32;

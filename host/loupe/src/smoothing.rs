@@ -9,8 +9,7 @@ const BLOCK: u32 = 8;
 ///
 /// ```
 /// # let region = |width, height| loupe::Region { left: 0, top: 0, width, height };
-/// # let (gabor, epf, _) = loupe::read_filters(&[0b01], 0, false).value()?;
-/// # let settings = loupe::Settings { gabor, epf: epf.into() };
+/// # let settings = loupe::read_filters(&[0b01], 0, false).value()?.0.into();
 /// # let (image, filter, preserve_outside) = (region(2, 2), region(2, 2), true);
 /// # let (width, height, upsampling, lf_level, group_size_shift) = (2, 2, 1, 0, 0);
 /// # let frame = loupe::Frame { width, height, upsampling, lf_level, group_size_shift };

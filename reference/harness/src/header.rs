@@ -93,7 +93,7 @@ pub const READERS: [Reader; 4] = [
         encoded: true,
         ours: |(bytes, place, modular)| {
             let a = loupe::read_filters(bytes, place, modular);
-            let fields = [gabor_fields(&a.gabor), epf_fields(&a.epf)].concat();
+            let fields = [gabor_fields(&a.filter.gabor), epf_fields(&a.filter.epf)].concat();
             given(a.number, fields, a.next)
         },
         rule: |(bytes, place, modular)| expected::filters(bytes, place, modular),

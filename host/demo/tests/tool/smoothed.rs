@@ -151,11 +151,8 @@ fn by_run(
     (width, height): (u32, u32),
     change: impl Fn(&mut Settings),
 ) -> Vec<f32> {
-    let (gabor, epf, _) = loupe::read_filters(&[0b1101], 0, false).value().unwrap();
-    let mut settings = Settings {
-        gabor,
-        epf: epf.into(),
-    };
+    let (filter, _) = loupe::read_filters(&[0b1101], 0, false).value().unwrap();
+    let mut settings = filter.into();
     change(&mut settings);
     let (left, top, upsampling, lf_level, group_size_shift) = (0, 0, 1, 0, 3);
     let image = Region {
