@@ -2,14 +2,15 @@
 //! engraver does it, and a strip of lettering. Sums and products alone, so that it is the same
 //! everywhere.
 
+use loupe::{BLOCK, CHANNELS};
+
 use crate::{
     lettering,
-    picture::{CHANNELS, Picture, at_corner},
+    picture::{Picture, at_corner},
 };
 
 const WIDTH: u32 = 768;
 const HEIGHT: u32 = 512;
-const BLOCK: u32 = 8;
 
 /// Where the strip of lettering begins, and where and how large its letters are.
 const STRIP: f32 = 432.0;

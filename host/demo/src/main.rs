@@ -32,9 +32,8 @@ use std::{
     process::ExitCode,
 };
 
-use loupe::Region;
+use loupe::{CHANNELS, Region};
 use options::{Command, Job};
-use picture::CHANNELS;
 use refused::{Asked, Refused};
 use smooth::Filters;
 

@@ -1,11 +1,8 @@
 //! The original Rust on the same picture.
 
-use loupe::{EpfSettings, Region};
+use loupe::{CHANNELS, EpfSettings, Region};
 
-use crate::{
-    picture::{CHANNELS, Picture},
-    smooth::Filters,
-};
+use crate::{picture::Picture, smooth::Filters};
 
 /// Both filters over a whole picture of one group.
 pub fn smooth(filters: &Filters, picture: &Picture) -> Picture {

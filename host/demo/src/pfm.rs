@@ -1,11 +1,11 @@
 //! The portable float map: `PF`, sides, a scale whose sign tells the byte order, and three samples
 //! a place, row after row from the bottom.
 
-use loupe::{Refusal, Region};
+use loupe::{CHANNELS, Refusal, Region};
 
 use crate::{
     number,
-    picture::{CHANNELS, Picture, at_corner},
+    picture::{Picture, at_corner},
     refused::Refused,
 };
 

@@ -1,8 +1,6 @@
 //! Three planes and where they lie.
 
-use loupe::Region;
-
-pub const CHANNELS: usize = 3;
+use loupe::{CHANNELS, Region};
 
 /// Planes of a region, one after another, each row after row from the top.
 #[derive(Debug, Clone)]

@@ -2,13 +2,13 @@
 
 use std::{hint::black_box, path::Path, time::Instant};
 
-use loupe::{Refusal, Region};
+use loupe::{CHANNELS, Refusal, Region};
 
 use crate::{
     engraving,
     number::grouped,
     options::Chosen,
-    picture::{CHANNELS, Picture, differing},
+    picture::{Picture, differing},
     png,
     rectangles::{SIDES, lay, rectangles},
     refused::{Asked, Refused},
@@ -110,14 +110,18 @@ fn by_original(_: &Picture, _: &Filters, _: &Picture) -> bool {
 }
 
 /// What a margin one too small leaves, over the smoothed picture made dark.
-fn seams(picture: &Picture, filters: &Filters, whole: &Picture) -> Result<Vec<[u8; 3]>, Refusal> {
+fn seams(
+    picture: &Picture,
+    filters: &Filters,
+    whole: &Picture,
+) -> Result<Vec<[u8; CHANNELS]>, Refusal> {
     let margin = filters.margin() - 1;
     let laid = lay(picture, filters, margin)?;
     let apart: Vec<f32> = laid.pixels().zip(whole.pixels()).map(apart).collect();
     let most = apart.iter().copied().fold(0.0, f32::max);
     let differing = grouped(differing(&laid.planes, &whole.planes));
     say!("margin {margin}    one too small: {differing} samples differ, by up to {most:.1e}");
-    let seam = |([red, green, blue], apart): ([f32; 3], f32)| {
+    let seam = |([red, green, blue], apart): ([f32; CHANNELS], f32)| {
         let seam = if apart > 0.0 {
             FAINT + apart / most
         } else {

@@ -1,6 +1,6 @@
 //! Smoothing by the proved library, of whole pictures and of rectangles.
 
-use loupe::{Frame, Refusal, Region, Settings, Setup, Smoothing};
+use loupe::{BLOCK, Frame, Refusal, Region, Settings, Setup, Smoothing};
 
 use crate::{
     options::{Chosen, GaborChoice},
@@ -9,7 +9,6 @@ use crate::{
 
 /// Rows of a band, as is usual: 256 of them are the tallest picture.
 const BAND_HEIGHT: u32 = 64;
-const BLOCK: u32 = 8;
 
 /// A header in which the Gabor-like filter and three iterations are on and all else is default.
 const DEFAULTS: u8 = 0b1101;

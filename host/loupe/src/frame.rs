@@ -2,6 +2,11 @@
 
 use crate::boundary::{answers, entries};
 
+/// Planes of a picture.
+pub const CHANNELS: usize = 3;
+/// Samples along a side of a block.
+pub const BLOCK: u32 = 8;
+
 #[repr(C)]
 #[derive(Debug, Clone, Copy, PartialEq, Eq)]
 pub struct Frame {

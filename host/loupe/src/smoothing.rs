@@ -1,9 +1,6 @@
 //! A run together with what its calls are lent.
 
-use crate::{Frame, Refusal, Region, Run, Setup, accepted, advance, band, result, start};
-
-const CHANNELS: usize = 3;
-const BLOCK: u32 = 8;
+use crate::{BLOCK, Frame, Refusal, Region, Run, Setup, accepted, advance, band, result, start};
 
 /// A run that owns its record, both sets of planes and the block sigmas.
 ///
@@ -15,10 +12,14 @@ const BLOCK: u32 = 8;
 /// # let frame = loupe::Frame { width, height, upsampling, lf_level, group_size_shift };
 /// // Document 01, "Instances": two bands; band 0 twice, and advance with band 1 missing.
 /// let setup = loupe::Setup { image, filter, preserve_outside, settings, band_height: 1 };
-/// let mut smoothing = loupe::Smoothing::start(setup, frame, &[0; 3], &[], vec![0.5; 12])?;
+/// let planes = (0..12u8).map(f32::from).collect();
+/// let mut smoothing = loupe::Smoothing::start(setup, frame, &[0; 3], &[], planes)?;
+/// let whole = smoothing.clone().finish()?;
 /// smoothing.band(0)?;
 /// assert_eq!(smoothing.band(0), Err(loupe::Refusal::BandNotOpen));
 /// assert_eq!(smoothing.advance(), Err(loupe::Refusal::PassNotDone));
+/// // What is left.
+/// assert_eq!(smoothing.finish()?, whole);
 /// # Ok::<(), loupe::Refusal>(())
 /// ```
 #[derive(Debug, Clone)]
@@ -70,30 +71,35 @@ impl Smoothing {
 
     /// The planes of a finished run, one after another: the image region's, or the filter region's.
     pub fn result(&self) -> Result<Vec<f32>, Refusal> {
-        let part = result_region(&self.run.setup);
-        let mut planes = vec![0.0; CHANNELS * part.width as usize * part.height as usize];
-        accepted(result(self.run, &self.first, &self.second, &mut planes))?;
-        Ok(planes)
+        let setup = &self.run.setup;
+        let planes = self.first.len() / area(setup.image);
+        let mut out = vec![0.0; planes * area(result_region(setup))];
+        accepted(result(self.run, &self.first, &self.second, &mut out))?;
+        Ok(out)
     }
 
-    /// All bands and passes that are left, and then the result.
+    /// All bands and passes that are left, and then the result. The library says which are left: with
+    /// no band open, an advance is 11 after the finish alone.
     pub fn finish(mut self) -> Result<Vec<f32>, Refusal> {
-        let Setup {
-            settings,
-            band_height,
-            ..
-        } = self.run.setup;
-        let passes = u32::from(settings.gabor.enabled) + settings.epf.iters;
-        let bands = result_region(&self.run.setup).height.div_ceil(band_height);
-        while self.run.pass < passes {
-            for k in 0..bands {
-                if !self.run.done[k as usize] {
-                    self.band(k)?;
-                }
+        loop {
+            self.open_bands()?;
+            match self.advance() {
+                Err(Refusal::PassNotDone) => return self.result(),
+                advanced => advanced?,
             }
-            self.advance()?;
         }
-        self.result()
+    }
+
+    /// The bands of this pass that are not done. The first of these that is 10 is past the last band.
+    fn open_bands(&mut self) -> Result<(), Refusal> {
+        let done = self.run.done;
+        for k in (0..).filter(|&k| done.get(k as usize) != Some(&true)) {
+            match self.band(k) {
+                Err(Refusal::BandNotOpen) => break,
+                answer => answer?,
+            }
+        }
+        Ok(())
     }
 }
 
@@ -103,6 +109,10 @@ fn result_region(setup: &Setup) -> Region {
     } else {
         setup.filter
     }
+}
+
+fn area(r: Region) -> usize {
+    r.width as usize * r.height as usize
 }
 
 /// Blocks of the filter region, none with the edge filter off. A filter region inside the image has
