@@ -45,6 +45,21 @@ answers! {
 }
 
 entries! {
+    /// ```
+    /// // `crates/frame/specs/Examples.antt`: two by two groups of 128 blocks each way.
+    /// let frame = loupe::Frame {
+    ///     width: 4000,
+    ///     height: 3001,
+    ///     upsampling: 2,
+    ///     lf_level: 0,
+    ///     group_size_shift: 0,
+    /// };
+    /// let sizes = loupe::group_sizes(frame).value()?;
+    /// assert_eq!((sizes.sample_width, sizes.sample_height), (2000, 1501));
+    /// assert_eq!((sizes.group_dim, sizes.num_groups), (128, 4));
+    /// assert_eq!(loupe::split_block(300, 0).value()?, (2, 44));
+    /// # Ok::<(), loupe::Refusal>(())
+    /// ```
     group_sizes = loupe_group_sizes(frame: Frame) -> FrameAnswer;
 
     /// The group of a block's column or row, and the cell in it.

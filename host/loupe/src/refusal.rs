@@ -5,6 +5,13 @@ use core::fmt;
 macro_rules! refusals {
     ($($number:literal $name:ident $meaning:literal)*) => {
         /// Why a call was refused. What it was lent is then as it was.
+        ///
+        /// ```
+        /// assert_eq!(loupe::accepted(0), Ok(()));
+        /// let refusal = loupe::accepted(10).unwrap_err();
+        /// assert_eq!((refusal, refusal.number()), (loupe::Refusal::BandNotOpen, 10));
+        /// assert_eq!(refusal.to_string(), format!("refusal 10: {}", refusal.meaning()));
+        /// ```
         #[derive(Debug, Clone, Copy, PartialEq, Eq)]
         pub enum Refusal {
             $(#[doc = $meaning] $name = $number,)*

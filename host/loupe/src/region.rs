@@ -2,6 +2,20 @@
 
 use crate::boundary::{answers, entries};
 
+/// ```
+/// # use loupe::*;
+/// // A rectangle of a picture, widened by 7 samples and clipped; and moved out of the picture.
+/// let picture = Region { left: 0, top: 0, width: 100, height: 80 };
+/// let rectangle = Region { left: 3, top: 20, width: 10, height: 10 };
+/// let widened = region_pad(rectangle, 7).value()?;
+/// let clipped = region_intersection(widened, picture).value()?;
+/// assert_eq!(clipped, Region { left: 0, top: 13, width: 20, height: 24 });
+/// assert_eq!((region_right(clipped).value()?, region_bottom(clipped).value()?), (20, 37));
+/// assert!(region_contains(picture, clipped).value()?);
+/// let apart = region_translate(clipped, 100, 0).value()?;
+/// assert!(region_is_empty(region_intersection(apart, picture).value()?).value()?);
+/// # Ok::<(), Refusal>(())
+/// ```
 #[repr(C)]
 #[derive(Debug, Clone, Copy, PartialEq, Eq)]
 pub struct Region {

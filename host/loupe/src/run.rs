@@ -94,6 +94,29 @@ entries! {
     margin = loupe_margin(settings: Settings) -> u32;
 
     /// Checks everything and fills in the block sigmas; table and grids as in [`crate::block_sigmas`].
+    ///
+    /// ```
+    /// # use loupe::*;
+    /// # let (off, _) = read_filters(&[0], 0, false).value()?;
+    /// # let gabor = Gabor { enabled: true, weights: [[0.5, 0.25]; 3] };
+    /// # let settings = Settings { gabor, epf: off.epf.into() };
+    /// # let image = Region { left: 0, top: 0, width: 3, height: 3 };
+    /// # let (filter, preserve_outside, band_height) = (image, true, 1);
+    /// # let setup = Setup { image, filter, preserve_outside, settings, band_height };
+    /// # let (width, height, upsampling, lf_level, group_size_shift) = (3, 3, 1, 0, 0);
+    /// # let frame = Frame { width, height, upsampling, lf_level, group_size_shift };
+    /// // Document 01, "Instances": weights 1/2, 1/4 on a single sample of 16; a band a row.
+    /// let plane = [0.0, 0.0, 0.0, 0.0, 16.0, 0.0, 0.0, 0.0, 0.0];
+    /// let (mut first, mut second, mut out) = ([plane; 3].concat(), [0.0; 27], [0.0; 27]);
+    /// let mut run = start(setup, frame, &[0; 3], &[], &mut first, &second, &mut []).value()?;
+    /// for k in [2, 0, 1] {
+    ///     run = band(run, &[], &mut first, &mut second, k).value()?;
+    /// }
+    /// run = advance(run).value()?;
+    /// accepted(result(run, &first, &second, &mut out))?;
+    /// assert_eq!(out[..], [[1.0, 2.0, 1.0, 2.0, 4.0, 2.0, 1.0, 2.0, 1.0]; 3].concat());
+    /// # Ok::<(), Refusal>(())
+    /// ```
     start = loupe_start(
         setup: Setup, frame: Frame, table: &[u32], grids: &[f32],
         first: &mut [f32], second: &[f32], sigmas: &mut [f32]
