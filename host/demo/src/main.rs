@@ -4,7 +4,7 @@
 /// Prints a line; whoever has stopped reading is told nothing more.
 macro_rules! say {
     ($($line:tt)*) => {{
-        use std::io::Write;
+        use std::io::Write as _;
         let _ = writeln!(std::io::stdout(), $($line)*);
     }};
 }
@@ -27,7 +27,7 @@ mod store;
 use std::{
     env,
     fs::File,
-    io::{self, Read},
+    io::{self, Read, Write},
     path::Path,
     process::ExitCode,
 };
@@ -48,7 +48,8 @@ fn main() -> ExitCode {
         Ok(true) => ExitCode::SUCCESS,
         Ok(false) => DIFFERENT.into(),
         Err(refused) => {
-            eprintln!("demo: {refused}");
+            // Where nobody can be told there is the exit status.
+            let _ = writeln!(io::stderr(), "demo: {refused}");
             REFUSED.into()
         }
     }
