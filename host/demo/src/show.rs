@@ -22,114 +22,142 @@ const RUNS: u32 = 10;
 const DARK: f32 = 0.3;
 const FAINT: f32 = 0.4;
 
-/// Whether all samples that were compared agree.
+/// Names and bytes.
+type Files = Vec<(&'static str, Vec<u8>)>;
+
+/// Whether all samples that were compared agree. Nothing is printed before all files are written.
 pub fn show(folder: &Path) -> Result<bool, Refused> {
-    store::folder(folder)?;
-    let refused = || "the picture of its own".into();
-    let picture = engraving::picture();
-    let filters = filters(&picture);
-    say_settings(&picture, &filters);
-    let whole = whole(&picture, &filters).asked(refused)?;
-    let rectangles = in_rectangles(&picture, &filters, &whole).asked(refused)?;
-    let original = by_original(&picture, &filters, &whole);
-    let seams = seams(&picture, &filters, &whole).asked(refused)?;
-    let file = |name: &str, pixels: Vec<_>| {
-        let bytes = png::bytes(picture.region.width, &pixels);
-        (folder.join(name), bytes)
-    };
-    store::all(&[
-        file("before.png", pixels(&picture)),
-        file("after.png", pixels(&whole)),
-        file("seams.png", seams),
-    ])?;
-    say!("written     before.png, after.png, seams.png (these differences in red) in {folder:?}");
-    Ok(rectangles && original)
+    let mut shown = Shown::new();
+    let (agree, files) = shown.files().asked(|| "the picture of its own".into())?;
+    store::all_in(folder, files)?;
+    shown.say(format!(
+        "written     before.png, after.png, seams.png (these differences in red) in {folder:?}"
+    ));
+    say!("{}", shown.lines.join("\n"));
+    Ok(agree)
 }
 
-fn filters(picture: &Picture) -> Filters {
-    let (width, height, cells) = engraving::sigmas();
-    Filters {
-        settings: smooth::settings(&Chosen::default()),
-        frame: smooth::frame(picture.region),
-        table: vec![1, width, height],
-        grids: cells,
-    }
+/// What is shown, and the lines that tell of it.
+struct Shown {
+    picture: Picture,
+    filters: Filters,
+    lines: Vec<String>,
 }
 
-fn say_settings(picture: &Picture, filters: &Filters) {
-    let Region { width, height, .. } = picture.region;
-    let loupe::Settings { gabor, epf } = filters.settings;
-    let [side, corner] = gabor.weights[0];
-    let sigmas = filters.grids.iter().copied();
-    let least = sigmas.clone().fold(f32::INFINITY, f32::min);
-    let most = sigmas.fold(0.0, f32::max);
-    say!("picture     {width} x {height}, three planes: noisy sky, hatching, lettering");
-    say!("settings    Gabor-like filter: weights {side} and {corner}");
-    say!(
-        "            edge-preserving filter: {} iterations, sigma {least} to {most} by block",
-        epf.iters
-    );
-    say!("            margin: {} samples", filters.margin());
-}
-
-fn whole(picture: &Picture, filters: &Filters) -> Result<Picture, Refusal> {
-    let (whole, time) = timed(|| filters.smooth(picture.clone()));
-    say!("whole       {time:.1} ms");
-    whole
-}
-
-fn in_rectangles(picture: &Picture, filters: &Filters, whole: &Picture) -> Result<bool, Refusal> {
-    let margin = filters.margin();
-    let (laid, time) = timed(|| lay(picture, filters, margin));
-    let count = rectangles(picture.region).len();
-    let (width, height) = SIDES;
-    say!("rectangles  {count} of up to {width} x {height}, edge to edge: {time:.1} ms");
-    say!("            each widened by the margin, from block to block, and cut back");
-    Ok(compared("compared", "with the whole's", &laid?, whole))
-}
-
-/// Prints how many samples differ; none should.
-fn compared(name: &str, with: &str, given: &Picture, whole: &Picture) -> bool {
-    let differing = differing(&given.planes, &whole.planes);
-    let samples = grouped(whole.planes.len());
-    say!("{name:12}{samples} samples {with}, bit by bit; differing: {differing}");
-    differing == 0
-}
-
-#[cfg(feature = "original")]
-fn by_original(picture: &Picture, filters: &Filters, whole: &Picture) -> bool {
-    let (given, time) = timed(|| crate::original::smooth(filters, picture));
-    say!("the Rust    {time:.1} ms for the whole");
-    compared("", "with the Rust's", &given, whole)
-}
-
-#[cfg(not(feature = "original"))]
-fn by_original(_: &Picture, _: &Filters, _: &Picture) -> bool {
-    say!("the Rust    is not here: no time and no samples to compare with");
-    true
-}
-
-/// What a margin one too small leaves, over the smoothed picture made dark.
-fn seams(
-    picture: &Picture,
-    filters: &Filters,
-    whole: &Picture,
-) -> Result<Vec<[u8; CHANNELS]>, Refusal> {
-    let margin = filters.margin() - 1;
-    let laid = lay(picture, filters, margin)?;
-    let apart: Vec<f32> = laid.pixels().zip(whole.pixels()).map(apart).collect();
-    let most = apart.iter().copied().fold(0.0, f32::max);
-    let differing = grouped(differing(&laid.planes, &whole.planes));
-    say!("margin {margin}    one too small: {differing} samples differ, by up to {most:.1e}");
-    let seam = |([red, green, blue], apart): ([f32; CHANNELS], f32)| {
-        let seam = if apart > 0.0 {
-            FAINT + apart / most
-        } else {
-            0.0
+impl Shown {
+    fn new() -> Self {
+        let picture = engraving::picture();
+        let (width, height, grids) = engraving::sigmas();
+        let filters = Filters {
+            settings: smooth::settings(&Chosen::default()),
+            frame: smooth::frame(picture.region),
+            table: vec![1, width, height],
+            grids,
         };
-        [DARK * red + seam, DARK * green, DARK * blue].map(level)
-    };
-    Ok(whole.pixels().zip(apart).map(seam).collect())
+        Self {
+            picture,
+            filters,
+            lines: Vec::new(),
+        }
+    }
+
+    fn say(&mut self, line: String) {
+        self.lines.push(line);
+    }
+
+    /// Whether all samples that were compared agree, and the files to write.
+    fn files(&mut self) -> Result<(bool, Files), Refusal> {
+        self.say_settings();
+        let whole = self.whole()?;
+        let rectangles = self.in_rectangles(&whole)?;
+        let original = self.by_original(&whole);
+        let seams = self.seams(&whole)?;
+        let file = |name, pixels: &[_]| (name, png::bytes(whole.region.width, pixels));
+        let files = vec![
+            file("before.png", &pixels(&self.picture)),
+            file("after.png", &pixels(&whole)),
+            file("seams.png", &seams),
+        ];
+        Ok((rectangles && original, files))
+    }
+
+    fn say_settings(&mut self) {
+        let Region { width, height, .. } = self.picture.region;
+        let loupe::Settings { gabor, epf } = self.filters.settings;
+        let ([side, corner], iters) = (gabor.weights[0], epf.iters);
+        let sigmas = self.filters.grids.iter().copied();
+        let least = sigmas.clone().fold(f32::INFINITY, f32::min);
+        let most = sigmas.fold(0.0, f32::max);
+        let margin = self.filters.margin();
+        self.lines.extend([
+            format!("picture     {width} x {height}, three planes: noisy sky, hatching, lettering"),
+            format!("settings    Gabor-like filter: weights {side} and {corner}"),
+            format!("            edge-preserving filter: {iters} iterations, sigma {least} to {most} by block"),
+            format!("            margin: {margin} samples"),
+        ]);
+    }
+
+    fn whole(&mut self) -> Result<Picture, Refusal> {
+        let (whole, time) = timed(|| self.filters.smooth(self.picture.clone()));
+        self.say(format!("whole       {time:.1} ms"));
+        whole
+    }
+
+    fn in_rectangles(&mut self, whole: &Picture) -> Result<bool, Refusal> {
+        let margin = self.filters.margin();
+        let (laid, time) = timed(|| lay(&self.picture, &self.filters, margin));
+        let count = rectangles(self.picture.region).len();
+        let (width, height) = SIDES;
+        self.say(format!(
+            "rectangles  {count} of up to {width} x {height}, edge to edge: {time:.1} ms"
+        ));
+        self.say("            each widened by the margin, from a block on, and cut back".into());
+        Ok(self.compare("compared", "with the whole's", &laid?, whole))
+    }
+
+    /// Tells how many samples differ; none should.
+    fn compare(&mut self, name: &str, with: &str, given: &Picture, whole: &Picture) -> bool {
+        let differing = differing(&given.planes, &whole.planes);
+        let samples = grouped(whole.planes.len());
+        self.say(format!(
+            "{name:12}{samples} samples {with}, bit by bit; differing: {differing}"
+        ));
+        differing == 0
+    }
+
+    #[cfg(feature = "original")]
+    fn by_original(&mut self, whole: &Picture) -> bool {
+        let (given, time) = timed(|| crate::original::smooth(&self.filters, &self.picture));
+        self.say(format!("the Rust    {time:.1} ms for the whole"));
+        self.compare("", "with the Rust's", &given, whole)
+    }
+
+    #[cfg(not(feature = "original"))]
+    fn by_original(&mut self, _: &Picture) -> bool {
+        self.say("the Rust    is not here: no time and no samples to compare with".into());
+        true
+    }
+
+    /// What a margin one too small leaves, over the smoothed picture made dark.
+    fn seams(&mut self, whole: &Picture) -> Result<Vec<[u8; CHANNELS]>, Refusal> {
+        let margin = self.filters.margin() - 1;
+        let laid = lay(&self.picture, &self.filters, margin)?;
+        let apart: Vec<f32> = laid.pixels().zip(whole.pixels()).map(apart).collect();
+        let most = apart.iter().copied().fold(0.0, f32::max);
+        let differing = grouped(differing(&laid.planes, &whole.planes));
+        self.say(format!(
+            "margin {margin}    one too small: {differing} samples differ, by up to {most:.1e}"
+        ));
+        let seam = |([red, green, blue], apart): ([f32; CHANNELS], f32)| {
+            let seam = if apart > 0.0 {
+                FAINT + apart / most
+            } else {
+                0.0
+            };
+            [DARK * red + seam, DARK * green, DARK * blue].map(level)
+        };
+        Ok(whole.pixels().zip(apart).map(seam).collect())
+    }
 }
 
 /// The largest difference at a place.

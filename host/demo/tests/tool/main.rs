@@ -3,6 +3,7 @@
 mod refused;
 mod shown;
 mod smoothed;
+mod stored;
 
 use std::{
     fs,
@@ -31,7 +32,11 @@ impl Folder {
 
     /// The names in it, in order.
     fn names(&self) -> Vec<String> {
-        let entries = fs::read_dir(&self.0).unwrap();
+        Self::names_in(&self.0)
+    }
+
+    fn names_in(folder: &Path) -> Vec<String> {
+        let entries = fs::read_dir(folder).unwrap();
         let name = |entry: fs::DirEntry| entry.file_name().into_string().unwrap();
         let mut names: Vec<String> = entries.map(|entry| name(entry.unwrap())).collect();
         names.sort();
@@ -45,9 +50,17 @@ impl Folder {
 
     /// Where a file cannot grow beyond 1,024 bytes.
     fn run_with_short_files(&self, words: &[&str]) -> Output {
-        let limited = "trap '' XFSZ; ulimit -f 1; exec \"$0\" \"$@\"";
+        self.run_after("trap '' XFSZ; ulimit -f 1; exec \"$0\" \"$@\"", words)
+    }
+
+    /// Where no line can be written, neither to the standard output nor to the standard error.
+    fn run_unheard(&self, words: &[&str]) -> Output {
+        self.run_after("exec \"$0\" \"$@\" >/dev/full 2>&1", words)
+    }
+
+    fn run_after(&self, script: &str, words: &[&str]) -> Output {
         let mut shell = Command::new("bash");
-        shell.args(["-c", limited, env!("CARGO_BIN_EXE_demo")]);
+        shell.args(["-c", script, env!("CARGO_BIN_EXE_demo")]);
         shell.current_dir(&self.0).args(words).output().unwrap()
     }
 }

@@ -7,13 +7,13 @@ use crate::{Folder, pfm};
 const PICTURE: &str = "picture.pfm";
 
 /// Runs the tool in a folder and expects a refusal that leaves the folder as it was.
-fn expect(folder: &Folder, words: &[&str], number: u32) {
+pub fn expect(folder: &Folder, words: &[&str], number: u32) {
     let names = folder.names();
     expect_refused(&folder.run(words), number);
     assert_eq!(folder.names(), names, "{words:?}");
 }
 
-fn expect_refused(output: &Output, number: u32) {
+pub fn expect_refused(output: &Output, number: u32) {
     let said = str::from_utf8(&output.stderr).unwrap();
     let begin = format!("demo: refusal {number}: ");
     assert_eq!(output.status.code(), Some(2), "{said}");
@@ -232,30 +232,4 @@ fn files_that_cannot_be_read_or_written() {
     expect(&folder, &["-o", "absent/folder"], 9);
     expect(&folder, &["-o", PICTURE], 9);
     assert_eq!(folder.read(PICTURE), sound());
-}
-
-#[test]
-fn a_file_that_was_there_stays() {
-    let folder = Folder::new("a_file_that_was_there_stays");
-    folder.write(PICTURE, b"PF\n5 4\n-1.0\n");
-    folder.write("out.pfm", b"before");
-    expect(&folder, &[PICTURE, "-o", "out.pfm"], 7);
-    assert_eq!(folder.read("out.pfm"), b"before");
-}
-
-/// A file that can be written in part only, as on a full disk.
-#[test]
-fn no_part_of_a_file_is_left() {
-    let folder = Folder::new("no_part_of_a_file_is_left");
-    folder.write(PICTURE, &pfm(20, 20, 0..1200));
-    folder.write("out.pfm", b"before");
-    for words in [&[PICTURE, "-o", "out.pfm"][..], &[PICTURE], &["-o", "."]] {
-        let names = folder.names();
-        let output = folder.run_with_short_files(words);
-        let said = str::from_utf8(&output.stderr).unwrap();
-        assert_eq!(output.status.code(), Some(2), "{said}");
-        assert!(said.starts_with("demo: refusal 9: "), "{said}");
-        assert_eq!(folder.names(), names);
-    }
-    assert_eq!(folder.read("out.pfm"), b"before");
 }
