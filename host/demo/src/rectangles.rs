@@ -1,15 +1,12 @@
 //! A picture cut into rectangles that lie edge to edge.
 
-use std::iter;
-
 use loupe::{Refusal, Region};
 
 use crate::{picture::Picture, smooth::Filters};
 
-/// Sides of a rectangle, and those of the first one. All but the first begin 6 samples into a
-/// block: for a margin of 6, which is one too small, aligning to blocks then adds nothing.
+/// Sides of a rectangle. All start where blocks do, so that a margin one too small shows at right and
+/// bottom alone: to the left and above, moving down to a block's start adds the sample that it lacks.
 pub const SIDES: (u32, u32) = (128, 96);
-const FIRST: (u32, u32) = (94, 62);
 
 /// All rectangles of a picture, smoothed one by one and laid edge to edge.
 pub fn lay(picture: &Picture, filters: &Filters, margin: u32) -> Result<Picture, Refusal> {
@@ -24,8 +21,8 @@ pub fn lay(picture: &Picture, filters: &Filters, margin: u32) -> Result<Picture,
 }
 
 pub fn rectangles(picture: Region) -> Vec<Region> {
-    let columns = cuts(picture.width, FIRST.0, SIDES.0);
-    let rows = cuts(picture.height, FIRST.1, SIDES.1);
+    let columns = cuts(picture.width, SIDES.0);
+    let rows = cuts(picture.height, SIDES.1);
     let row = |&(top, height): &(u32, u32)| {
         let part = move |&(left, width): &(u32, u32)| Region {
             left: left as i32,
@@ -39,8 +36,9 @@ pub fn rectangles(picture: Region) -> Vec<Region> {
 }
 
 /// Starts and lengths along a side.
-fn cuts(side: u32, first: u32, length: u32) -> Vec<(u32, u32)> {
-    let starts = (first..side).step_by(length as usize);
-    let cut = |start| (start, length.min(side - start));
-    iter::once((0, first)).chain(starts.map(cut)).collect()
+fn cuts(side: u32, length: u32) -> Vec<(u32, u32)> {
+    let starts = (0..side).step_by(length as usize);
+    starts
+        .map(|start| (start, length.min(side - start)))
+        .collect()
 }

@@ -52,7 +52,7 @@ impl Filters {
         })
     }
 
-    /// A part that lies inside the picture, widened by a margin, smoothed and cut back.
+    /// A part that lies inside the picture, as it is in the whole smoothed picture.
     pub fn smooth_part(
         &self,
         picture: &Picture,
@@ -64,17 +64,28 @@ impl Filters {
         Ok(smooth.cut(part))
     }
 
-    /// Where the edge filter runs, a region starts and ends where blocks do. A part whose widened
-    /// sides are out of measure takes the whole picture.
+    /// A part widened by a margin; left and top are then moved down to where blocks start, if the
+    /// edge filter runs, and all is clipped to the picture, whose corner is 0, 0.
     fn widened(&self, picture: Region, part: Region, margin: u32) -> Region {
-        let widened = || {
-            let mut widened = loupe::region_pad(part, margin).value()?;
-            if self.settings.epf.iters > 0 {
-                widened = loupe::region_container_aligned(widened, BLOCK).value()?;
-            }
-            loupe::region_intersection(widened, picture).value()
+        let unit = if self.settings.epf.iters > 0 {
+            BLOCK
+        } else {
+            1
         };
-        widened().unwrap_or(picture)
+        let along = |start: i32, length: u32, side: u32| {
+            let start = start as u32;
+            let from = start.saturating_sub(margin) / unit * unit;
+            let to = (start + length + margin).min(side);
+            (from as i32, to - from)
+        };
+        let (left, width) = along(part.left, part.width, picture.width);
+        let (top, height) = along(part.top, part.height, picture.height);
+        Region {
+            left,
+            top,
+            width,
+            height,
+        }
     }
 }
 
@@ -125,5 +136,30 @@ fn setup(image: Region, filter: Region, settings: Settings) -> Setup {
         preserve_outside: false,
         settings,
         band_height: BAND_HEIGHT,
+    }
+}
+
+#[cfg(test)]
+mod tests {
+    use super::*;
+
+    /// 20 - 7 and 30 - 7 are 13 and 23; 25 + 7 is 32, and 75 + 7 is past the picture's 80.
+    #[test]
+    fn right_and_bottom_stay_where_the_margin_puts_them() {
+        let region = |left, top, right: i32, bottom: i32| Region {
+            left,
+            top,
+            width: (right - left) as u32,
+            height: (bottom - top) as u32,
+        };
+        let (picture, part) = (at_corner(100, 80), region(20, 30, 25, 75));
+        let widened = |iters: u32| {
+            let mut settings = header(DEFAULTS);
+            settings.epf.iters = iters;
+            let filters = Filters::of_one_sigma(picture, settings).unwrap();
+            filters.widened(picture, part, 7)
+        };
+        assert_eq!(widened(3), region(8, 16, 32, 80));
+        assert_eq!(widened(0), region(13, 23, 32, 80));
     }
 }
