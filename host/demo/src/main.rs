@@ -32,8 +32,10 @@ use std::{
     process::ExitCode,
 };
 
-use loupe::{CHANNELS, Region};
-use options::{Command, Job};
+use loupe::{CHANNELS, Refusal, Region};
+use options::{Chosen, Command, Job, Written};
+use pfm::Pfm;
+use picture::Picture;
 use refused::{Asked, Refused};
 use smooth::Filters;
 
@@ -60,38 +62,54 @@ fn run() -> Result<bool, Refused> {
     match options::parse(env::args_os().skip(1))? {
         Command::Help => say!("{}", options::HELP.trim_end()),
         Command::Show(folder) => return show::show(&folder),
-        Command::Smooth(job) => smooth_file(&job)?,
+        Command::Smooth(job) => smooth_file(job)?,
     }
     Ok(true)
 }
 
-fn smooth_file(job: &Job) -> Result<(), Refused> {
+fn smooth_file(job: Job) -> Result<(), Refused> {
     let bytes = read(&job.input).map_err(|error| {
         let what = format!("{:?} cannot be read: {error}", job.input);
         Refused::setting(what)
     })?;
-    let mut file = pfm::parse(&bytes)?;
-    let part = job.rect.unwrap_or(file.region);
-    smooth::judge(file.region, part, &mut file.samples).asked(|| {
-        let (picture, samples) = (placed(file.region), file.samples.len());
-        let rect = job
-            .rect
-            .map_or_else(String::new, |r| format!(", rectangle {}", placed(r)));
-        format!("picture {picture} with {samples} samples{rect}")
-    })?;
-    let picture = file.picture()?;
-    let settings = smooth::settings(&job.filters);
-    let smooth = Filters::of_one_sigma(picture.region, settings)
-        .and_then(|filters| filters.smooth_part(&picture, part, filters.margin()))
-        .asked(|| format!("{} iterations", settings.epf.iters))?;
-    let bytes = pfm::bytes(&smooth, &file.scale);
-    store::all(&[(job.output.clone(), bytes)])?;
-    say!("{}: {:?}", placed(part), job.output);
+    let file = pfm::parse(bytes)?;
+    let part = judged(&file, job.rect)?;
+    let (picture, scale) = file.picture()?;
+    let smooth = smoothed(picture, part, &job.filters)?;
+    store::all(&[(job.output.clone(), pfm::bytes(&smooth, &scale))])?;
+    let Region {
+        left,
+        top,
+        width,
+        height,
+    } = part;
+    say!("{width} x {height} at {left}, {top}: {:?}", job.output);
     Ok(())
 }
 
-fn placed(r: Region) -> String {
-    format!("{} x {} at {}, {}", r.width, r.height, r.left, r.top)
+/// The part of a file that is to be smoothed.
+fn judged(file: &Pfm, rect: Option<Written<Region>>) -> Result<Region, Refused> {
+    let (part, of) = match rect {
+        Some(rect) => (rect.value, format!(", rectangle {}", rect.text)),
+        None => (file.region, String::new()),
+    };
+    let refused = |refusal| match refusal {
+        Refusal::WrongLength => Refused::new(refusal, file.wrong_length()),
+        _ => Refused::new(refusal, format!("picture {}{of}", file.sides)),
+    };
+    smooth::judge(file.region, part, file.count()).map_err(refused)?;
+    Ok(part)
+}
+
+fn smoothed(picture: Picture, part: Region, chosen: &Chosen) -> Result<Picture, Refused> {
+    let settings = smooth::settings(chosen);
+    let run = || {
+        let filters = Filters::of_one_sigma(picture.region, settings)?;
+        let widened = filters.widened(picture.region, part, filters.margin());
+        Ok(filters.smooth(picture.into_part(widened))?.into_part(part))
+    };
+    let iters = chosen.iters.as_ref();
+    run().asked(|| iters.map_or_else(String::new, |iters| format!("--iters {}", iters.text)))
 }
 
 fn read(path: &Path) -> io::Result<Vec<u8>> {

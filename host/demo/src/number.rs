@@ -3,7 +3,7 @@
 use std::num::IntErrorKind;
 
 /// A whole number of any size; one beyond 128 bits is the largest or the smallest of them.
-pub fn whole(text: &str) -> Option<i128> {
+fn whole(text: &str) -> Option<i128> {
     match text.parse() {
         Ok(number) => Some(number),
         Err(error) => match error.kind() {
@@ -21,10 +21,11 @@ pub fn count(text: &str) -> Option<u32> {
     Some(number.try_into().unwrap_or(u32::MAX))
 }
 
-/// A left or top, in the same way.
+/// A left or top: a number that the type does not hold becomes its largest or smallest, which the
+/// library refuses as well.
 pub fn corner(text: &str) -> Option<i32> {
     let number = whole(text)?;
-    Some(number.try_into().unwrap_or(i32::MAX))
+    Some(number.clamp(i32::MIN.into(), i32::MAX.into()) as i32)
 }
 
 /// A number as it is printed: `1,179,648`.
@@ -51,8 +52,9 @@ mod tests {
         assert_eq!(count(&ten_to_30.repeat(3)), Some(u32::MAX));
         assert_eq!(count("-1"), Some(u32::MAX));
         assert_eq!(count("16385"), Some(16_385));
-        assert_eq!(corner("-2147483649"), Some(i32::MAX));
-        assert_eq!(corner(&format!("-{}", ten_to_30.repeat(2))), Some(i32::MAX));
+        assert_eq!(corner("2147483648"), Some(i32::MAX));
+        assert_eq!(corner("-2147483649"), Some(i32::MIN));
+        assert_eq!(corner(&format!("-{}", ten_to_30.repeat(2))), Some(i32::MIN));
         assert_eq!(corner("-1048576"), Some(-1_048_576));
         for wrong in ["", "-", "1.0", "1e3", " 1", "x"] {
             assert_eq!(whole(wrong), None, "{wrong:?}");

@@ -5,7 +5,7 @@ use std::{
     path::PathBuf,
 };
 
-use loupe::Region;
+use loupe::{CHANNELS, Region};
 
 use crate::{number, refused::Refused};
 
@@ -30,40 +30,48 @@ pub enum Command {
 }
 
 /// A file to smooth.
-#[derive(Debug, PartialEq)]
 pub struct Job {
     pub input: PathBuf,
     pub output: PathBuf,
-    pub rect: Option<Region>,
+    pub rect: Option<Written<Region>>,
     pub filters: Chosen,
 }
 
+/// A value and the text that it was given as.
+#[derive(PartialEq)]
+pub struct Written<T> {
+    pub value: T,
+    pub text: String,
+}
+
 /// Settings that were given; the others are a header's defaults.
-#[derive(Debug, Default, PartialEq)]
+#[derive(Default, PartialEq)]
 pub struct Chosen {
     pub gabor: Option<GaborChoice>,
-    pub iters: Option<u32>,
+    pub iters: Option<Written<u32>>,
     pub sigma: Option<f32>,
 }
 
-#[derive(Debug, PartialEq)]
+#[derive(PartialEq)]
 pub enum GaborChoice {
     Off,
-    Weights([[f32; 2]; 3]),
+    Weights([[f32; 2]; CHANNELS]),
 }
 
 #[derive(Default)]
 struct Given {
-    help: bool,
     input: Option<PathBuf>,
     output: Option<PathBuf>,
-    rect: Option<Region>,
+    rect: Option<Written<Region>>,
     filters: Chosen,
 }
 
 pub fn parse(mut words: impl Iterator<Item = OsString>) -> Result<Command, Refused> {
     let mut given = Given::default();
     while let Some(word) = words.next() {
+        if word == "--help" || word == "-h" {
+            return Ok(Command::Help);
+        }
         given.take(&word, &mut words)?;
     }
     given.command()
@@ -80,13 +88,12 @@ impl Given {
             rest.next().ok_or_else(missing)
         };
         match word.as_encoded_bytes() {
-            b"--help" | b"-h" => self.help = true,
             b"-o" => self.output = Some(value()?.into()),
             b"--rect" => self.rect = Some(read(word, &value()?, rect)?),
-            b"--gabor" => self.filters.gabor = Some(read(word, &value()?, weights)?),
+            b"--gabor" => self.filters.gabor = Some(read(word, &value()?, weights)?.value),
             b"--no-gabor" => self.filters.gabor = Some(GaborChoice::Off),
             b"--iters" => self.filters.iters = Some(read(word, &value()?, number::count)?),
-            b"--sigma" => self.filters.sigma = Some(read(word, &value()?, float)?),
+            b"--sigma" => self.filters.sigma = Some(read(word, &value()?, float)?.value),
             [b'-', ..] => return Err(Refused::setting(format!("there is no option {word:?}"))),
             _ if self.input.is_some() => {
                 return Err(Refused::setting(format!("a second picture, {word:?}")));
@@ -97,9 +104,6 @@ impl Given {
     }
 
     fn command(self) -> Result<Command, Refused> {
-        if self.help {
-            return Ok(Command::Help);
-        }
         let Some(input) = self.input else {
             if self.rect.is_some() || self.filters != Chosen::default() {
                 return Err(Refused::setting("without a picture -o is the only option"));
@@ -121,9 +125,17 @@ impl Given {
 }
 
 /// The value of an option.
-fn read<T>(option: &OsStr, value: &OsStr, form: impl Fn(&str) -> Option<T>) -> Result<T, Refused> {
-    let wrong = || Refused::setting(format!("{option:?} does not take {value:?}"));
-    value.to_str().and_then(form).ok_or_else(wrong)
+fn read<T>(
+    option: &OsStr,
+    text: &OsStr,
+    form: impl Fn(&str) -> Option<T>,
+) -> Result<Written<T>, Refused> {
+    let wrong = || Refused::setting(format!("{option:?} does not take {text:?}"));
+    let text = text.to_str().ok_or_else(wrong)?;
+    Ok(Written {
+        value: form(text).ok_or_else(wrong)?,
+        text: text.into(),
+    })
 }
 
 fn rect(text: &str) -> Option<Region> {
@@ -142,7 +154,7 @@ fn rect(text: &str) -> Option<Region> {
 fn weights(text: &str) -> Option<GaborChoice> {
     let numbers: Option<Vec<f32>> = text.split(',').map(float).collect();
     let weights = match numbers?[..] {
-        [side, corner] => [[side, corner]; 3],
+        [side, corner] => [[side, corner]; CHANNELS],
         [a, b, c, d, e, f] => [[a, b], [c, d], [e, f]],
         _ => return None,
     };

@@ -11,14 +11,18 @@ use crate::{
 
 const COLOUR: &[u8] = b"PF";
 const SAMPLE: usize = size_of::<f32>();
+/// Most bytes of a word of the header.
+const LONGEST_WORD: usize = 64;
 
 /// A file as it stands: its samples are neither counted nor put in order.
 pub struct Pfm {
     pub region: Region,
     pub scale: Scale,
-    pub samples: Vec<f32>,
-    /// Bytes after the last whole sample.
-    left_over: usize,
+    /// The sides as the file has them.
+    pub sides: String,
+    bytes: Vec<u8>,
+    /// Where the samples start.
+    start: usize,
 }
 
 /// The scale as it was written; samples are handed on as they are.
@@ -54,23 +58,22 @@ impl Scale {
     }
 }
 
-pub fn parse(bytes: &[u8]) -> Result<Pfm, Refused> {
-    let mut rest = magic(bytes)?;
+pub fn parse(bytes: Vec<u8>) -> Result<Pfm, Refused> {
+    let mut rest = magic(&bytes)?;
     let mut side = |name| {
         let text = word(&mut rest)?;
         let wrong = || Refused::setting(format!("the {name} {text:?} is no whole number"));
-        number::count(text).ok_or_else(wrong)
+        Ok((text, number::count(text).ok_or_else(wrong)?))
     };
-    let (width, height) = (side("width")?, side("height")?);
+    let ((columns, width), (rows, height)) = (side("width")?, side("height")?);
     let text = word(&mut rest)?;
     let wrong = || Refused::setting(format!("the scale {text:?} is no number, 0 or not finite"));
-    let scale = Scale::read(text).ok_or_else(wrong)?;
-    let (samples, left_over) = rest.as_chunks();
     Ok(Pfm {
         region: at_corner(width, height),
-        samples: samples.iter().map(|&bytes| scale.sample(bytes)).collect(),
-        scale,
-        left_over: left_over.len(),
+        scale: Scale::read(text).ok_or_else(wrong)?,
+        sides: format!("{columns} x {rows}"),
+        start: bytes.len() - rest.len(),
+        bytes,
     })
 }
 
@@ -91,10 +94,18 @@ fn magic(bytes: &[u8]) -> Result<&[u8], Refused> {
 /// The next word of the header; the one byte after it is taken with it.
 fn word<'a>(rest: &mut &'a [u8]) -> Result<&'a str, Refused> {
     let text = rest.trim_ascii_start();
-    let end = text.iter().position(u8::is_ascii_whitespace);
-    let end = end.ok_or_else(header_ends)?;
+    let mut reach = text.iter().take(LONGEST_WORD + 1);
+    let Some(end) = reach.position(u8::is_ascii_whitespace) else {
+        return Err(if text.len() > LONGEST_WORD {
+            Refused::setting(format!("a word of the header exceeds {LONGEST_WORD} bytes"))
+        } else {
+            header_ends()
+        });
+    };
     *rest = &text[end + 1..];
-    str::from_utf8(&text[..end]).map_err(|_| Refused::setting("a word of the header is no text"))
+    let word = str::from_utf8(&text[..end]).ok();
+    let printable = word.filter(|word| word.bytes().all(|byte| byte.is_ascii_graphic()));
+    printable.ok_or_else(|| Refused::setting("a word of the header is no plain text"))
 }
 
 fn header_ends() -> Refused {
@@ -102,35 +113,53 @@ fn header_ends() -> Refused {
 }
 
 impl Pfm {
+    /// How many whole samples there are.
+    pub fn count(&self) -> usize {
+        (self.bytes.len() - self.start) / SAMPLE
+    }
+
+    /// What is wrong with the length of a file whose sides are in measure.
+    pub fn wrong_length(&self) -> String {
+        let (has, due, sides) = (self.count(), self.due(), &self.sides);
+        if has < due {
+            return format!("the file has {has} of the {due} samples of {sides}");
+        }
+        format!("the file goes on after the {due} samples of {sides}")
+    }
+
+    fn due(&self) -> usize {
+        CHANNELS * self.region.width as usize * self.region.height as usize
+    }
+
     /// The planes apart and from the top row, of a file whose samples are as many as its sides say.
-    pub fn picture(&self) -> Result<Picture, Refused> {
-        if self.left_over > 0 {
-            let what = format!("{} bytes after the last sample", self.left_over);
-            return Err(Refused::new(Refusal::WrongLength, what));
+    pub fn picture(self) -> Result<(Picture, Scale), Refused> {
+        let (samples, left_over) = self.bytes[self.start..].as_chunks();
+        if !left_over.is_empty() {
+            return Err(Refused::new(Refusal::WrongLength, self.wrong_length()));
         }
         let row = CHANNELS * self.region.width as usize;
         let plane = |c| {
-            let rows = self.samples.chunks_exact(row).rev();
+            let rows = samples.chunks_exact(row).rev();
             rows.flat_map(move |row| row.iter().skip(c).step_by(CHANNELS))
         };
-        Ok(Picture {
+        let mut planes = Vec::with_capacity(samples.len());
+        let sample = |&bytes| self.scale.sample(bytes);
+        planes.extend((0..CHANNELS).flat_map(plane).map(sample));
+        let picture = Picture {
             region: self.region,
-            planes: (0..CHANNELS).flat_map(plane).copied().collect(),
-        })
+            planes,
+        };
+        Ok((picture, self.scale))
     }
 }
 
 /// The file of a picture.
 pub fn bytes(picture: &Picture, scale: &Scale) -> Vec<u8> {
     let Region { width, height, .. } = picture.region;
-    let mut file = format!("PF\n{width} {height}\n{}\n", scale.text).into_bytes();
-    let pixels: Vec<_> = picture.pixels().collect();
-    for row in pixels.chunks_exact(width as usize).rev() {
-        file.extend(
-            row.as_flattened()
-                .iter()
-                .flat_map(|&sample| scale.bytes(sample)),
-        );
-    }
+    let header = format!("PF\n{width} {height}\n{}\n", scale.text);
+    let mut file = Vec::with_capacity(header.len() + SAMPLE * picture.planes.len());
+    file.extend(header.bytes());
+    let from_bottom = (0..height).rev().flat_map(|y| picture.row(y));
+    file.extend(from_bottom.flatten().flat_map(|sample| scale.bytes(sample)));
     file
 }

@@ -3,14 +3,22 @@
 use loupe::{CHANNELS, Region};
 
 /// Planes of a region, one after another, each row after row from the top.
-#[derive(Debug, Clone)]
+#[derive(Clone)]
 pub struct Picture {
     pub region: Region,
     pub planes: Vec<f32>,
 }
 
 impl Picture {
-    /// The part that lies in a region inside this one.
+    /// The part that lies in a region inside this one, without a copy where that is all of it.
+    pub fn into_part(self, part: Region) -> Self {
+        if part == self.region {
+            return self;
+        }
+        self.cut(part)
+    }
+
+    /// A copy of the part that lies in a region inside this one.
     pub fn cut(&self, part: Region) -> Self {
         let planes = self
             .rows(part)
@@ -42,10 +50,16 @@ impl Picture {
             .map(move |start| start..start + columns)
     }
 
-    /// The samples of a place, one of each plane.
+    /// The samples of each place, one of each plane.
     pub fn pixels(&self) -> impl Iterator<Item = [f32; CHANNELS]> {
-        let plane = self.planes.len() / CHANNELS;
-        (0..plane).map(move |at| core::array::from_fn(|c| self.planes[c * plane + at]))
+        (0..self.region.height).flat_map(|y| self.row(y))
+    }
+
+    /// Those of a row, counted from the top.
+    pub fn row(&self, y: u32) -> impl Iterator<Item = [f32; CHANNELS]> {
+        let (plane, width) = (self.planes.len() / CHANNELS, self.region.width as usize);
+        let row = y as usize * width..(y as usize + 1) * width;
+        row.map(move |at| core::array::from_fn(|c| self.planes[c * plane + at]))
     }
 }
 
@@ -60,7 +74,7 @@ pub fn at_corner(width: u32, height: u32) -> Region {
 }
 
 /// The same bits, or two NaNs.
-pub fn agree(a: f32, b: f32) -> bool {
+fn agree(a: f32, b: f32) -> bool {
     a.to_bits() == b.to_bits() || a.is_nan() && b.is_nan()
 }
 

@@ -15,7 +15,8 @@ pub fn lay(picture: &Picture, filters: &Filters, margin: u32) -> Result<Picture,
         planes: vec![f32::NAN; picture.planes.len()],
     };
     for part in rectangles(picture.region) {
-        laid.lay(&filters.smooth_part(picture, part, margin)?);
+        let given = picture.cut(filters.widened(picture.region, part, margin));
+        laid.lay(&filters.smooth(given)?.into_part(part));
     }
     Ok(laid)
 }

@@ -52,21 +52,10 @@ impl Filters {
         })
     }
 
-    /// A part that lies inside the picture, as it is in the whole smoothed picture.
-    pub fn smooth_part(
-        &self,
-        picture: &Picture,
-        part: Region,
-        margin: u32,
-    ) -> Result<Picture, Refusal> {
-        let widened = self.widened(picture.region, part, margin);
-        let smooth = self.smooth(picture.cut(widened))?;
-        Ok(smooth.cut(part))
-    }
-
-    /// A part widened by a margin; left and top are then moved down to where blocks start, if the
-    /// edge filter runs, and all is clipped to the picture, whose corner is 0, 0.
-    fn widened(&self, picture: Region, part: Region, margin: u32) -> Region {
+    /// What is smoothed for a part of a picture: the part widened by a margin; left and top are then
+    /// moved down to where blocks start, if the edge filter runs, and all is clipped to the picture,
+    /// whose corner is 0, 0.
+    pub fn widened(&self, picture: Region, part: Region, margin: u32) -> Region {
         let unit = if self.settings.epf.iters > 0 {
             BLOCK
         } else {
@@ -98,7 +87,7 @@ pub fn settings(chosen: &Chosen) -> Settings {
         None => {}
     }
     let epf = &mut settings.epf;
-    epf.iters = chosen.iters.unwrap_or(epf.iters);
+    epf.iters = chosen.iters.as_ref().map_or(epf.iters, |iters| iters.value);
     epf.sigma_for_modular = chosen.sigma.unwrap_or(epf.sigma_for_modular);
     settings
 }
@@ -109,12 +98,13 @@ fn header(bits: u8) -> Settings {
     filter.into()
 }
 
-/// Whether samples are a picture with these sides and a part lies inside it: start says so.
-pub fn judge(picture: Region, part: Region, samples: &mut [f32]) -> Result<(), Refusal> {
+/// Whether so many samples are a picture with these sides and a part lies inside it: start says so.
+/// It looks at lengths alone, so that the memory of these sets is never touched.
+pub fn judge(picture: Region, part: Region, samples: usize) -> Result<(), Refusal> {
     let setup = setup(picture, part, header(OFF));
-    let second = vec![0.0; samples.len()];
+    let (mut first, second) = (vec![0.0; samples], vec![0.0; samples]);
     let (frame, table) = (frame(at_corner(1, 1)), [0; 3]);
-    loupe::start(setup, frame, &table, &[], samples, &second, &mut []).value()?;
+    loupe::start(setup, frame, &table, &[], &mut first, &second, &mut []).value()?;
     Ok(())
 }
 

@@ -86,7 +86,7 @@ fn sides_out_of_measure() {
         ("4294967295", "4294967295"),
         ("4294967296", "1"),
         (&ten_to_30, &ten_to_30),
-        (&ten_to_30.repeat(40), "1"),
+        (&ten_to_30.repeat(2), "1"),
     ];
     for (width, height) in sides {
         // Data that is too short, and as long as one sample needs.
@@ -125,6 +125,61 @@ fn mislabelled() {
     }
     // The line of a scale is missing, so that the samples are read as one.
     expect_file(&folder, &[b"PF\n5 4\n", &[1; 60][..], b"\n"].concat(), 9);
+}
+
+/// The line that tells why a file is refused.
+fn line(folder: &Folder, file: &[u8], options: &[&str]) -> String {
+    folder.write(PICTURE, file);
+    let output = folder.run(&[&[PICTURE, "-o", "out.pfm"], options].concat());
+    String::from_utf8(output.stderr).unwrap()
+}
+
+#[test]
+fn words_of_a_header_are_short_and_plain() {
+    let folder = Folder::new("words_of_a_header_are_short_and_plain");
+    let file = |width: &str| format!("PF\n{width} 1\n-1.0\n{}", "\0".repeat(12)).into_bytes();
+    let most = format!("{}1", "0".repeat(63));
+    assert_eq!(line(&folder, &file(&most), &[]), "");
+    std::fs::remove_file(folder.0.join("out.pfm")).unwrap();
+    for word in [format!("0{most}"), "9".repeat(100_000), "\x1b[31m".into()] {
+        expect_file(&folder, &file(&word), 9);
+        let said = line(&folder, &file(&word), &[]);
+        assert!(!said.contains(&word) && said.len() < 100, "{said:?}");
+    }
+}
+
+#[test]
+fn the_line_has_what_was_given() {
+    let folder = Folder::new("the_line_has_what_was_given");
+    let file = sound();
+    for options in [["--iters", "-1"], ["--iters", "4294967299"]] {
+        let said = line(&folder, &file, &options);
+        assert!(
+            said.ends_with(&format!(": {}\n", options.join(" "))),
+            "{said}"
+        );
+    }
+    for rect in ["0,0,-1,1", "-99999999999,0,1,1", "4,0,2,1"] {
+        let said = line(&folder, &file, &["--rect", rect]);
+        assert!(
+            said.ends_with(&format!(": picture 5 x 4, rectangle {rect}\n")),
+            "{said}"
+        );
+    }
+    let large = line(&folder, b"PF\n4294967296 -1\n-1.0\n", &[]);
+    assert!(large.ends_with(": picture 4294967296 x -1\n"), "{large}");
+    let short = line(&folder, &file[..file.len() - 1], &[]);
+    assert!(
+        short.ends_with(": the file has 59 of the 60 samples of 5 x 4\n"),
+        "{short}"
+    );
+    for more in [1, 4] {
+        let long = line(&folder, &[&file[..], &vec![0; more]].concat(), &[]);
+        assert!(
+            long.ends_with(": the file goes on after the 60 samples of 5 x 4\n"),
+            "{long}"
+        );
+    }
 }
 
 #[test]
