@@ -9,18 +9,8 @@ use loupe::{CHANNELS, Region};
 
 use crate::{number, refused::Refused};
 
-pub const HELP: &str = "\
-demo [-o FOLDER]
-    smooths a picture of its own, whole and in rectangles, compares, and writes PNG files (demo-out)
-demo PICTURE.pfm [OPTION]...
-    smooths a picture of three planes (PFM, PF)
-    --rect LEFT,TOP,WIDTH,HEIGHT  that rectangle alone, as it is in the whole smoothed picture
-    --gabor SIDE,CORNER           weights of the Gabor-like filter, or six, two a plane; --no-gabor: off
-    --iters N                     iterations of the edge-preserving filter, 0 (off) to 3 (if not given)
-    --sigma X                     its sigma (1); under 0.3 it copies
-    -o OUT.pfm                    the file to write (PICTURE-smoothed.pfm)
-What is refused is said in a line with document 01's number; the exit status is then 2.
-";
+/// `./demo --help` prints the same file without a built tool.
+pub const HELP: &str = include_str!("../usage.txt");
 
 pub enum Command {
     Help,

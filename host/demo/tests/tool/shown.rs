@@ -41,10 +41,11 @@ fn rectangles_are_the_whole_and_a_smaller_margin_leaves_seams() {
 #[test]
 fn help() {
     let folder = Folder::new("help");
-    for words in [&["--help"][..], &["-h"], &["picture.pfm", "--help"]] {
+    let usage = include_bytes!("../../usage.txt");
+    for words in [&["--help"][..], &["-h"], &["picture.pfm", "--help", "-x"]] {
         let output = folder.run(words);
         assert_eq!(output.status.code(), Some(0));
-        assert!(String::from_utf8(output.stdout).unwrap().contains("--rect"));
+        assert_eq!(output.stdout, usage);
         assert!(output.stderr.is_empty());
     }
     assert!(folder.names().is_empty());
