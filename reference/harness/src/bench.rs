@@ -7,7 +7,10 @@ mod passes;
 mod plot;
 mod run;
 
-use std::time::{Duration, Instant};
+use std::{
+    hint::black_box,
+    time::{Duration, Instant},
+};
 
 use loupe::Region;
 
@@ -68,11 +71,11 @@ impl Times {
 
 /// Runs both by turns.
 fn best(mut ours: impl FnMut(), mut theirs: impl FnMut()) -> Times {
-    let timed = |run: &mut dyn FnMut(), shortest: &mut f64| {
-        let start = Instant::now();
-        run();
-        *shortest = shortest.min(start.elapsed().as_secs_f64() * 1e9);
-    };
+    best_timed(|| timed(&mut ours), || timed(&mut theirs))
+}
+
+/// Runs both by turns; each takes its own time, so that what it prepares does not count.
+fn best_timed(mut ours: impl FnMut() -> f64, mut theirs: impl FnMut() -> f64) -> Times {
     let mut times = Times {
         ours: f64::INFINITY,
         theirs: f64::INFINITY,
@@ -80,11 +83,20 @@ fn best(mut ours: impl FnMut(), mut theirs: impl FnMut()) -> Times {
     let began = Instant::now();
     let mut runs = 0;
     while runs < FEWEST_RUNS || began.elapsed() < PER_CASE {
-        timed(&mut ours, &mut times.ours);
-        timed(&mut theirs, &mut times.theirs);
+        times.ours = times.ours.min(ours());
+        times.theirs = times.theirs.min(theirs());
         runs += 1;
     }
     times
+}
+
+/// The time of a run in ns; what it answers is dropped afterwards.
+fn timed<T>(run: impl FnOnce() -> T) -> f64 {
+    let start = Instant::now();
+    let answer = black_box(run());
+    let time = start.elapsed().as_secs_f64() * 1e9;
+    drop(answer);
+    time
 }
 
 /// The head of a table, one column a name.

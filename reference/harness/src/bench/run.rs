@@ -5,9 +5,9 @@ use std::hint::black_box;
 use loupe::{Run, Setup};
 
 use super::{
-    FILTERED, Times, best, head,
+    FILTERED, Times, best_timed, head,
     passes::{epf_pass, gabor_pass},
-    region, row, smooth,
+    region, row, smooth, timed,
 };
 use crate::{
     epf::{DEFAULTS, step_of},
@@ -27,9 +27,6 @@ const ALL: Passes = Passes {
 
 /// A run by bands beside the same passes, each over all rows at once.
 pub fn print() {
-    let mut handed = handed(SIDE);
-    let mut alone = handed.clone();
-    let mut out = result_slice(SIDE);
     head(&[
         "calls",
         "picture",
@@ -37,25 +34,44 @@ pub fn print() {
         "all rows at once, ns",
         "ratio",
     ]);
-    let run = || {
-        to_the_finish(black_box(&mut handed));
-    };
-    let times = best(run, || passes(black_box(&mut alone)));
+    let times = beside_passes(|handed, _| {
+        to_the_finish(handed);
+    });
     row("start, bands, advances", (SIDE, SIDE), times);
-    let run = || with_result(black_box(&mut handed), &mut out);
-    let times = best(run, || passes(black_box(&mut alone)));
-    row("with the result", (SIDE, SIDE), times);
+    row("with the result", (SIDE, SIDE), beside_passes(with_result));
 }
 
-/// Start, all bands and advances, and the result, beside `apply_gabor_like` and `apply_epf`.
-pub fn beside_rust(side: u32) -> Times {
-    let mut handed = handed(side);
-    let given = handed.clone();
-    let mut out = result_slice(side);
-    best(
-        || with_result(black_box(&mut handed), &mut out),
-        || drop(black_box(given.rust())),
+fn beside_passes(mut run: impl FnMut(&mut Handed, &mut [f32])) -> Times {
+    let given = handed(SIDE);
+    let (mut by_bands, mut alone) = (given.clone(), given.clone());
+    let mut out = result_slice(SIDE);
+    best_timed(
+        || {
+            by_bands.first.copy_from_slice(&given.first);
+            timed(|| run(black_box(&mut by_bands), &mut out))
+        },
+        || {
+            alone.first.copy_from_slice(&given.first);
+            timed(|| passes(black_box(&mut alone)))
+        },
     )
+}
+
+/// Start, all bands and advances, and the result, beside `apply_gabor_like` and `apply_epf`. Both
+/// smooth the same picture at each turn: what a run leaves in the first set is replaced before it.
+pub fn beside_rust(side: u32) -> Times {
+    let given = handed(side);
+    let mut handed = given.clone();
+    let mut out = result_slice(side);
+    let times = best_timed(
+        || {
+            handed.first.copy_from_slice(&given.first);
+            timed(|| with_result(black_box(&mut handed), &mut out))
+        },
+        || timed(black_box(given.rust_run())),
+    );
+    assert!(out == given.rust(), "both give the same samples");
+    times
 }
 
 /// The Gabor-like pass and three iterations over a whole image of one group.

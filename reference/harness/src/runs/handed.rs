@@ -86,15 +86,24 @@ impl Handed {
     /// The result of a whole run by the original; without passes it is not asked, and the result
     /// is a part of the first set.
     pub fn rust(&self) -> Vec<f32> {
-        let settings = &self.setup.settings;
         if setup_rule(&self.setup).passes() == 0 {
             return result_part(&self.setup, &self.first);
         }
-        let weights = settings.gabor.enabled.then_some(settings.gabor.weights);
+        self.rust_run()().concat()
+    }
+
+    /// A whole run by the original, which has copies of planes and grids and owns them.
+    pub fn rust_run(&self) -> impl FnOnce() -> oracle::Planes + use<> {
+        let loupe::Settings { gabor, epf } = self.setup.settings;
+        let weights = gabor.enabled.then_some(gabor.weights);
+        let edge = (epf.iters > 0).then(|| edge(epf));
         let grids = sigma::rust_grids(&self.table, &self.grids);
-        let edge = (settings.epf.iters > 0).then(|| (edge(settings.epf), self.frame, &grids[..]));
+        let (place, frame) = (place(&self.setup), self.frame);
         let planes = picture::planes(&self.first);
-        oracle::filters(place(&self.setup), weights, edge, planes).concat()
+        move || {
+            let edge = edge.map(|edge| (edge, frame, &grids[..]));
+            oracle::filters(place, weights, edge, planes)
+        }
     }
 }
 
