@@ -1,6 +1,6 @@
 //! The picture that is made where none is given: a sky with a little noise, hills hatched as an
-//! engraver does it, and a strip of lettering. Sums and products alone, so that it is the same
-//! everywhere.
+//! engraver does it, and a strip of lettering. Every operation is exact or correctly rounded, so
+//! that the picture is the same everywhere.
 
 use loupe::{BLOCK, CHANNELS};
 

@@ -17,7 +17,7 @@ const LONGEST_WORD: usize = 64;
 /// A file as it stands: its samples are neither counted nor put in order.
 pub struct Pfm {
     pub region: Region,
-    pub scale: Scale,
+    scale: Scale,
     /// The sides as the file has them.
     pub sides: String,
     bytes: Vec<u8>,

@@ -1,7 +1,7 @@
 //! A picture file that any program opens: 8-bit colour, stored without compression.
 
 /// Most bytes of a stored block of deflate (RFC 1951).
-const BLOCK: usize = 65_535;
+const MOST_STORED: usize = 65_535;
 const SIGNATURE: [u8; 8] = *b"\x89PNG\r\n\x1a\n";
 /// 8 bits, colour, deflate, the one filter method, no interlace.
 const KIND: [u8; 5] = [8, 2, 0, 0, 0];
@@ -38,7 +38,7 @@ fn chunk(file: &mut Vec<u8>, name: &[u8; 4], data: &[u8]) {
 /// A zlib stream (RFC 1950) of stored blocks.
 fn stored(data: &[u8]) -> Vec<u8> {
     let mut stream = vec![0x78, 0x01];
-    let mut blocks = data.chunks(BLOCK).peekable();
+    let mut blocks = data.chunks(MOST_STORED).peekable();
     while let Some(block) = blocks.next() {
         let length = block.len() as u16;
         stream.push(blocks.peek().is_none().into());
@@ -82,11 +82,11 @@ mod tests {
 
     #[test]
     fn a_stream_is_blocks_of_at_most_65535_bytes() {
-        let data = vec![7; BLOCK + 1];
+        let data = vec![7; MOST_STORED + 1];
         let stream = stored(&data);
         assert_eq!(stream[..7], [0x78, 0x01, 0, 0xFF, 0xFF, 0, 0]);
-        assert_eq!(stream[7 + BLOCK..][..6], [1, 1, 0, 0xFE, 0xFF, 7]);
-        assert_eq!(stream.len(), 2 + 5 + BLOCK + 5 + 1 + 4);
+        assert_eq!(stream[7 + MOST_STORED..][..6], [1, 1, 0, 0xFE, 0xFF, 7]);
+        assert_eq!(stream.len(), 2 + 5 + MOST_STORED + 5 + 1 + 4);
     }
 
     #[test]

@@ -5,7 +5,6 @@ use core::fmt;
 use loupe::Refusal;
 
 /// Document 01's refusal, and what was wrong here.
-#[derive(Debug)]
 pub struct Refused {
     refusal: Refusal,
     what: String,

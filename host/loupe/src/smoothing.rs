@@ -16,6 +16,7 @@ use crate::{BLOCK, Frame, Refusal, Region, Run, Setup, accepted, advance, band, 
 /// let mut smoothing = loupe::Smoothing::start(setup, frame, &[0; 3], &[], planes)?;
 /// let whole = smoothing.clone().finish()?;
 /// smoothing.band(0)?;
+/// assert_eq!(smoothing.run().done[..2], [true, false]);
 /// assert_eq!(smoothing.band(0), Err(loupe::Refusal::BandNotOpen));
 /// assert_eq!(smoothing.advance(), Err(loupe::Refusal::PassNotDone));
 /// // What is left.
