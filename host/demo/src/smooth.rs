@@ -133,7 +133,7 @@ fn setup(image: Region, filter: Region, settings: Settings) -> Setup {
 mod tests {
     use super::*;
 
-    /// 20 - 7 and 30 - 7 are 13 and 23; 25 + 7 is 32, and 75 + 7 is past the picture's 80.
+    /// 20 - 7 and 30 - 7 are 13 and 23; 26 + 7 is 33, and 75 + 7 is past the picture's 80.
     #[test]
     fn right_and_bottom_stay_where_the_margin_puts_them() {
         let region = |left, top, right: i32, bottom: i32| Region {
@@ -142,14 +142,14 @@ mod tests {
             width: (right - left) as u32,
             height: (bottom - top) as u32,
         };
-        let (picture, part) = (at_corner(100, 80), region(20, 30, 25, 75));
+        let (picture, part) = (at_corner(100, 80), region(20, 30, 26, 75));
         let widened = |iters: u32| {
             let mut settings = header(DEFAULTS);
             settings.epf.iters = iters;
             let filters = Filters::of_one_sigma(picture, settings).unwrap();
             filters.widened(picture, part, 7)
         };
-        assert_eq!(widened(3), region(8, 16, 32, 80));
-        assert_eq!(widened(0), region(13, 23, 32, 80));
+        assert_eq!(widened(3), region(8, 16, 33, 80));
+        assert_eq!(widened(0), region(13, 23, 33, 80));
     }
 }

@@ -54,12 +54,16 @@ enum Stage {
 /// The last file gets its name in one step, so that a single one is never absent.
 fn name(mut parts: Vec<Part>) -> Result<(), Refused> {
     let last = parts.len().saturating_sub(1);
-    for (n, part) in parts.iter_mut().enumerate() {
+    let named = parts.iter_mut().enumerate().try_for_each(|(n, part)| {
         let named = part.name(n == last);
-        named.map_err(|error| not_written(&part.target, error))?;
+        named.map_err(|error| not_written(&part.target, error))
+    });
+    match named {
+        Ok(()) => parts.iter_mut().for_each(|part| part.stage = Stage::Stays),
+        // Dropped from the last on, since links may lead to one target.
+        Err(_) => parts.reverse(),
     }
-    parts.iter_mut().for_each(|part| part.stage = Stage::Stays);
-    Ok(())
+    named
 }
 
 impl Part {
@@ -144,7 +148,7 @@ mod tests {
         fs::create_dir(&folder).unwrap();
         fs::write(folder.join("old"), "as it was").unwrap();
         let part = |name| Part::write(&folder.join(name), b"new").unwrap();
-        let parts = ["old", "new", "taken"].map(part);
+        let parts = ["old", "new", "old", "taken"].map(part);
         fs::create_dir(folder.join("taken")).unwrap();
         assert!(name(parts.into()).is_err());
         let entries = fs::read_dir(&folder).unwrap();

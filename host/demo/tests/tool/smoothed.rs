@@ -206,6 +206,16 @@ const OPTIONS: [(&[&str], Change); 6] = [
 ];
 
 #[test]
+fn weights_and_sigma_may_be_any_float() {
+    let folder = Folder::new("weights_and_sigma_may_be_any_float");
+    folder.write(PICTURE, &pfm(9, 9, texture(243)));
+    for float in ["NaN", "inf", "-inf", "1e39", "1e-46"] {
+        let weights = format!("{float},{float}");
+        smoothed(&folder, &["--gabor", &weights, "--sigma", float]);
+    }
+}
+
+#[test]
 fn options_are_the_librarys_settings() {
     let folder = Folder::new("options_are_the_librarys_settings");
     let (width, height) = (37, 29);
