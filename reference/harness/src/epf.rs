@@ -2,6 +2,8 @@
 //! random ones, all of them with block sigmas against `apply_epf`, and refusals. What is not
 //! written must keep its bits.
 
+mod wide;
+
 use crate::{
     expected::epf::{Handed, number},
     picture::{self, Rows, any_len, judge, plain, region, samples, special, wide},
@@ -115,6 +117,9 @@ pub fn compare(amount: Amount, report: &mut Report) {
         while row.draws(PICTURES, amount) {
             random_picture(step, &mut random, &mut row);
         }
+        report.add(row);
+        let mut row = Row::new(name, "wide pictures");
+        wide::compare(step, amount, &mut random, &mut row);
         report.add(row);
     }
     through_apply_epf(amount, report);
