@@ -24,6 +24,8 @@ const SIDES: u32 = 20;
 const BANDS: u32 = 9;
 
 const NAMES: [&str; 3] = ["epf step 0", "epf step 1", "epf step 2"];
+/// The numbers that a step can give.
+const NUMBERS: [u32; 6] = [0, 4, 5, 6, 7, 9];
 
 /// What a step is handed but the sets.
 #[derive(Debug)]
@@ -353,6 +355,7 @@ fn refusals(amount: Amount, report: &mut Report) {
     while row.draws(DRAWS, amount) {
         wrong(random, &mut row);
     }
+    row.require(&NUMBERS, amount);
     report.add(row);
 }
 
@@ -382,7 +385,7 @@ fn wrong(random: &mut Random, row: &mut Row) {
         settings: settings(random),
         sigmas: &sigmas,
     };
-    let due = number(Handed {
+    let number = number(Handed {
         image: wide(image),
         filter: wide(filter),
         preserve_outside: pass.place.preserve_outside,
@@ -393,9 +396,11 @@ fn wrong(random: &mut Random, row: &mut Row) {
     });
     let mut ours = before.clone();
     let given = pass.ours(rows, &source, &mut ours);
-    if due != 0 {
-        judge(&pass, rows, (given, &ours), (due, &before), row);
+    let mut due = before;
+    if number == 0 {
+        picture::store(&pass.place, &pass.rust(&source), rows, &mut due);
     }
+    judge(&pass, rows, (given, &ours), (number, &due), row);
 }
 
 /// The default settings of a header.

@@ -30,6 +30,8 @@ const FEW: u64 = 4;
 const ENOUGH: u64 = 1_000;
 /// With some cases, those of a row before any is passed over.
 const UNTHINNED: u64 = 256;
+/// How often a number must be due that a row has to show.
+const SEEN: u64 = 1_000;
 
 /// One line of the table.
 pub struct Row {
@@ -41,6 +43,8 @@ pub struct Row {
     differ: u64,
     /// How often each of document 01's numbers was due; 0 is an accepted call.
     numbers: [u64; 12],
+    /// Those that must be due often enough.
+    required: &'static [u32],
 }
 
 impl Row {
@@ -52,6 +56,7 @@ impl Row {
             cases: 0,
             differ: 0,
             numbers: [0; 12],
+            required: &[],
         }
     }
 
@@ -80,12 +85,17 @@ impl Row {
         self.numbers[number as usize] += 1;
     }
 
-    /// Each of these numbers must have been due so many times, or the row counts as differing.
-    pub fn require(&mut self, numbers: &[u32], times: u64) {
+    /// Where all cases are compared, each of these numbers must have been due a thousand times, or
+    /// the row counts as differing.
+    pub fn require(&mut self, numbers: &'static [u32], amount: Amount) {
+        let Amount::All(_) = amount else {
+            return;
+        };
+        self.required = numbers;
         for &number in numbers {
             let seen = self.numbers[number as usize];
-            if seen < times {
-                self.differs(&("times that a number was due", number), &seen, &times);
+            if seen < SEEN {
+                self.differs(&("times that a number was due", number), &seen, &SEEN);
             }
         }
     }
@@ -97,6 +107,23 @@ impl Row {
             println!("  given {given:?}");
             println!("  due   {due:?}");
         }
+    }
+
+    /// Each number with how often it was due, and a mark where that had to be often enough.
+    fn due(&self) -> String {
+        let due: Vec<String> = (0..)
+            .zip(self.numbers)
+            .filter(|&(_, times)| times > 0)
+            .map(|(number, times): (u32, u64)| {
+                let mark = if self.required.contains(&number) {
+                    "*"
+                } else {
+                    ""
+                };
+                format!("{number}: {times}{mark}")
+            })
+            .collect();
+        due.join(", ")
     }
 }
 
@@ -120,22 +147,17 @@ impl Report {
     /// Prints the table; true where nothing differs.
     pub fn finish(&self) -> bool {
         println!(
-            "{:<18} {:<14} {:>9} {:>7}  numbers due (0 is accepted)",
+            "{:<18} {:<14} {:>9} {:>7}  numbers due (0 is accepted, * must be due {SEEN} times)",
             "compared", "inputs", "cases", "differ"
         );
         for row in &self.rows {
-            let numbers: Vec<String> = (0..)
-                .zip(row.numbers)
-                .filter(|&(_, times)| times > 0)
-                .map(|(number, times): (u32, u64)| format!("{number}: {times}"))
-                .collect();
             println!(
                 "{:<18} {:<14} {:>9} {:>7}  {}",
                 row.subject,
                 row.inputs,
                 row.cases,
                 row.differ,
-                numbers.join(", ")
+                row.due()
             );
         }
         let cases: u64 = self.rows.iter().map(|row| row.cases).sum();

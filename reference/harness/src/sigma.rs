@@ -33,6 +33,8 @@ const DRAWS: u64 = 60_000;
 const PERIOD: usize = 8_191;
 
 const NAME: &str = "block sigmas";
+/// The numbers that block sigmas can give.
+const NUMBERS: [u32; 5] = [0, 4, 7, 8, 9];
 
 /// Sides of frames and filter regions, and corners in blocks, at their limits.
 const SIDES: [u32; 6] = [0, 1, 8, 16_384, 16_385, u32::MAX];
@@ -170,6 +172,7 @@ pub fn compare(amount: Amount, report: &mut Report) {
     while row.draws(DRAWS, amount) {
         wrong(&mut random, &mut row);
     }
+    row.require(&NUMBERS, amount);
     report.add(row);
 }
 
