@@ -10,26 +10,24 @@ const SHOWN: u64 = 5;
 pub enum Amount {
     /// All cases, and so many times the random ones.
     All(u64),
-    /// A thousand cases or more of each row that has them, for a run under valgrind.
+    /// Of each row a thousand cases or more, or all that it has, for a run under valgrind.
     Some,
 }
 
 impl Amount {
-    /// Of so many large cases.
-    pub fn large(self, cases: u64) -> u64 {
+    /// Of a kind of which a row has few cases.
+    pub fn few(self, cases: u64) -> u64 {
         match self {
             Self::All(scale) => cases * scale,
-            Self::Some => cases.min(FEW),
+            Self::Some => cases,
         }
     }
 }
 
-/// With some cases, large ones of a kind.
-const FEW: u64 = 4;
-/// With some cases, random ones of a row.
+/// With some cases, so many of a row before any is passed over.
 const ENOUGH: u64 = 1_000;
-/// With some cases, those of a row before any is passed over.
-const UNTHINNED: u64 = 256;
+/// With some cases, each second after so many, each fourth after twice as many, and so on.
+const THINNED: u64 = 256;
 /// How often a number must be due that a row has to show.
 const SEEN: u64 = 1_000;
 
@@ -60,14 +58,16 @@ impl Row {
         }
     }
 
-    /// Whether the next of the cases at hand is compared: of some cases the first 256, of the
-    /// next 256 each second, of the next 512 each fourth, and so on.
+    /// Whether the next of the cases at hand is compared: of some cases the first thousand and
+    /// then ever fewer.
     pub fn takes(&mut self, amount: Amount) -> bool {
         let n = self.offered;
         self.offered += 1;
         match amount {
             Amount::All(_) => true,
-            Amount::Some => n.is_multiple_of((n / UNTHINNED + 1).next_power_of_two()),
+            Amount::Some => {
+                self.cases < ENOUGH || n.is_multiple_of((n / THINNED + 1).next_power_of_two())
+            }
         }
     }
 

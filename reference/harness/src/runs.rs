@@ -40,7 +40,7 @@ pub fn compare(amount: Amount, report: &mut Report) {
     }
     report.add(row);
     let mut row = Row::new("whole runs", "large");
-    for n in 0..amount.large(LARGE_RUNS) {
+    for n in 0..amount.few(LARGE_RUNS) {
         let passes = Passes {
             gabor: n % 2 == 0,
             iterations: (n / 2 % 4) as u32,

@@ -153,7 +153,7 @@ pub fn compare(amount: Amount, report: &mut Report) {
     for (shift, (most, cases)) in (0..).zip(GROUPS.into_iter().zip(MEETINGS)) {
         for groups in 0..most * most {
             let groups = (1 + groups % most, 1 + groups / most);
-            for _ in 0..amount.large(cases) {
+            for _ in 0..amount.few(cases) {
                 let case = meeting(shift, groups, false, &mut random);
                 check(&case, true, case.count(), &mut random, &mut row);
             }
