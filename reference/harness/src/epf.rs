@@ -239,6 +239,7 @@ fn one_step(place: oracle::Place, step: u32, band: u32, random: &mut Random, row
 
 /// All bands of a step, each into a target of its own, and all into one.
 fn by_bands(pass: &Pass, band: u32, source: &[f32], random: &mut Random, row: &mut Row) {
+    row.by_bands();
     let before = samples(source.len(), random);
     let result = pass.rust(source);
     let height = pass.height();

@@ -147,6 +147,7 @@ fn random_picture(random: &mut Random, row: &mut Row) {
 
 /// All bands of a pass, each into a target of its own, and all into one.
 fn by_bands(pass: &Pass, band: u32, random: &mut Random, row: &mut Row) {
+    row.by_bands();
     let source = samples(picture::set_len(&pass.place), random);
     let before = samples(picture::set_len(&pass.place), random);
     let result = pass.rust(&source);

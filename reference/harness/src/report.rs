@@ -41,6 +41,8 @@ pub struct Row {
     differ: u64,
     /// How often each of document 01's numbers was due; 0 is an accepted call.
     numbers: [u64; 12],
+    /// Pictures of which the cases are bands.
+    pictures: u64,
     /// Those that must be due often enough.
     required: &'static [u32],
 }
@@ -54,6 +56,7 @@ impl Row {
             cases: 0,
             differ: 0,
             numbers: [0; 12],
+            pictures: 0,
             required: &[],
         }
     }
@@ -78,6 +81,11 @@ impl Row {
             Amount::All(scale) => self.offered <= draws * scale,
             Amount::Some => self.offered <= draws && self.cases < ENOUGH,
         }
+    }
+
+    /// A picture that is compared band by band, and then with all its bands in one set.
+    pub fn by_bands(&mut self) {
+        self.pictures += 1;
     }
 
     pub fn count(&mut self, number: u32) {
@@ -125,6 +133,14 @@ impl Row {
             .collect();
         due.join(", ")
     }
+
+    /// What a case is, where it is not a call or a picture.
+    fn unit(&self) -> String {
+        if self.pictures == 0 {
+            return String::new();
+        }
+        format!("; bands of {} pictures", self.pictures)
+    }
 }
 
 pub struct Report {
@@ -152,12 +168,13 @@ impl Report {
         );
         for row in &self.rows {
             println!(
-                "{:<18} {:<14} {:>9} {:>7}  {}",
+                "{:<18} {:<14} {:>9} {:>7}  {}{}",
                 row.subject,
                 row.inputs,
                 row.cases,
                 row.differ,
-                row.due()
+                row.due(),
+                row.unit()
             );
         }
         let cases: u64 = self.rows.iter().map(|row| row.cases).sum();
