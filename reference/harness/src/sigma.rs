@@ -162,8 +162,10 @@ pub fn compare(amount: Amount, report: &mut Report) {
     report.add(row);
     let mut row = Row::new(NAME, "narrow grids");
     while row.draws(NARROW, amount) {
-        let groups = (random.within(1, 4) as u32, random.within(1, 4) as u32);
-        let case = meeting(0, groups, true, &mut random);
+        let shift = seldom_large(random.within(0, 199) as u64);
+        let mut groups = || random.within(1, GROUPS[shift as usize].into()) as u32;
+        let groups = (groups(), groups());
+        let case = meeting(shift, groups, true, &mut random);
         check(&case, true, case.count(), &mut random, &mut row);
     }
     report.add(row);
