@@ -2,8 +2,8 @@
 //! random ones and on wide ones, all of them with block sigmas against `apply_epf`, and refusals.
 //! What is not written must keep its bits.
 
+mod tiled;
 mod whole;
-mod wide;
 
 use crate::{
     expected::epf::{Handed, number},
@@ -83,6 +83,19 @@ impl Pass<'_> {
         picture::planes(&set)
     }
 
+    /// The number that is due, with sets so long.
+    fn number(&self, rows: Rows, sets: [usize; 2]) -> u32 {
+        number(Handed {
+            image: wide(self.place.image),
+            filter: wide(self.place.filter),
+            preserve_outside: self.place.preserve_outside,
+            step: self.step,
+            rows: (rows.0.into(), rows.1.into()),
+            sigmas: self.sigmas.len(),
+            sets,
+        })
+    }
+
     fn height(&self) -> u32 {
         picture::result(&self.place).height
     }
@@ -130,7 +143,7 @@ pub fn compare(amount: Amount, report: &mut Report) {
         }
         report.add(row);
         let mut row = Row::new(name, "wide pictures");
-        wide::compare(step, amount, &mut random, &mut row);
+        tiled::compare(step, amount, &mut random, &mut row);
         report.add(row);
     }
     whole::compare(amount, report);
@@ -338,15 +351,7 @@ fn wrong(random: &mut Random, row: &mut Row) {
         settings: settings(random),
         sigmas: &sigmas,
     };
-    let number = number(Handed {
-        image: wide(image),
-        filter: wide(filter),
-        preserve_outside: pass.place.preserve_outside,
-        step: pass.step,
-        rows: (rows.0.into(), rows.1.into()),
-        sigmas: sigmas.len(),
-        sets: [source.len(), before.len()],
-    });
+    let number = pass.number(rows, [source.len(), before.len()]);
     let mut ours = before.clone();
     let given = pass.ours(rows, &source, &mut ours);
     let mut due = before;
