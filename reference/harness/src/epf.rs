@@ -1,19 +1,20 @@
-//! The edge-preserving steps: each against `epf_row` on small pictures of all sizes by bands and on
-//! random ones, all of them with block sigmas against `apply_epf`, and refusals. What is not
-//! written must keep its bits.
+//! The edge-preserving steps: each against `epf_row` on small pictures of all sizes by bands, on
+//! random ones and on wide ones, all of them with block sigmas against `apply_epf`, and refusals.
+//! What is not written must keep its bits.
+
+mod tiled;
+mod whole;
 
 use crate::{
     expected::epf::{Handed, number},
     picture::{self, Rows, any_len, judge, plain, region, samples, special, wide},
     random::Random,
     report::{Amount, Report, Row},
-    sigma::{self, sigma},
+    sigma::sigma,
 };
 
 /// Random pictures for each step, before `--scale`.
 const PICTURES: u64 = 1_500;
-/// Random pictures through all steps, before `--scale`.
-const WHOLE: u64 = 3_000;
 /// Draws of wrong inputs.
 const DRAWS: u64 = 200_000;
 /// Sides of small pictures.
@@ -21,7 +22,19 @@ const SIDES: u32 = 20;
 /// Heights of bands of small pictures, beside all rows at once.
 const BANDS: u32 = 9;
 
+/// Sigmas that are NaN, at the copying limit and beside it, infinite, negative and zero.
+const SIGMAS: [u32; 9] = [
+    0x7FC0_0000, 0x3E99_9999, 0x3E99_999A, 0x3E99_999B, 0x7F80_0000, 0xFF80_0000, 0xBF80_0000, 0,
+    0x8000_0000,
+];
+/// Samples that tell copying from filtering beside a 1, and plain ones.
+const FIRSTS: [f32; 6] = [-0.0, f32::INFINITY, f32::NEG_INFINITY, f32::NAN, 0.0, 1.0];
+/// Sides of a picture that has border rows and columns and others.
+const TWO_BLOCKS: u32 = 10;
+
 const NAMES: [&str; 3] = ["epf step 0", "epf step 1", "epf step 2"];
+/// The numbers that a step can give.
+const NUMBERS: [u32; 6] = [0, 4, 5, 6, 7, 9];
 
 /// What a step is handed but the sets.
 #[derive(Debug)]
@@ -70,6 +83,19 @@ impl Pass<'_> {
         picture::planes(&set)
     }
 
+    /// The number that is due, with sets so long.
+    fn number(&self, rows: Rows, sets: [usize; 2]) -> u32 {
+        number(Handed {
+            image: wide(self.place.image),
+            filter: wide(self.place.filter),
+            preserve_outside: self.place.preserve_outside,
+            step: self.step,
+            rows: (rows.0.into(), rows.1.into()),
+            sigmas: self.sigmas.len(),
+            sets,
+        })
+    }
+
     fn height(&self) -> u32 {
         picture::result(&self.place).height
     }
@@ -116,37 +142,72 @@ pub fn compare(amount: Amount, report: &mut Report) {
             random_picture(step, &mut random, &mut row);
         }
         report.add(row);
+        let mut row = Row::new(name, "wide pictures");
+        tiled::compare(step, amount, &mut random, &mut row);
+        report.add(row);
     }
-    through_apply_epf(amount, report);
+    whole::compare(amount, report);
     refusals(amount, report);
 }
 
-/// Two samples under a NaN sigma, where copying and filtering differ, and sigmas at the limit.
+/// Two samples under each named sigma, and each setting negative and infinite.
 fn named(step: u32, random: &mut Random, row: &mut Row) {
-    let region = oracle::Region::with_size(2, 1);
-    for sigma in [0x7FC0_0000, 0x3E99_9999, 0x3E99_999A, 0x3E99_999B] {
-        for first in [-0.0, f32::INFINITY, f32::NEG_INFINITY, f32::NAN, 0.0, 1.0] {
-            for preserve_outside in [false, true] {
-                let pass = Pass {
-                    place: oracle::Place {
-                        image: region,
-                        filter: region,
-                        preserve_outside,
-                    },
-                    step,
-                    settings: DEFAULTS,
-                    sigmas: &[f32::from_bits(sigma)],
-                };
-                for source in [[first, 1.0], [1.0, first]] {
-                    by_bands(&pass, 1, &[source; 3].concat(), random, row);
-                }
-            }
+    for place in whole_images(2, 1) {
+        for (sigma, source) in two_samples() {
+            let pass = Pass {
+                place,
+                step,
+                settings: DEFAULTS,
+                sigmas: &[sigma],
+            };
+            by_bands(&pass, 1, &source, random, row);
+        }
+    }
+    for place in whole_images(TWO_BLOCKS, TWO_BLOCKS) {
+        for settings in signed_and_infinite() {
+            let pass = Pass {
+                place,
+                step,
+                settings,
+                sigmas: &[1.0; 4],
+            };
+            let source = textured(picture::set_len(&place), random);
+            by_bands(&pass, 3, &source, random, row);
         }
     }
 }
 
-/// The filter region as the image, in one whose corner is anywhere, and in one that starts before
-/// both axes; both results, by bands of every height.
+/// Pictures that are their filter region, with both results.
+fn whole_images(width: u32, height: u32) -> [oracle::Place; 2] {
+    let region = oracle::Region::with_size(width, height);
+    [false, true].map(|preserve_outside| oracle::Place {
+        image: region,
+        filter: region,
+        preserve_outside,
+    })
+}
+
+/// Each named sigma with sets of two samples, of which one is 1.
+fn two_samples() -> impl Iterator<Item = (f32, Vec<f32>)> {
+    SIGMAS.into_iter().flat_map(|sigma| {
+        FIRSTS.into_iter().flat_map(move |first| {
+            [[first, 1.0], [1.0, first]].map(|two| (f32::from_bits(sigma), [two; 3].concat()))
+        })
+    })
+}
+
+/// The default settings with each of the scales and multipliers in turn negative and infinite.
+fn signed_and_infinite() -> impl Iterator<Item = oracle::Edge> {
+    (0..FLOATS.len()).flat_map(|at| {
+        [-FLOATS[at], f32::INFINITY, f32::NEG_INFINITY].map(|float| {
+            let mut floats = FLOATS;
+            floats[at] = float;
+            edge_of(floats)
+        })
+    })
+}
+
+/// Every placement by bands of every height.
 fn all_placements(
     step: u32,
     (width, height): (u32, u32),
@@ -154,6 +215,18 @@ fn all_placements(
     random: &mut Random,
     row: &mut Row,
 ) {
+    for place in placements((width, height), random) {
+        for band in (1..=BANDS).chain([place.image.height]) {
+            if row.takes(amount) {
+                one_step(place, step, band, random, row);
+            }
+        }
+    }
+}
+
+/// The filter region as the image, in one whose corner is anywhere, and in one that starts before
+/// both axes; both results.
+fn placements((width, height): (u32, u32), random: &mut Random) -> [oracle::Place; 6] {
     let at = |left, top| oracle::Region {
         left,
         top,
@@ -163,25 +236,16 @@ fn all_placements(
     let mut block = || 8 * random.within(0, 9) as i32;
     let (left, top) = (block(), block());
     let whole = at(left, top);
-    let filters = [
+    let regions = [
         (whole, whole),
         (around(whole, random), whole),
         (around(at(0, 0), random), at(0, 0)),
     ];
-    for (image, filter) in filters {
-        for preserve_outside in [false, true] {
-            let place = oracle::Place {
-                image,
-                filter,
-                preserve_outside,
-            };
-            for band in (1..=BANDS).chain([image.height]) {
-                if row.takes(amount) {
-                    one_step(place, step, band, random, row);
-                }
-            }
-        }
-    }
+    core::array::from_fn(|n| oracle::Place {
+        image: regions[n / 2].0,
+        filter: regions[n / 2].1,
+        preserve_outside: n % 2 == 1,
+    })
 }
 
 /// An image region around a filter region, with up to 11 samples more on each side.
@@ -232,6 +296,7 @@ fn one_step(place: oracle::Place, step: u32, band: u32, random: &mut Random, row
 
 /// All bands of a step, each into a target of its own, and all into one.
 fn by_bands(pass: &Pass, band: u32, source: &[f32], random: &mut Random, row: &mut Row) {
+    row.by_bands();
     let before = samples(source.len(), random);
     let result = pass.rust(source);
     let height = pass.height();
@@ -249,98 +314,6 @@ fn by_bands(pass: &Pass, band: u32, source: &[f32], random: &mut Random, row: &m
     judge(pass, (0, height), (0, &all), (0, &due), row);
 }
 
-/// Grids that are missing below others, and filter regions where groups meet.
-fn through_apply_epf(amount: Amount, report: &mut Report) {
-    let mut random = Random::for_name("apply_epf");
-    let mut row = Row::new("apply_epf", "instances");
-    for shift in 0..4 {
-        for case in sigma::carried(shift, &mut random) {
-            all_steps(&case, &mut random, &mut row);
-        }
-    }
-    report.add(row);
-    let mut row = Row::new("apply_epf", "groups meet");
-    for shift in (0..40).cycle().map(sigma::seldom_large) {
-        if !row.draws(WHOLE, amount) {
-            break;
-        }
-        let mut groups = || random.within(1, sigma::GROUPS[shift as usize].into()) as u32;
-        let groups = (groups(), groups());
-        let mut case = sigma::meeting(shift, groups, false, &mut random);
-        // Fewer blocks need no other grids.
-        case.blocks.width = case.blocks.width.min(48);
-        case.blocks.height = case.blocks.height.min(48);
-        all_steps(&case, &mut random, &mut row);
-    }
-    report.add(row);
-}
-
-/// Block sigmas from the frame's grids, then the steps of 1 to 3 iterations by bands.
-fn all_steps(case: &sigma::Case, random: &mut Random, row: &mut Row) {
-    let place = oracle::Place {
-        image: around(case.filter(), random),
-        filter: case.filter(),
-        preserve_outside: random.once_in(2),
-    };
-    let mut settings = settings(random);
-    settings.iters = random.within(1, 3) as u32;
-    settings.sigma_for_modular = case.modular;
-    let source = textured(picture::set_len(&place), random);
-    let before = samples(source.len(), random);
-    let rust = oracle::epf(
-        place,
-        case.frame,
-        &case.rust_grids(),
-        settings,
-        picture::planes(&source),
-    );
-    let band = random.within(1, 64) as u32;
-    let sets = [source, before.clone()];
-    let (number, ours) = run(case, place, settings, band, sets);
-    let mut due = before;
-    let rows = (0, picture::result(&place).height);
-    picture::store(&place, &rust, rows, &mut due);
-    judge(
-        &(case, place, settings),
-        rows,
-        (number, &ours),
-        (0, &due),
-        row,
-    );
-}
-
-/// The largest number that a call gave, and the set that the last step wrote. A step reads the
-/// first set and writes over what the second had.
-fn run(
-    case: &sigma::Case,
-    place: oracle::Place,
-    settings: oracle::Edge,
-    band: u32,
-    mut sets: [Vec<f32>; 2],
-) -> (u32, Vec<f32>) {
-    let before = sets[1].clone();
-    let mut sigmas = vec![0.0; case.count()];
-    let mut number = case.ours(true, &mut sigmas);
-    let steps: &[u32] = [&[1][..], &[1, 2], &[0, 1, 2]][settings.iters as usize - 1];
-    for &step in steps {
-        let pass = Pass {
-            place,
-            step,
-            settings,
-            sigmas: &sigmas,
-        };
-        let [read, written] = &mut sets;
-        written.copy_from_slice(&before);
-        for from in (0..pass.height()).step_by(band as usize) {
-            let rows = (from, pass.height().min(from + band));
-            number = number.max(pass.ours(rows, read, written));
-        }
-        sets.swap(0, 1);
-    }
-    let [last, _] = sets;
-    (number, last)
-}
-
 /// Each number at its limits; a refusal writes nothing.
 fn refusals(amount: Amount, report: &mut Report) {
     let mut row = Row::new("epf steps", "refusals");
@@ -348,6 +321,7 @@ fn refusals(amount: Amount, report: &mut Report) {
     while row.draws(DRAWS, amount) {
         wrong(random, &mut row);
     }
+    row.require(&NUMBERS, amount);
     report.add(row);
 }
 
@@ -377,20 +351,14 @@ fn wrong(random: &mut Random, row: &mut Row) {
         settings: settings(random),
         sigmas: &sigmas,
     };
-    let due = number(Handed {
-        image: wide(image),
-        filter: wide(filter),
-        preserve_outside: pass.place.preserve_outside,
-        step: pass.step,
-        rows: (rows.0.into(), rows.1.into()),
-        sigmas: sigmas.len(),
-        sets: [source.len(), before.len()],
-    });
+    let number = pass.number(rows, [source.len(), before.len()]);
     let mut ours = before.clone();
     let given = pass.ours(rows, &source, &mut ours);
-    if due != 0 {
-        judge(&pass, rows, (given, &ours), (due, &before), row);
+    let mut due = before;
+    if number == 0 {
+        picture::store(&pass.place, &pass.rust(&source), rows, &mut due);
     }
+    judge(&pass, rows, (given, &ours), (number, &due), row);
 }
 
 /// The default settings of a header.
@@ -407,9 +375,19 @@ pub const DEFAULTS: oracle::Edge = oracle::Edge {
     sigma_for_modular: 1.0,
 };
 
+/// The default scales and multipliers: of the channels, of steps 0 and 2, of the border.
+const FLOATS: [f32; 6] = [
+    DEFAULTS.channel_scale[0],
+    DEFAULTS.channel_scale[1],
+    DEFAULTS.channel_scale[2],
+    DEFAULTS.sigma.pass0_sigma_scale,
+    DEFAULTS.sigma.pass2_sigma_scale,
+    DEFAULTS.sigma.border_sad_mul,
+];
+
 /// The default settings, plain ones of either sign, defaults with one of any kind, or any floats.
 pub fn settings(random: &mut Random) -> oracle::Edge {
-    let mut floats = [40.0, 5.0, 3.5, 0.9, 6.5, 2.0 / 3.0];
+    let mut floats = FLOATS;
     match random.within(0, 5) {
         0 | 1 => {}
         2 => floats = core::array::from_fn(|_| 8.0 * plain(random).abs()),
@@ -425,6 +403,10 @@ pub fn settings(random: &mut Random) -> oracle::Edge {
         }
         _ => floats = core::array::from_fn(|_| special(random)),
     }
+    edge_of(floats)
+}
+
+fn edge_of(floats: [f32; 6]) -> oracle::Edge {
     let mut edge = DEFAULTS;
     edge.channel_scale.copy_from_slice(&floats[..3]);
     edge.sigma.pass0_sigma_scale = floats[3];

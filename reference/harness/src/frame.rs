@@ -17,6 +17,7 @@ pub const GROUP_SIZES: Subject = Subject {
         &GROUP_SIZE_SHIFT,
     ],
     outputs: 7,
+    numbers: &[0, 4, 9],
     ours: |c| {
         let answer = loupe::group_sizes(loupe::Frame {
             width: c[0] as u32,
@@ -83,6 +84,7 @@ pub const SPLIT_BLOCK: Subject = Subject {
     name: "split_block",
     inputs: &[&BLOCK, &GROUP_SIZE_SHIFT],
     outputs: 2,
+    numbers: &[0, 9],
     ours: |c| {
         let answer = loupe::split_block(c[0] as u32, c[1] as u32);
         Answer::new(answer.number, &[answer.group.into(), answer.inner.into()])

@@ -21,6 +21,8 @@ const BANDS: u32 = 9;
 pub const DEFAULT_WEIGHTS: oracle::Weights = [[0.115_169_525, 0.061_248_592]; 3];
 
 const NAME: &str = "gabor rows";
+/// The numbers that the pass can give.
+const NUMBERS: [u32; 5] = [0, 4, 5, 7, 9];
 
 /// What a pass is handed but the slices.
 #[derive(Debug, Clone, Copy)]
@@ -145,6 +147,7 @@ fn random_picture(random: &mut Random, row: &mut Row) {
 
 /// All bands of a pass, each into a target of its own, and all into one.
 fn by_bands(pass: &Pass, band: u32, random: &mut Random, row: &mut Row) {
+    row.by_bands();
     let source = samples(picture::set_len(&pass.place), random);
     let before = samples(picture::set_len(&pass.place), random);
     let result = pass.rust(&source);
@@ -166,41 +169,46 @@ fn by_bands(pass: &Pass, band: u32, random: &mut Random, row: &mut Row) {
 /// Each number at its limits; a refusal writes nothing.
 fn refusals(amount: Amount, random: &mut Random, report: &mut Report) {
     let mut row = Row::new(NAME, "refusals");
-    let source = samples(3 * 9 + 1, random);
     while row.draws(DRAWS, amount) {
-        let image = picture::any_region(random);
-        let filter = if random.once_in(2) {
-            image
-        } else {
-            picture::any_region(random)
-        };
-        let place = oracle::Place {
+        wrong(random, &mut row);
+    }
+    row.require(&NUMBERS, amount);
+    report.add(row);
+}
+
+/// A small picture, mostly with something wrong.
+fn wrong(random: &mut Random, row: &mut Row) {
+    let image = picture::any_region(random);
+    let filter = if random.once_in(2) {
+        image
+    } else {
+        picture::any_region(random)
+    };
+    let pass = Pass {
+        place: oracle::Place {
             image,
             filter,
             preserve_outside: random.once_in(2),
-        };
-        let pass = Pass {
-            place,
-            weights: weights(random),
-        };
-        let rows = (picture::any_row(random), picture::any_row(random));
-        let mut length = || picture::any_set_len(image, random);
-        let lengths = [length(), length()];
-        let due = number(
-            wide(image),
-            wide(filter),
-            place.preserve_outside,
-            (rows.0.into(), rows.1.into()),
-            lengths,
-        );
-        let before = samples(lengths[1], random);
-        let mut ours = before.clone();
-        let given = pass.ours(rows, &source[..lengths[0]], &mut ours);
-        if due != 0 {
-            judge(&pass, rows, (given, &ours), (due, &before), &mut row);
-        }
+        },
+        weights: weights(random),
+    };
+    let rows = (picture::any_row(random), picture::any_row(random));
+    let source = samples(picture::any_set_len(image, random), random);
+    let before = samples(picture::any_set_len(image, random), random);
+    let number = number(
+        wide(image),
+        wide(filter),
+        pass.place.preserve_outside,
+        (rows.0.into(), rows.1.into()),
+        [source.len(), before.len()],
+    );
+    let mut ours = before.clone();
+    let given = pass.ours(rows, &source, &mut ours);
+    let mut due = before;
+    if number == 0 {
+        picture::store(&pass.place, &pass.rust(&source), rows, &mut due);
     }
-    report.add(row);
+    judge(&pass, rows, (given, &ours), (number, &due), row);
 }
 
 /// The default weights, plain ones, or any float.

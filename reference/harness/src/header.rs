@@ -15,6 +15,14 @@ const WHOLE: u64 = 350_000;
 const CUT: u64 = 10_000;
 /// Random headers of which every half is replaced in turn.
 const REPLACED: u64 = 300;
+/// Random headers with a kernel that vanishes or nearly does, before `--scale`.
+const VANISHING: u64 = 20_000;
+
+/// The numbers that every reader can give beside 7, and those of one that reads a kernel.
+const NUMBERS: [u32; 3] = [0, 1, 2];
+const KERNEL_NUMBERS: [u32; 4] = [0, 1, 2, 3];
+/// The number of a slice that is too long.
+const TOO_LONG: [u32; 1] = [7];
 
 /// Halves of every kind: zeros, subnormals, ones that make a kernel vanish, infinities, NaN.
 pub const HALVES: [u32; 16] = [
@@ -39,6 +47,8 @@ pub struct Reader {
     pub form: &'static str,
     /// Whether it is told the encoding.
     pub encoded: bool,
+    /// Whether it reads a kernel.
+    kernel: bool,
     ours: fn(Case) -> Reading,
     rule: fn(Case) -> Ruled<expected::Read>,
     rust: fn(Case) -> Result<expected::Read, oracle::Error>,
@@ -49,6 +59,7 @@ pub const READERS: [Reader; 4] = [
         name: "read half",
         form: "f",
         encoded: false,
+        kernel: false,
         ours: |(bytes, place, _)| {
             let a = loupe::read_half(bytes, place);
             given(a.number, vec![a.value.to_bits()], a.next)
@@ -63,6 +74,7 @@ pub const READERS: [Reader; 4] = [
         name: "read gabor",
         form: "nffffff",
         encoded: false,
+        kernel: true,
         ours: |(bytes, place, _)| {
             let a = loupe::read_gabor(bytes, place);
             given(a.number, gabor_fields(&a.gabor), a.next)
@@ -77,6 +89,7 @@ pub const READERS: [Reader; 4] = [
         name: "read epf",
         form: "nnffffffffffffffff",
         encoded: true,
+        kernel: false,
         ours: |(bytes, place, modular)| {
             let a = loupe::read_epf(bytes, place, modular);
             given(a.number, epf_fields(&a.epf), a.next)
@@ -91,6 +104,7 @@ pub const READERS: [Reader; 4] = [
         name: "read filters",
         form: "nffffffnnffffffffffffffff",
         encoded: true,
+        kernel: true,
         ours: |(bytes, place, modular)| {
             let a = loupe::read_filters(bytes, place, modular);
             let fields = [gabor_fields(&a.filter.gabor), epf_fields(&a.filter.epf)].concat();
@@ -199,8 +213,11 @@ pub fn compare(amount: Amount, report: &mut Report) {
     all_halves(amount, report);
     for reader in &READERS {
         short_headers(reader, amount, report);
-        long_slices(reader, report);
+        long_slices(reader, amount, report);
         built_headers(reader, amount, report);
+        if reader.kernel {
+            vanishing_kernels(reader, amount, report);
+        }
     }
 }
 
@@ -254,20 +271,22 @@ fn short_headers(reader: &Reader, amount: Amount, report: &mut Report) {
 }
 
 /// Headers at the end of the longest slice and of one that is a byte too long.
-fn long_slices(reader: &Reader, report: &mut Report) {
+fn long_slices(reader: &Reader, amount: Amount, report: &mut Report) {
     let mut row = Row::new(reader.name, "64 KiB");
     let mut random = Random::for_name("64 KiB");
     let mut bytes: Vec<u8> = (0..65_537).map(|_| random.next() as u8).collect();
-    for start in (65_480..65_537).chain([0]) {
-        let header = pack(0, &header(&mut random, false), 0);
+    for start in (65_400..65_537).chain([0]) {
+        let modular = start % 2 == 1;
+        let header = pack(0, &header(&mut random, modular), 0);
         let end = (start + header.len()).min(bytes.len());
         bytes[start..end].copy_from_slice(&header[..end - start]);
         for place in 8 * start..8 * start + 8 {
             for len in [65_535, 65_536, 65_537] {
-                reader.check((&bytes[..len], place, false), &mut row);
+                reader.check((&bytes[..len], place, modular), &mut row);
             }
         }
     }
+    row.require(&TOO_LONG, amount);
     report.add(row);
 }
 
@@ -279,6 +298,7 @@ fn built_headers(reader: &Reader, amount: Amount, report: &mut Report) {
         let bytes = pack(place, &header(&mut random, modular), random.next() as u8);
         reader.check((&bytes, place, modular), &mut row);
     }
+    row.require(&NUMBERS, amount);
     report.add(row);
     let mut row = Row::new(reader.name, "cut short");
     while row.draws(CUT, amount) {
@@ -305,6 +325,55 @@ fn built_headers(reader: &Reader, amount: Amount, report: &mut Report) {
         }
     }
     report.add(row);
+}
+
+/// Kernels of which one channel's sum is -1/4 or beside it, some cut short, some with a half that is
+/// not finite.
+fn vanishing_kernels(reader: &Reader, amount: Amount, report: &mut Report) {
+    let mut row = Row::new(reader.name, "kernels near 0");
+    let mut random = Random::for_name("kernels near 0");
+    while row.draws(VANISHING, amount) {
+        let (place, modular) = place_and_encoding(&mut random);
+        let mut fields = vec![(1, 1), (1, 1)];
+        halves(&mut random, 6, &mut fields);
+        let first = 2 + 2 * random.within(0, 2) as usize;
+        let pair = vanishing(&mut random);
+        (fields[first].0, fields[first + 1].0) = (pair[0], pair[1]);
+        if random.once_in(2) {
+            let at = random.within(2, 7) as usize;
+            fields[at].0 = random.one_of(&HALVES);
+        }
+        fields.extend(header(&mut random, modular));
+        let mut bytes = pack(place, &fields, 0);
+        if random.once_in(4) {
+            bytes.truncate(random.within(0, bytes.len() as i128) as usize);
+        }
+        reader.check((&bytes, place, modular), &mut row);
+    }
+    row.require(&KERNEL_NUMBERS, amount);
+    report.add(row);
+}
+
+/// Two halves whose sum is -1/4, the second one perhaps a bit beside it.
+fn vanishing(random: &mut Random) -> [u32; 2] {
+    let first = random.within(-2_047, 1_023) as i32;
+    let second = half_of(-1_024 - first);
+    let beside = match random.within(0, 3) {
+        0 => second + 1,
+        1 => second ^ 1,
+        _ => second,
+    };
+    [half_of(first), beside]
+}
+
+/// The half that is so many times 2^-12, of at most 11 bits.
+fn half_of(times: i32) -> u32 {
+    let sign = if times < 0 { 0x8000 } else { 0 };
+    let size = times.unsigned_abs();
+    let Some(high) = size.checked_ilog2() else {
+        return 0;
+    };
+    sign | (high + 15 - 12) << 10 | size << (10 - high) & 0x3FF
 }
 
 pub fn place_and_encoding(random: &mut Random) -> (usize, bool) {

@@ -1,7 +1,8 @@
 //! Compares the proved library with the original Rust on the same inputs.
 //!
 //! `harness [--scale N]` prints a table of what was compared and fails if anything differs;
-//! N multiplies the random cases, and `harness --some` takes about a thousand of each row.
+//! N multiplies the random cases, and `harness --some` takes of each row a thousand cases or more,
+//! or all that it has.
 //! `harness bench [SECTION...]` prints times beside the original's and the memory of a run, and
 //! `harness record` a sample of the original's answers as text.
 

@@ -10,6 +10,7 @@ pub const MIRROR: Subject = Subject {
     name: "mirror",
     inputs: &[&OFFSET, &LENGTH],
     outputs: 1,
+    numbers: &[0, 9],
     ours: |c| {
         let answer = loupe::mirror(c[0] as isize, c[1] as usize);
         Answer::new(answer.number, &[answer.place as i128])

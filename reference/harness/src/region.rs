@@ -18,6 +18,7 @@ pub const SUBJECTS: [Subject; 9] = [
         name: "is_empty",
         inputs: ONE,
         outputs: 1,
+        numbers: &[0, 4],
         ours: |c| holds(loupe::region_is_empty(region(c))),
         rule: |c| ruled(expected::is_empty(wide(c)), |holds| [i128::from(holds)]),
         rust: |c| Answer::new(0, &[i128::from(original(c).is_empty())]),
@@ -28,6 +29,7 @@ pub const SUBJECTS: [Subject; 9] = [
         name: "right",
         inputs: ONE,
         outputs: 1,
+        numbers: &[0, 4],
         ours: |c| edge(loupe::region_right(region(c))),
         rule: |c| ruled(expected::right(wide(c)), |edge| [edge]),
         rust: |c| Answer::new(0, &[original(c).right().into()]),
@@ -38,6 +40,7 @@ pub const SUBJECTS: [Subject; 9] = [
         name: "bottom",
         inputs: ONE,
         outputs: 1,
+        numbers: &[0, 4],
         ours: |c| edge(loupe::region_bottom(region(c))),
         rule: |c| ruled(expected::bottom(wide(c)), |edge| [edge]),
         rust: |c| Answer::new(0, &[original(c).bottom().into()]),
@@ -48,6 +51,7 @@ pub const SUBJECTS: [Subject; 9] = [
         name: "contains",
         inputs: TWO,
         outputs: 1,
+        numbers: &[0, 4],
         ours: |c| holds(loupe::region_contains(region(c), region(&c[4..]))),
         rule: |c| {
             ruled(expected::contains(wide(c), wide(&c[4..])), |holds| {
@@ -67,6 +71,7 @@ pub const SUBJECTS: [Subject; 9] = [
         name: "translate",
         inputs: &[&CORNER, &CORNER, &SIDE, &SIDE, &MOVE, &MOVE],
         outputs: 4,
+        numbers: &[0, 4],
         ours: |c| {
             let (x, y) = (c[4] as i32, c[5] as i32);
             whole(loupe::region_translate(region(c), x, y))
@@ -87,6 +92,7 @@ pub const SUBJECTS: [Subject; 9] = [
         name: "intersection",
         inputs: TWO,
         outputs: 4,
+        numbers: &[0, 4],
         ours: |c| {
             let (a, b) = (region(c), region(&c[4..]));
             whole(loupe::region_intersection(a, b))
@@ -104,6 +110,7 @@ pub const SUBJECTS: [Subject; 9] = [
         name: "pad",
         inputs: &[&CORNER, &CORNER, &SIDE, &SIDE, &PADDING],
         outputs: 4,
+        numbers: &[0, 4],
         ours: |c| whole(loupe::region_pad(region(c), c[4] as u32)),
         rule: |c| ruled(expected::pad(wide(c), c[4]), of_wide),
         rust: |c| accepted(original(c).pad(c[4] as u32)),
@@ -119,6 +126,7 @@ pub const SUBJECTS: [Subject; 9] = [
         name: "downsample",
         inputs: &[&CORNER, &CORNER, &SIDE, &SIDE, &FACTOR],
         outputs: 4,
+        numbers: &[0, 4, 9],
         ours: |c| whole(loupe::region_downsample(region(c), c[4] as u32)),
         rule: |c| ruled(expected::downsample(wide(c), c[4]), of_wide),
         rust: |c| accepted(original(c).downsample(c[4] as u32)),
@@ -138,6 +146,7 @@ pub const SUBJECTS: [Subject; 9] = [
         name: "container_aligned",
         inputs: &[&CORNER, &CORNER, &SIDE, &SIDE, &ALIGNMENT],
         outputs: 4,
+        numbers: &[0, 4, 9],
         ours: |c| {
             let dim = c[4] as u32;
             whole(loupe::region_container_aligned(region(c), dim))

@@ -10,26 +10,26 @@ const SHOWN: u64 = 5;
 pub enum Amount {
     /// All cases, and so many times the random ones.
     All(u64),
-    /// A thousand cases or more of each row that has them, for a run under valgrind.
+    /// Of each row a thousand cases or more, or all that it has, for a run under valgrind.
     Some,
 }
 
 impl Amount {
-    /// Of so many large cases.
-    pub fn large(self, cases: u64) -> u64 {
+    /// Of a kind of which a row has few cases.
+    pub fn few(self, cases: u64) -> u64 {
         match self {
             Self::All(scale) => cases * scale,
-            Self::Some => cases.min(FEW),
+            Self::Some => cases,
         }
     }
 }
 
-/// With some cases, large ones of a kind.
-const FEW: u64 = 4;
-/// With some cases, random ones of a row.
+/// With some cases, so many of a row before any is passed over.
 const ENOUGH: u64 = 1_000;
-/// With some cases, those of a row before any is passed over.
-const UNTHINNED: u64 = 256;
+/// With some cases, each second after so many, each fourth after twice as many, and so on.
+const THINNED: u64 = 256;
+/// How often a number must be due that a row has to show.
+const SEEN: u64 = 1_000;
 
 /// One line of the table.
 pub struct Row {
@@ -41,6 +41,10 @@ pub struct Row {
     differ: u64,
     /// How often each of document 01's numbers was due; 0 is an accepted call.
     numbers: [u64; 12],
+    /// Pictures of which the cases are bands.
+    pictures: u64,
+    /// Those that must be due often enough.
+    required: &'static [u32],
 }
 
 impl Row {
@@ -52,17 +56,21 @@ impl Row {
             cases: 0,
             differ: 0,
             numbers: [0; 12],
+            pictures: 0,
+            required: &[],
         }
     }
 
-    /// Whether the next of the cases at hand is compared: of some cases the first 256, of the
-    /// next 256 each second, of the next 512 each fourth, and so on.
+    /// Whether the next of the cases at hand is compared: of some cases the first thousand and
+    /// then ever fewer.
     pub fn takes(&mut self, amount: Amount) -> bool {
         let n = self.offered;
         self.offered += 1;
         match amount {
             Amount::All(_) => true,
-            Amount::Some => n.is_multiple_of((n / UNTHINNED + 1).next_power_of_two()),
+            Amount::Some => {
+                self.cases < ENOUGH || n.is_multiple_of((n / THINNED + 1).next_power_of_two())
+            }
         }
     }
 
@@ -75,17 +83,27 @@ impl Row {
         }
     }
 
+    /// A picture that is compared band by band, and then with all its bands in one set.
+    pub fn by_bands(&mut self) {
+        self.pictures += 1;
+    }
+
     pub fn count(&mut self, number: u32) {
         self.cases += 1;
         self.numbers[number as usize] += 1;
     }
 
-    /// Each of these numbers must have been due so many times, or the row counts as differing.
-    pub fn require(&mut self, numbers: &[u32], times: u64) {
+    /// Where all cases are compared, each of these numbers must have been due a thousand times, or
+    /// the row counts as differing.
+    pub fn require(&mut self, numbers: &'static [u32], amount: Amount) {
+        let Amount::All(_) = amount else {
+            return;
+        };
+        self.required = numbers;
         for &number in numbers {
             let seen = self.numbers[number as usize];
-            if seen < times {
-                self.differs(&("times that a number was due", number), &seen, &times);
+            if seen < SEEN {
+                self.differs(&("times that a number was due", number), &seen, &SEEN);
             }
         }
     }
@@ -97,6 +115,31 @@ impl Row {
             println!("  given {given:?}");
             println!("  due   {due:?}");
         }
+    }
+
+    /// Each number with how often it was due, and a mark where that had to be often enough.
+    fn due(&self) -> String {
+        let due: Vec<String> = (0..)
+            .zip(self.numbers)
+            .filter(|&(_, times)| times > 0)
+            .map(|(number, times): (u32, u64)| {
+                let mark = if self.required.contains(&number) {
+                    "*"
+                } else {
+                    ""
+                };
+                format!("{number}: {times}{mark}")
+            })
+            .collect();
+        due.join(", ")
+    }
+
+    /// What a case is, where it is not a call or a picture.
+    fn unit(&self) -> String {
+        if self.pictures == 0 {
+            return String::new();
+        }
+        format!("; bands of {} pictures", self.pictures)
     }
 }
 
@@ -120,22 +163,18 @@ impl Report {
     /// Prints the table; true where nothing differs.
     pub fn finish(&self) -> bool {
         println!(
-            "{:<18} {:<14} {:>9} {:>7}  numbers due (0 is accepted)",
+            "{:<18} {:<14} {:>9} {:>7}  numbers due (0 is accepted, * must be due {SEEN} times)",
             "compared", "inputs", "cases", "differ"
         );
         for row in &self.rows {
-            let numbers: Vec<String> = (0..)
-                .zip(row.numbers)
-                .filter(|&(_, times)| times > 0)
-                .map(|(number, times): (u32, u64)| format!("{number}: {times}"))
-                .collect();
             println!(
-                "{:<18} {:<14} {:>9} {:>7}  {}",
+                "{:<18} {:<14} {:>9} {:>7}  {}{}",
                 row.subject,
                 row.inputs,
                 row.cases,
                 row.differ,
-                numbers.join(", ")
+                row.due(),
+                row.unit()
             );
         }
         let cases: u64 = self.rows.iter().map(|row| row.cases).sum();

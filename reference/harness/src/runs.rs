@@ -28,8 +28,6 @@ const SMALL: u32 = 40;
 /// Sides of large filter regions, and of images around them.
 const LARGE: (u32, u32) = (300, 270);
 const LARGE_IMAGE: u32 = 310;
-/// Each number that a call can give is due so many times.
-const SEEN: u64 = 1_000;
 
 pub fn compare(amount: Amount, report: &mut Report) {
     instances::compare(report);
@@ -42,7 +40,7 @@ pub fn compare(amount: Amount, report: &mut Report) {
     }
     report.add(row);
     let mut row = Row::new("whole runs", "large");
-    for n in 0..amount.large(LARGE_RUNS) {
+    for n in 0..amount.few(LARGE_RUNS) {
         let passes = Passes {
             gabor: n % 2 == 0,
             iterations: (n / 2 % 4) as u32,
@@ -51,9 +49,7 @@ pub fn compare(amount: Amount, report: &mut Report) {
         whole(handed, &mut random, &mut row, &mut tally);
     }
     report.add(row);
-    if let Amount::All(_) = amount {
-        tally.require(SEEN);
-    }
+    tally.require(amount);
     tally.report(report);
 }
 

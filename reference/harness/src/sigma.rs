@@ -33,6 +33,8 @@ const DRAWS: u64 = 60_000;
 const PERIOD: usize = 8_191;
 
 const NAME: &str = "block sigmas";
+/// The numbers that block sigmas can give.
+const NUMBERS: [u32; 5] = [0, 4, 7, 8, 9];
 
 /// Sides of frames and filter regions, and corners in blocks, at their limits.
 const SIDES: [u32; 6] = [0, 1, 8, 16_384, 16_385, u32::MAX];
@@ -151,7 +153,7 @@ pub fn compare(amount: Amount, report: &mut Report) {
     for (shift, (most, cases)) in (0..).zip(GROUPS.into_iter().zip(MEETINGS)) {
         for groups in 0..most * most {
             let groups = (1 + groups % most, 1 + groups / most);
-            for _ in 0..amount.large(cases) {
+            for _ in 0..amount.few(cases) {
                 let case = meeting(shift, groups, false, &mut random);
                 check(&case, true, case.count(), &mut random, &mut row);
             }
@@ -160,8 +162,10 @@ pub fn compare(amount: Amount, report: &mut Report) {
     report.add(row);
     let mut row = Row::new(NAME, "narrow grids");
     while row.draws(NARROW, amount) {
-        let groups = (random.within(1, 4) as u32, random.within(1, 4) as u32);
-        let case = meeting(0, groups, true, &mut random);
+        let shift = seldom_large(random.within(0, 199) as u64);
+        let mut groups = || random.within(1, GROUPS[shift as usize].into()) as u32;
+        let groups = (groups(), groups());
+        let case = meeting(shift, groups, true, &mut random);
         check(&case, true, case.count(), &mut random, &mut row);
     }
     report.add(row);
@@ -170,6 +174,7 @@ pub fn compare(amount: Amount, report: &mut Report) {
     while row.draws(DRAWS, amount) {
         wrong(&mut random, &mut row);
     }
+    row.require(&NUMBERS, amount);
     report.add(row);
 }
 

@@ -40,6 +40,8 @@ pub struct Subject {
     pub inputs: &'static [&'static Kind],
     /// How many fields a result has.
     pub outputs: usize,
+    /// The numbers that the function can give.
+    pub numbers: &'static [u32],
     /// The proved function.
     pub ours: fn(&[i128]) -> Answer,
     /// Document 01's rule.
@@ -77,6 +79,7 @@ impl Subject {
         while row.draws(random_cases, amount) {
             self.check(&self.draw(&mut random), &mut row);
         }
+        row.require(self.numbers, amount);
         report.add(row);
     }
 

@@ -8,7 +8,7 @@ use super::handed::{Handed, State, fields, place, record_rule, result_part};
 use crate::{
     expected::runs as rule,
     picture::{self, agree},
-    report::{Report, Row},
+    report::{Amount, Report, Row},
 };
 
 /// The numbers that each call can give.
@@ -71,12 +71,12 @@ impl Tally {
         }
     }
 
-    /// Each number that a call can give must have been due so many times.
-    pub fn require(&mut self, times: u64) {
-        self.start.require(&START_NUMBERS, times);
-        self.band.require(&BAND_NUMBERS, times);
-        self.advance.require(&ADVANCE_NUMBERS, times);
-        self.result.require(&RESULT_NUMBERS, times);
+    /// Each number that a call can give must have been due often enough.
+    pub fn require(&mut self, amount: Amount) {
+        self.start.require(&START_NUMBERS, amount);
+        self.band.require(&BAND_NUMBERS, amount);
+        self.advance.require(&ADVANCE_NUMBERS, amount);
+        self.result.require(&RESULT_NUMBERS, amount);
     }
 
     pub fn report(self, report: &mut Report) {

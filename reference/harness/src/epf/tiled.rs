@@ -1,0 +1,116 @@
+//! Pictures of several tiles of the proved code, which takes 56 columns at a time. Step 2 on a tile
+//! that has samples of the filter region on every side reads the planes themselves, every other
+//! tile goes through a window; narrower pictures have no such tile.
+
+use super::{Pass, around, by_bands, settings, textured};
+use crate::{
+    picture,
+    random::Random,
+    report::{Amount, Row},
+    sigma::sigma,
+};
+
+/// Columns of a tile.
+const TILE: u32 = 56;
+/// Tiles of a picture, of which the last may be followed by a narrower one.
+const TILES: core::ops::RangeInclusive<u32> = 2..=5;
+/// Columns beyond whole tiles: none, a few, about a block, and all but one of another tile.
+const BEYOND: [u32; 7] = [0, 1, 2, 7, 8, 9, TILE - 1];
+/// The widest, where widths are drawn too.
+const WIDEST: u32 = 300;
+const HIGHEST: u32 = 40;
+/// Rows and columns of a block.
+const BLOCK: u32 = 8;
+/// Blocks between the corner of a filter region and either axis.
+const FARTHEST: i128 = 40;
+
+pub fn compare(step: u32, amount: Amount, random: &mut Random, row: &mut Row) {
+    for height in 1..=HIGHEST {
+        let drawn = random.within((2 * TILE + 1).into(), WIDEST.into()) as u32;
+        for width in widths().chain([drawn]) {
+            if row.takes(amount) {
+                one(step, (width, height), random, row);
+            }
+        }
+    }
+}
+
+fn widths() -> impl Iterator<Item = u32> {
+    TILES
+        .flat_map(|tiles| BEYOND.map(|beyond| tiles * TILE + beyond))
+        .filter(|&width| width <= WIDEST)
+}
+
+/// The filter region as the image, in one around it, or in one that starts before both axes.
+fn placed((width, height): (u32, u32), random: &mut Random) -> oracle::Place {
+    let mut block = || (BLOCK * random.within(0, FARTHEST) as u32) as i32;
+    let anywhere = oracle::Region {
+        left: block(),
+        top: block(),
+        width,
+        height,
+    };
+    let (image, filter) = match random.within(0, 2) {
+        0 => (anywhere, anywhere),
+        1 => (around(anywhere, random), anywhere),
+        _ => before((width, height), random),
+    };
+    oracle::Place {
+        image,
+        filter,
+        preserve_outside: random.once_in(2),
+    }
+}
+
+/// An image region from left of and above both axes on, and a filter region at their corner.
+fn before((width, height): (u32, u32), random: &mut Random) -> (oracle::Region, oracle::Region) {
+    let mut margin = || random.within(1, 20) as u32;
+    let (left, top) = (margin(), margin());
+    let image = oracle::Region {
+        left: -(left as i32),
+        top: -(top as i32),
+        width: left + width + margin(),
+        height: top + height + margin(),
+    };
+    (image, oracle::Region::with_size(width, height))
+}
+
+fn one(step: u32, sides: (u32, u32), random: &mut Random, row: &mut Row) {
+    let place = placed(sides, random);
+    let sigmas = sigmas(place.filter, random);
+    let pass = Pass {
+        place,
+        step,
+        settings: settings(random),
+        sigmas: &sigmas,
+    };
+    let source = textured(picture::set_len(&place), random);
+    let band = band_height(pass.height(), random);
+    by_bands(&pass, band, &source, random, row);
+}
+
+/// Any height up to so many rows that is no multiple of 8.
+fn band_height(rows: u32, random: &mut Random) -> u32 {
+    let band = random.within(1, rows.into()) as u32;
+    if band.is_multiple_of(BLOCK) {
+        band + 1
+    } else {
+        band
+    }
+}
+
+/// A sigma for each block, often that of the block before, so that all blocks of a tile are copied,
+/// none, or some.
+fn sigmas(filter: oracle::Region, random: &mut Random) -> Vec<f32> {
+    let blocks = filter.width.div_ceil(BLOCK) * filter.height.div_ceil(BLOCK);
+    let apart = random.one_of(&[1, 2, 8]);
+    let mut last = sigma(random);
+    (0..blocks)
+        .map(|_| {
+            if random.once_in(apart) {
+                last = sigma(random);
+            }
+            last
+        })
+        .collect()
+}

@@ -1,0 +1,200 @@
+//! Block sigmas from a frame's grids and then the steps of 1 to 3 iterations by bands, against
+//! `apply_epf`.
+
+use super::{
+    BANDS, DEFAULTS, Pass, SIDES, around, placements, settings, textured, two_samples, whole_images,
+};
+use crate::{
+    picture::{self, judge, samples},
+    random::Random,
+    report::{Amount, Report, Row},
+    sigma::{self, Case},
+};
+
+/// Random pictures, before `--scale`.
+const PICTURES: u64 = 3_000;
+/// Sides of random pictures.
+const LARGEST: u32 = 48;
+/// The most iterations.
+const ITERATIONS: u32 = 3;
+
+const NAME: &str = "apply_epf";
+
+pub fn compare(amount: Amount, report: &mut Report) {
+    let mut random = Random::for_name(NAME);
+    let mut row = Row::new(NAME, "named");
+    named(&mut random, &mut row);
+    report.add(row);
+    let mut row = Row::new(NAME, "all sizes");
+    for width in 1..=SIDES {
+        for height in 1..=SIDES {
+            all_placements((width, height), amount, &mut random, &mut row);
+        }
+    }
+    report.add(row);
+    let mut row = Row::new(NAME, "instances");
+    for shift in 0..4 {
+        for case in sigma::carried(shift, &mut random) {
+            random_steps(&case, &mut random, &mut row);
+        }
+    }
+    report.add(row);
+    let mut row = Row::new(NAME, "groups meet");
+    for shift in (0..40).cycle().map(sigma::seldom_large) {
+        if !row.draws(PICTURES, amount) {
+            break;
+        }
+        where_groups_meet(shift, &mut random, &mut row);
+    }
+    report.add(row);
+}
+
+/// Two samples under each named sigma, from a grid and from a missing one.
+fn named(random: &mut Random, row: &mut Row) {
+    let frame = sigma::frame(0, (1, 1), random);
+    let blocks = loupe::Blocks {
+        left: 0,
+        top: 0,
+        width: 2,
+        height: 1,
+    };
+    for (sigma, source) in two_samples() {
+        let (other, given) = (1.0, sigma);
+        let present = (vec![1, 1, 1], vec![given], other);
+        let missing = (vec![0, 0, 0], vec![], given);
+        for (table, grids, modular) in [present, missing] {
+            let case = Case {
+                frame,
+                blocks,
+                table,
+                grids,
+                modular,
+            };
+            for place in whole_images(2, 1) {
+                for iterations in 1..=ITERATIONS {
+                    let steps = Steps::new(&case, place, (iterations, DEFAULTS), 1);
+                    steps.check(source.clone(), random, row);
+                }
+            }
+        }
+    }
+}
+
+/// Every placement in a frame of one group, with every count of iterations.
+fn all_placements((width, height): (u32, u32), amount: Amount, random: &mut Random, row: &mut Row) {
+    for place in placements((width, height), random) {
+        for iterations in 1..=ITERATIONS {
+            if !row.takes(amount) {
+                continue;
+            }
+            let blocks = loupe::Blocks {
+                left: place.filter.left as u32 / 8,
+                top: place.filter.top as u32 / 8,
+                width,
+                height,
+            };
+            let frame = sigma::frame(0, (1, 1), random);
+            let case = sigma::filled(frame, blocks, (1, 1), false, random);
+            let band = random.within(1, BANDS.into()) as u32;
+            let steps = Steps::new(&case, place, (iterations, settings(random)), band);
+            let source = textured(picture::set_len(&place), random);
+            steps.check(source, random, row);
+        }
+    }
+}
+
+fn where_groups_meet(shift: u32, random: &mut Random, row: &mut Row) {
+    let mut groups = || random.within(1, sigma::GROUPS[shift as usize].into()) as u32;
+    let groups = (groups(), groups());
+    let mut case = sigma::meeting(shift, groups, false, random);
+    // Fewer blocks need no other grids.
+    case.blocks.width = case.blocks.width.min(LARGEST);
+    case.blocks.height = case.blocks.height.min(LARGEST);
+    random_steps(&case, random, row);
+}
+
+/// A case's filter region in an image around it.
+fn random_steps(case: &Case, random: &mut Random, row: &mut Row) {
+    let place = oracle::Place {
+        image: around(case.filter(), random),
+        filter: case.filter(),
+        preserve_outside: random.once_in(2),
+    };
+    let iterations = random.within(1, ITERATIONS.into()) as u32;
+    let band = random.within(1, 64) as u32;
+    let steps = Steps::new(case, place, (iterations, settings(random)), band);
+    let source = textured(picture::set_len(&place), random);
+    steps.check(source, random, row);
+}
+
+/// What all steps are handed but the sets.
+#[derive(Debug)]
+struct Steps<'a> {
+    case: &'a Case,
+    place: oracle::Place,
+    settings: oracle::Edge,
+    band: u32,
+}
+
+impl<'a> Steps<'a> {
+    fn new(
+        case: &'a Case,
+        place: oracle::Place,
+        (iterations, settings): (u32, oracle::Edge),
+        band: u32,
+    ) -> Self {
+        let settings = oracle::Edge {
+            iters: iterations,
+            sigma_for_modular: case.modular,
+            ..settings
+        };
+        Self {
+            case,
+            place,
+            settings,
+            band,
+        }
+    }
+
+    fn check(&self, source: Vec<f32>, random: &mut Random, row: &mut Row) {
+        let before = samples(source.len(), random);
+        let rust = oracle::epf(
+            self.place,
+            self.case.frame,
+            &self.case.rust_grids(),
+            self.settings,
+            picture::planes(&source),
+        );
+        let (number, ours) = self.run([source, before.clone()]);
+        let mut due = before;
+        let rows = (0, picture::result(&self.place).height);
+        picture::store(&self.place, &rust, rows, &mut due);
+        judge(self, rows, (number, &ours), (0, &due), row);
+    }
+
+    /// The largest number that a call gave, and the set that the last step wrote. A step reads the
+    /// first set and writes over what the second had.
+    fn run(&self, mut sets: [Vec<f32>; 2]) -> (u32, Vec<f32>) {
+        let before = sets[1].clone();
+        let mut sigmas = vec![0.0; self.case.count()];
+        let mut number = self.case.ours(true, &mut sigmas);
+        let steps: &[u32] = [&[1][..], &[1, 2], &[0, 1, 2]][self.settings.iters as usize - 1];
+        for &step in steps {
+            let pass = Pass {
+                place: self.place,
+                step,
+                settings: self.settings,
+                sigmas: &sigmas,
+            };
+            let [read, written] = &mut sets;
+            written.copy_from_slice(&before);
+            for from in (0..pass.height()).step_by(self.band as usize) {
+                let rows = (from, pass.height().min(from + self.band));
+                number = number.max(pass.ours(rows, read, written));
+            }
+            sets.swap(0, 1);
+        }
+        let [last, _] = sets;
+        (number, last)
+    }
+}
