@@ -1,30 +1,18 @@
 // What every filter pass stores besides its own samples: copies of those outside the filter region.
 use planes::Layout;
+use planes::copy_run;
 use planes::rows_fit;
 use planes::set_fits;
 ghost use mathlib.Core.Path.{_≡_};
 ghost use mathlib.Core.Bool.{_&&_};
-ghost use Prim.Native.Nat.{ℕ, _+_, _*_, _≤_};
+ghost use Prim.Native.Nat.{_+_, _*_, _≤_};
 ghost use lib.Dec.{eqb};
-ghost use lib.ListN.{length, getD};
-ghost use lib.Ieee.{nan};
+ghost use lib.ListN.{length};
 ghost use Rattle.planes.specs.Fill.{fill};
 ghost use Rattle.planes.specs.Rect.{rowsFill, planesFill};
 ghost use Rattle.planes.specs.Stored.{LayoutFits};
 ghost use Rattle.planes.specs.Outside.{rowOutside, rowsOutside, planesOutside};
 ghost use Rattle.planes.specs.Band.{copiedOutside};
-
-// Copies n samples from index `at` on.
-fn copy_within(src: &[f32], dst: &mut [f32], at: usize, n: usize)
-    requires { ⌜ (at + n ≤ length (now src)) × (at + n ≤ length (now dst)) ⌝ }
-    ensures { λ _. ⌜ now (dst .exit) ≡ fill (now (dst .entry)) at n (λ (i : ℕ). getD (now (src .entry)) (at + i) nan) ⌝ }
-{
-    let mut i = 0;
-    while i < n {
-        dst[at + i] = src[at + i];
-        i += 1;
-    }
-}
 
 // Row y of the image, which starts at index o: what lies outside the filter region.
 fn copy_row_outside(src: &[f32], dst: &mut [f32], l: Layout, y: usize, o: usize)
@@ -33,16 +21,16 @@ fn copy_row_outside(src: &[f32], dst: &mut [f32], l: Layout, y: usize, o: usize)
 {
     let width = l.image.width;
     if y < l.top {
-        copy_within(src, dst, o, width);
+        copy_run(dst, o, src, o, width);
         return;
     }
     if l.height <= y - l.top {
-        copy_within(src, dst, o, width);
+        copy_run(dst, o, src, o, width);
         return;
     }
     let right = l.left + l.width;
-    copy_within(src, dst, o, l.left);
-    copy_within(src, dst, o + right, width - right);
+    copy_run(dst, o, src, o, l.left);
+    copy_run(dst, o + right, src, o + right, width - right);
 }
 
 // Rows `from` to from + n of one plane, of which the first starts at index `at`.

@@ -3,16 +3,15 @@ use layout::layout_of;
 use numbers::ACCEPTED;
 use numbers::WRONG_LENGTH;
 use planes::Layout;
+use planes::copy_run;
 use record::Run;
 use record::Setup;
 use record::result_number;
 use runs::sets_wrong;
 use runs::slice_wrong;
 ghost use mathlib.Core.Path.{_≡_};
-ghost use Prim.Native.Nat.{ℕ, _+_, _*_, _≤_};
-ghost use lib.ListN.{length, getD};
-ghost use lib.Ieee.{nan};
-ghost use Rattle.planes.specs.Fill.{fill};
+ghost use Prim.Native.Nat.{_+_, _*_, _≤_};
+ghost use lib.ListN.{length};
 ghost use Rattle.planes.specs.Rect.{rowsFill, planesFill};
 ghost use Rattle.planes.specs.Stored.{LayoutFits};
 ghost use Rattle.planes.specs.Band.{inner};
@@ -23,18 +22,6 @@ ghost use Rattle.run_result.specs.Part.{partOf, rowsOf};
 
 const PLANES: usize = 3;
 
-// Copies n samples from index `from` of `src` to index `at` of `out`.
-fn copy_row(src: &[f32], from: usize, out: &mut [f32], at: usize, n: usize)
-    requires { ⌜ (from + n ≤ length (now src)) × (at + n ≤ length (now out)) ⌝ }
-    ensures { λ _. ⌜ now (out .exit) ≡ fill (now (out .entry)) at n (λ (x : ℕ). getD (now (src .entry)) (from + x) nan) ⌝ }
-{
-    let mut x = 0;
-    while x < n {
-        out[at + x] = src[from + x];
-        x += 1;
-    }
-}
-
 // The filter region's rows of one plane, from the image's row that starts at index `from` on, to index `at` on.
 fn copy_rows(src: &[f32], from: usize, out: &mut [f32], at: usize, l: Layout)
     requires { ⌜ LayoutFits l × (from + l .height * l .image .width ≤ length (now src)) × (at + l .height * l .width ≤ length (now out)) ⌝ }
@@ -44,7 +31,7 @@ fn copy_rows(src: &[f32], from: usize, out: &mut [f32], at: usize, l: Layout)
     let mut row = from;
     let mut o = at;
     while y < l.height {
-        copy_row(src, row + l.left, out, o, l.width);
+        copy_run(out, o, src, row + l.left, l.width);
         row += l.image.width;
         o += l.width;
         y += 1;

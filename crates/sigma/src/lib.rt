@@ -2,10 +2,10 @@
 use blocks::Blocks;
 use frame::Frame;
 use frame::GroupSizes;
+use planes::copy_run;
 ghost use mathlib.Core.Path.{_≡_};
 ghost use Prim.Native.Nat.{ℕ, _+_, _*_, _<_, _≤_};
-ghost use lib.ListN.{length, getD};
-ghost use lib.Ieee.{nan};
+ghost use lib.ListN.{length};
 ghost use Rattle.planes.specs.Fill.{fill};
 ghost use Rattle.frame.specs.Sizes.{groupOf, sizesOf};
 ghost use Rattle.frame.specs.Laws.{Sound};
@@ -50,18 +50,6 @@ fn fill_missing(modular: f32, across: u32, sigmas: &mut [f32], at: usize, n: u32
     }
 }
 
-fn fill_cells(grids: &[f32], from: usize, sigmas: &mut [f32], at: usize, n: u32)
-    requires { ⌜ (from + n ≤ length (now grids)) × (at + n ≤ length (now sigmas)) ⌝ }
-    ensures { λ _. ⌜ now (sigmas .exit) ≡ fill (now (sigmas .entry)) at n (λ (i : ℕ). getD (now (grids .entry)) (from + i) nan) ⌝ }
-{
-    let end = n as usize;
-    let mut i = 0;
-    while i < end {
-        sigmas[at + i] = grids[from + i];
-        i += 1;
-    }
-}
-
 // The sigmas of n blocks of one group, from its cell (column, row) on, at index at.
 fn fill_run(
     table: &[u32],
@@ -86,7 +74,7 @@ fn fill_run(
     let width = table[entry + 1] as usize;
     let answer = grids::grid_start(table, group);
     let from = answer.start + (row as usize * width + column as usize);
-    fill_cells(grids, from, sigmas, at, n);
+    copy_run(sigmas, at, grids, from, n as usize);
 }
 
 // Blocks of one group in a row: the group, the cell of the first, and their count.

@@ -2,8 +2,10 @@
 use mathlib.Core.Path.{_≡_, refl, _∙_}
 use Prim.Native.Nat.{ℕ, _+_, _-_, _*_, _≤_}
 use native.Mathlib.Omega.{arith}
+use borrow.Author.Needs.{needs}
 use lib.ListN.{length}
 use Rattle.planes.specs.declared.Layout.{Layout}
+use Rattle.planes.specs.Copy.{copied-run}
 use Rattle.planes.specs.Rect.{rowsFill, rows-end}
 use Rattle.planes.specs.Room.{row-room, next-row}
 use Rattle.run_result.specs.Part.{rowsOf, row-next}
@@ -42,8 +44,8 @@ loop-again c =
       omega arith,
       omega (arith, next-row (at-loop .loop .y) (l .image .width)),
       omega (arith, next-row (at-loop .loop .y) (l .width)),
-      called .copy-row .kept .1 .1 .0 ∙ inv .3,
-      row-next l _ _ _ _ _ _ _ _ _ (inv .4) (inv .1) (inv .2) (called .copy-row .ensures),
+      called .copy-run .kept .0 ∙ inv .3,
+      row-next l _ _ _ _ _ _ _ _ _ (inv .4) (inv .1) (inv .2) (called .copy-run .ensures ∙ copied-run _ _ _ _ _ (omega (arith, turn (called .before .before .before))) (omega (arith, turn (called .before .before .before)))),
     )
 
 pub copy-rows-spec : {M : Type 1} → statement M
@@ -53,8 +55,8 @@ copy-rows-spec =
     Inv-loop
     μ-loop
     loop-holds
-    (λ c. omega (arith, turn (c .before)))
-    (λ c κs. omega (arith, turn (c .before .before)))
+    (λ c. omega (arith, turn (c .before .before)))
+    (λ c κs. search needs)
     (λ c. omega (arith, turn (c .before .before .before .before .before .before)))
     (λ c. omega (arith, turn (c .before .before .before .before .before .before .before)))
     (λ c. omega arith)

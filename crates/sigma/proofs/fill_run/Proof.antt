@@ -4,6 +4,7 @@ use Prim.Native.Nat.{_+_, _*_, _≤_}
 use borrow.Author.Needs.{needs}
 use native.Mathlib.Omega.{arith}
 use denote.Ref.{now}
+use Rattle.planes.specs.Copy.{copied-run}
 use Rattle.planes.specs.Fill.{fill-cong}
 use Rattle.grids.specs.declared.StartAnswer.{StartAnswer}
 use Rattle.grids.specs.Table.{gridStart, gridWidth}
@@ -46,7 +47,7 @@ returns-2 c =
     let d = c .before .before in
     let g = d .before .before .before in
     let s = start g .args in
-    d .fill-cells .ensures
+    d .copy-run .ensures ∙ copied-run _ _ _ _ _ (start g .pre .1) (omega (arith, from-is g, run-room _ _ (s .modular) _ _ _ _ (holds g)))
     ∙ fill-cong _ _ _ _ _ (λ i l. run-present (now (s .table)) (now (s .grids)) (s .modular) (s .group) (s .column) (s .row) (s .n) (g .before .before .if1 .left) _ _ i (from-is g))
 
 pub fill-run-spec : {M : Type 1} → statement M
@@ -67,6 +68,6 @@ fill-run-spec =
     (λ c. omega (arith, product-le c))
     (λ c. omega (arith, product-le c, holds c .columns, holds c .width-le))
     (λ c. let d = c .before in omega (arith, product-le d, holds d .columns, holds d .width-le, small d, start-is d))
-    (λ c κs. (omega (arith, from-is (c .before .before), run-room _ _ (start (c .before .before) .args .modular) _ _ _ _ (holds (c .before .before))), start (c .before .before) .pre .1))
+    (λ c κs. search needs)
     (λ c. search needs)
     returns-2)

@@ -1,22 +1,21 @@
--- `run_result::copy_row` meets its contract. The invariant: x is at most n, and `out` has its first x samples. Assumes nothing.
+-- `planes::copy_samples` meets its contract. The invariant: i samples of n are there. Assumes nothing.
 use mathlib.Core.Path.{refl}
 use Prim.Native.Nat.{ℕ, _+_, _-_}
 use native.Mathlib.Omega.{arith}
 use lib.ListN.{getD}
 use lib.Ieee.{nan}
 use Rattle.planes.specs.Loop.{Written, written-none, written-more, written-all}
-use Rattle.run_result.proofs.copy_row.Statement.{statement}
-use Rattle.run_result.proofs.copy_row.Tie as tie
+use Rattle.planes.proofs.copy_samples.Statement.{statement}
+use Rattle.planes.proofs.copy_samples.Tie as tie
 
 abbrev Inv-loop : tie.InvT-loop
-Inv-loop src from out₀ at n x₀ out x = Written out₀ at n (λ (k : ℕ). getD src (from + k) nan) out x
+Inv-loop dst₀ at src from n i₀ dst i = Written dst₀ at n (λ (j : ℕ). getD src (from + j) nan) dst i
 
 abbrev μ-loop : tie.MeasureT-loop
-μ-loop src from out₀ at n x₀ out x = n - x
+μ-loop dst₀ at src from n i₀ dst i = n - i
 
-pub copy-row-spec : {M : Type 1} → statement M
-copy-row-spec =
-    tie.close
+pub copy-samples-spec : {M : Type 1} → statement M
+copy-samples-spec = tie.close
     (tie.spec
     Inv-loop
     μ-loop
