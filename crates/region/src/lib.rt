@@ -5,12 +5,14 @@ use numbers::OUT_OF_MEASURE;
 ghost use mathlib.Core.Path.{_≡_};
 ghost use mathlib.Core.Bool.{false};
 ghost use Prim.Native.Nat.{_<_};
+ghost use lib.Dec.{T};
 ghost use lib.IntN.{pos};
 ghost use lib.Signed.{mag};
+ghost use Rattle.numbers.specs.Checks.{firstOf};
 ghost use Rattle.axis.specs.Measures.{measured as measuredSpan};
 ghost use Rattle.region.specs.Measures.{measured};
 ghost use Rattle.region.specs.Regions.{columns, rows, isEmpty, inside, contains};
-ghost use Rattle.region.specs.Answers.{boolAnswer, edgeAnswer, isEmptyOutcome, rightOutcome, bottomOutcome, containsOutcome};
+ghost use Rattle.region.specs.Answers.{boolAnswer, edgeAnswer, givenChecks, isEmptyOutcome, rightOutcome, bottomOutcome, containsOutcome};
 
 #[repr(C)]
 pub struct Region {
@@ -103,6 +105,17 @@ fn no_edge(number: u32) -> EdgeAnswer
     EdgeAnswer { number, edge: 0 }
 }
 
+// Where a span of r's ends.
+fn edge_of(r: Region, s: Span) -> EdgeAnswer
+    requires { ⌜ (T (measured r) → mag (s .end) < 0x8000_0000) ⌝ }
+    ensures { λ a. ⌜ a ≡ edgeAnswer (firstOf (givenChecks r)) (s .end) ⌝ }
+{
+    if !measured(r) {
+        return no_edge(OUT_OF_MEASURE);
+    }
+    edge_at(s)
+}
+
 impl Region {
     // A side of 0.
     pub fn is_empty(self) -> BoolAnswer
@@ -118,20 +131,14 @@ impl Region {
     pub fn right(self) -> EdgeAnswer
         ensures { λ r. ⌜ r ≡ rightOutcome self ⌝ }
     {
-        if !measured(self) {
-            return no_edge(OUT_OF_MEASURE);
-        }
-        edge_at(columns(self))
+        edge_of(self, columns(self))
     }
 
     // The row past the last.
     pub fn bottom(self) -> EdgeAnswer
         ensures { λ r. ⌜ r ≡ bottomOutcome self ⌝ }
     {
-        if !measured(self) {
-            return no_edge(OUT_OF_MEASURE);
-        }
-        edge_at(rows(self))
+        edge_of(self, rows(self))
     }
 
     pub fn contains(self, target: Region) -> BoolAnswer
