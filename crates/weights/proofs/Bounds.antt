@@ -19,8 +19,8 @@ use Rattle.planes.specs.Picture.{Around}
 use Rattle.rounding.specs.Rounded.{Within, round-within, round-signed, add-within, within-le}
 use Rattle.rounding.specs.Side.{Side, of-signed, add-side, mul-side, div-side, not-negative, not-under, either, wider}
 use Rattle.rounding.specs.Magnitude.{magnitude}
-use Rattle.weights.specs.Steps.{Offset, Scaled, kernel, along, apart, distance, positive, falloff, weight, weightBy, copied, weightAt, divisor, border, multiplier}
-use Rattle.weights.specs.Bounds.{notNegative, ScalesNotNegative, most, WeightBounds, DivisorBounds, MultiplierNotNegative}
+use Rattle.weights.specs.Steps.{Offset, Scaled, kernel, dists, along, apart, distance, positive, falloff, weight, weightBy, copied, weightAt, divisor, border, multiplier}
+use Rattle.weights.specs.Bounds.{notNegative, ScalesNotNegative, most, WeightBounds, DivisorBounds, MultiplierNotNegative, PassBounds}
 
 -- ---- constants
 
@@ -165,3 +165,10 @@ divisor-bounds step cs ds limit sigma m v p q r s = within-le b1 (most step) (di
 pub multiplier-not-negative : MultiplierNotNegative
 unfolding multiplier
 multiplier-not-negative m b row col h k = of-side _ (either (Side false) (border row || border col) (m ⊗ b) m (λ _. mul-side binary32 false false m b (side-of m h) (side-of b k)) (λ _. side-of m h))
+
+pub pass-bounds : PassBounds
+pass-bounds e w h top sigma g x y over scales gain edge uncopied =
+    let m = multiplier-not-negative (e .multiplier) (e .borderMul) (top + y) x gain edge in (
+      λ k. weight-bounds (e .scales) (kernel (e .step)) (dists (e .step)) (e .limit) _ _ _ k over uncopied m scales,
+      divisor-bounds (e .step) (e .scales) (dists (e .step)) (e .limit) _ _ _ over uncopied m scales,
+    )

@@ -3,13 +3,13 @@
 use mathlib.Core.Path.{_≡_}
 use mathlib.Core.Bool.{Bool, false, not}
 use mathlib.Core.List.{List, [], _∷_}
-use Prim.Native.Nat.{ℕ, zero, suc}
+use Prim.Native.Nat.{ℕ, zero, suc, _+_, _/_}
 use lib.Dec.{T}
 use lib.Ieee.{Float, lt, le}
 use lib.Ieee.Positive.{above}
 use Rattle.planes.specs.Samples.{bits, b0, b1}
-use Rattle.planes.specs.Picture.{Around}
-use Rattle.weights.specs.Steps.{Offset, Scaled, kernel, copied, weightAt, divisor, multiplier}
+use Rattle.planes.specs.Picture.{Picture, Around, around}
+use Rattle.weights.specs.Steps.{Offset, Scaled, EpfPass, kernel, dists, copied, weightAt, divisor, multiplier}
 
 -- not below zero; NaN is not
 abbrev pub notNegative : Float → Bool
@@ -42,3 +42,13 @@ DivisorBounds = (step : ℕ) (cs : List Scaled) (ds : List Offset) (limit sigma 
 -- M is not negative where the step's scale and the border multiplier are not
 abbrev pub MultiplierNotNegative : Type 0
 MultiplierNotNegative = (m b : Float) (row col : ℕ) → T (notNegative m) → T (notNegative b) → T (notNegative (multiplier m b row col))
+
+-- so in each sample of a pass that is not copied, at its own sigma and M, whatever the picture
+abbrev pub PassBounds : Type 0
+PassBounds = (e : EpfPass) (w h top : ℕ) (sigma : ℕ → ℕ → Float) (g : Picture) (x y : ℕ)
+    → T (above (e .limit)) → ScalesNotNegative (e .scales) → T (notNegative (e .multiplier)) → T (notNegative (e .borderMul))
+    → let s = sigma (x / 8) (y / 8) in
+    let m = multiplier (e .multiplier) (e .borderMul) (top + y) x in
+    copied s (e .limit) ≡ false
+    → ((k : Offset) → Between b0 b1 (weightAt (e .scales) (kernel (e .step)) (dists (e .step)) s m (around w h g x y) k))
+    × Between b1 (most (e .step)) (divisor (e .scales) (kernel (e .step)) (dists (e .step)) s m (around w h g x y))
