@@ -1,62 +1,19 @@
--- The blocks of a filter region, and its measures (document 01, "Measures"). Assumes nothing.
-use mathlib.Core.Path.{_≡_}
-use mathlib.Core.Bool.{Bool, false, _||_}
-use Prim.Native.Nat.{ℕ, _*_, _≤_}
-use native.Mathlib.Nat.{mul-le-mul}
-use native.Mathlib.Omega.{arith}
-use borrow.Author.Tests.{ltb-false}
+-- The blocks of a filter region, and its measures (document 01, "Measures"). Definitions only.
+use mathlib.Core.Bool.{Bool, _||_}
+use Prim.Native.Nat.{ℕ, _*_}
 use lib.Dec.{ltb}
-use Rattle.frame.specs.Sizes.{dividedUp}
+use Rattle.frame.specs.Sizes.{blocksAlong}
 use Rattle.frame.specs.Outcome.{badSide}
-use Rattle.grids.specs.Laws.{neither, side-range}
 use Rattle.blocks.specs.declared.Blocks.{Blocks}
 
--- a block is 8 by 8 samples: blocks across and down the filter region
+-- blocks across and down the filter region
 abbrev pub across : Blocks → ℕ
-across b = dividedUp (b .width) 8
+across b = blocksAlong (b .width)
 
 abbrev pub down : Blocks → ℕ
-down b = dividedUp (b .height) 8
+down b = blocksAlong (b .height)
 
 -- a filter region with a side outside 1 to 16,384, an area over 16,777,216, or a left or top over 1,048,576, which is 131,072 blocks
 unfoldable pub badBlocks : Blocks → Bool
 badBlocks b =
     badSide (b .width) || badSide (b .height) || ltb 16777216 (b .width * b .height) || ltb 131072 (b .left) || ltb 131072 (b .top)
-
-pub record Measured (b : Blocks) : Type 0 where
-  pub width-pos : 1 ≤ b .width
-  pub width-le : b .width ≤ 16384
-  pub height-pos : 1 ≤ b .height
-  pub height-le : b .height ≤ 16384
-  pub area-le : b .width * b .height ≤ 16777216
-  pub left-le : b .left ≤ 131072
-  pub top-le : b .top ≤ 131072
-
-pub measured : (b : Blocks) → badBlocks b ≡ false → Measured b
-unfolding badBlocks
-measured b h =
-    let t = neither _ (ltb 131072 (b .top)) h in
-    let l = neither _ (ltb 131072 (b .left)) (t .0) in
-    let a = neither _ (ltb 16777216 (b .width * b .height)) (l .0) in
-    let s = neither (badSide (b .width)) (badSide (b .height)) (a .0) in
-    let ws = side-range (b .width) 16384 (s .0) in
-    let hs = side-range (b .height) 16384 (s .1) in
-    record {
-      width-pos = ws .0;
-      width-le = ws .1;
-      height-pos = hs .0;
-      height-le = hs .1;
-      area-le = ltb-false 16777216 (b .width * b .height) (a .1);
-      left-le = ltb-false 131072 (b .left) (l .1);
-      top-le = ltb-false 131072 (b .top) (t .1);
-    }
-
--- at most 2,048 blocks each way
-pub across-le : (b : Blocks) → Measured b → across b ≤ 2048
-across-le b m = omega (arith, m .width-le)
-
-pub down-le : (b : Blocks) → Measured b → down b ≤ 2048
-down-le b m = omega (arith, m .height-le)
-
-pub count-le : (b : Blocks) → Measured b → down b * across b ≤ 4194304
-count-le b m = mul-le-mul (down-le b m) (across-le b m)

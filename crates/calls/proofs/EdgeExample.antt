@@ -11,7 +11,8 @@ use Rattle.axis.specs.Measures.{place, side}
 use Rattle.frame.specs.Sizes.{sizesOf}
 use Rattle.grids.specs.Table.{badGrid, cells, gridStart, lacks, someBelow}
 use Rattle.groups.specs.Held.{notHeld, someNotHeld}
-use Rattle.groups.specs.Outcome.{badSides, badSettings, tableFits, gridsFit}
+use Rattle.frame.specs.Outcome.{badSides, badSettings}
+use Rattle.groups.specs.Outcome.{tableFits, gridsFit}
 use Rattle.sigma.specs.Sigma.{sigmaIn, sigmaOf, aboveAt, sigmaAt as blockSigma, blockSigmas}
 use Rattle.layout.specs.Outcome.{layoutOf}
 use Rattle.planes.specs.Picture.{Picture}

@@ -10,7 +10,8 @@ use Rattle.region.specs.Measures.{measured, pictured}
 use Rattle.axis.specs.Measures.{place, side}
 use Rattle.frame.specs.Sizes.{sizesOf}
 use Rattle.grids.specs.Table.{badGrid, cells, gridStart, someBelow}
-use Rattle.groups.specs.Outcome.{badSides, badSettings, tableFits, gridsFit}
+use Rattle.frame.specs.Outcome.{badSides, badSettings}
+use Rattle.groups.specs.Outcome.{tableFits, gridsFit}
 use Rattle.layout.specs.Outcome.{layoutOf}
 use Rattle.planes.specs.Picture.{Picture}
 use Rattle.planes.specs.Sets.{setOf, tab}

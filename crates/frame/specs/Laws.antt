@@ -15,7 +15,7 @@ use Rattle.numbers.specs.Checks.{always, firstOf}
 use Rattle.frame.specs.declared.Frame.{Frame}
 use Rattle.frame.specs.declared.GroupSizes.{GroupSizes}
 use Rattle.frame.specs.Sizes.{dividedUp, sampleSide, groupDim, groupShift, groupsAlong, groupOf, innerOf, widthOf, heightOf, sizesOf}
-use Rattle.frame.specs.Outcome.{frameChecks, frameOutcome, splitOutcome, badSide, badUpsampling}
+use Rattle.frame.specs.Outcome.{frameChecks, frameOutcome, splitOutcome, badSide, badSides, badUpsampling, badSettings}
 
 -- ---- division rounded up is the least quotient that covers the whole
 
@@ -132,32 +132,34 @@ upsampling-range u h = (low (decLe 1 u), high (decLe u 8))
         (rw (ne-eqb u 1 (λ e. omega arith), ne-eqb u 2 (λ e. omega arith), ne-eqb u 4 (λ e. omega arith), ne-eqb u 8 (λ e. omega arith)) at h)))
 
 -- no check applies
-none : (w h u l s : Bool)
-    → firstOf (always outOfMeasure w ∷ always outOfMeasure h ∷ always outOfRange u ∷ always outOfRange l ∷ always outOfRange s ∷ []) ≡ 0
-    → (w ≡ false) × (h ≡ false) × (u ≡ false) × (l ≡ false) × (s ≡ false)
-none false false false false false e = (refl, refl, refl, refl, refl)
-none false false false false true e = absurd (omega arith)
-none false false false true s e = absurd (omega arith)
-none false false true l s e = absurd (omega arith)
-none false true u l s e = absurd (omega arith)
-none true h u l s e = absurd (omega arith)
+none : (s t : Bool) → firstOf (always outOfMeasure s ∷ always outOfRange t ∷ []) ≡ 0 → (s ≡ false) × (t ≡ false)
+none false false e = (refl, refl)
+none false true e = absurd (omega arith)
+none true t e = absurd (omega arith)
 
--- A frame that no check refuses has its numbers in range.
-pub frame-sound : (f : Frame) → firstOf (frameChecks f) ≡ 0 → Sound f
-frame-sound f e =
-    let n = none (badSide (f .width)) (badSide (f .height)) (badUpsampling (f .upsampling)) (ltb 4 (f .«lf_level»)) (ltb 3 (f .«group_size_shift»)) e in
-    let w = neither (ltb (f .width) 1) (ltb 16384 (f .width)) (n .0) in
-    let h = neither (ltb (f .height) 1) (ltb 16384 (f .height)) (n .1) in
+-- A frame whose sides and settings are in range has its numbers in range.
+pub fitting-sound : (f : Frame) → badSides f ≡ false → badSettings f ≡ false → Sound f
+unfolding badSides badSettings
+fitting-sound f sides settings =
+    let s = neither (badSide (f .width)) (badSide (f .height)) sides in
+    let w = neither (ltb (f .width) 1) (ltb 16384 (f .width)) (s .0) in
+    let h = neither (ltb (f .height) 1) (ltb 16384 (f .height)) (s .1) in
+    let l = neither (badUpsampling (f .upsampling) || ltb 4 (f .«lf_level»)) (ltb 3 (f .«group_size_shift»)) settings in
+    let u = neither (badUpsampling (f .upsampling)) (ltb 4 (f .«lf_level»)) (l .0) in
     record {
       width-pos = ltb-false (f .width) 1 (w .0);
       width-le = ltb-false 16384 (f .width) (w .1);
       height-pos = ltb-false (f .height) 1 (h .0);
       height-le = ltb-false 16384 (f .height) (h .1);
-      upsampling-pos = upsampling-range (f .upsampling) (n .2) .0;
-      upsampling-le = upsampling-range (f .upsampling) (n .2) .1;
-      level-le = ltb-false 4 (f .«lf_level») (n .3);
-      shift-le = ltb-false 3 (f .«group_size_shift») (n .4);
+      upsampling-pos = upsampling-range (f .upsampling) (u .0) .0;
+      upsampling-le = upsampling-range (f .upsampling) (u .0) .1;
+      level-le = ltb-false 4 (f .«lf_level») (u .1);
+      shift-le = ltb-false 3 (f .«group_size_shift») (l .1);
     }
+
+-- So has one that no check refuses.
+pub frame-sound : (f : Frame) → firstOf (frameChecks f) ≡ 0 → Sound f
+frame-sound f e = let n = none (badSides f) (badSettings f) e in fitting-sound f (n .0) (n .1)
 
 -- Its answer has its sizes.
 pub frame-sizes : (f : Frame) → firstOf (frameChecks f) ≡ 0 → frameOutcome f .sizes ≡ sizesOf f

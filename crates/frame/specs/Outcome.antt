@@ -19,15 +19,16 @@ badSide side = ltb side 1 || ltb 16384 side
 abbrev pub badUpsampling : ℕ → Bool
 badUpsampling u = not (eqb u 1 || eqb u 2 || eqb u 4 || eqb u 8)
 
--- Document 01, "Measures" (4: frame sides 1 to 16,384) and "Block sigmas" (9: upsampling 1, 2, 4, 8; LF level 0 to 4; group size shift 0 to 3).
+-- Document 01, "Measures": frame sides outside 1 to 16,384
+unfoldable pub badSides : Frame → Bool
+badSides f = badSide (f .width) || badSide (f .height)
+
+-- Document 01, "Block sigmas": upsampling none of 1, 2, 4, 8; LF level over 4; group size shift over 3
+unfoldable pub badSettings : Frame → Bool
+badSettings f = badUpsampling (f .upsampling) || ltb 4 (f .«lf_level») || ltb 3 (f .«group_size_shift»)
+
 abbrev pub frameChecks : Frame → List Check
-frameChecks f =
-    always outOfMeasure (badSide (f .width))
-    ∷ always outOfMeasure (badSide (f .height))
-    ∷ always outOfRange (badUpsampling (f .upsampling))
-    ∷ always outOfRange (ltb 4 (f .«lf_level»))
-    ∷ always outOfRange (ltb 3 (f .«group_size_shift»))
-    ∷ []
+frameChecks f = always outOfMeasure (badSides f) ∷ always outOfRange (badSettings f) ∷ []
 
 -- the sizes of a refusal
 abbrev pub noSizes : GroupSizes

@@ -3,7 +3,7 @@ ghost use mathlib.Core.Path.{_≡_};
 ghost use Prim.Native.Nat.{_<_, _≤_};
 ghost use Rattle.numbers.specs.Checks.{firstOf};
 ghost use Rattle.frame.specs.Sizes.{dividedUp, sampleSide, groupDim, groupsAlong, sizesOf};
-ghost use Rattle.frame.specs.Outcome.{frameChecks, frameOutcome, splitOutcome, badSide, badUpsampling, noSizes};
+ghost use Rattle.frame.specs.Outcome.{frameChecks, frameOutcome, splitOutcome, badSide, badSides, badUpsampling, badSettings, noSizes};
 ghost use Rattle.frame.specs.Laws.{Sound};
 
 const MAX_SIDE: u32 = 16_384;
@@ -105,23 +105,35 @@ fn bad_upsampling(upsampling: u32) -> bool
     upsampling != 8
 }
 
+fn bad_sides(f: Frame) -> bool
+    ensures { λ r. ⌜ r ≡ badSides f ⌝ }
+{
+    if bad_side(f.width) {
+        return true;
+    }
+    bad_side(f.height)
+}
+
+fn bad_settings(f: Frame) -> bool
+    ensures { λ r. ⌜ r ≡ badSettings f ⌝ }
+{
+    if bad_upsampling(f.upsampling) {
+        return true;
+    }
+    if MAX_LF_LEVEL < f.lf_level {
+        return true;
+    }
+    MAX_GROUP_SIZE_SHIFT < f.group_size_shift
+}
+
 // The number that a frame is refused with, or 0.
 fn check(f: Frame) -> u32
     ensures { λ r. ⌜ r ≡ firstOf (frameChecks f) ⌝ }
 {
-    if bad_side(f.width) {
+    if bad_sides(f) {
         return numbers::OUT_OF_MEASURE;
     }
-    if bad_side(f.height) {
-        return numbers::OUT_OF_MEASURE;
-    }
-    if bad_upsampling(f.upsampling) {
-        return numbers::OUT_OF_RANGE;
-    }
-    if MAX_LF_LEVEL < f.lf_level {
-        return numbers::OUT_OF_RANGE;
-    }
-    if MAX_GROUP_SIZE_SHIFT < f.group_size_shift {
+    if bad_settings(f) {
         return numbers::OUT_OF_RANGE;
     }
     numbers::ACCEPTED

@@ -9,7 +9,8 @@ use Rattle.numbers.specs.Numbers.{accepted, outOfMeasure, wrongLength, blockNot
 use Rattle.frame.specs.declared.Frame.{Frame}
 use Rattle.blocks.specs.declared.Blocks.{Blocks}
 use Rattle.grids.specs.Table.{badGrid, badPresence}
-use Rattle.groups.specs.Outcome.{badSides, badSettings, tableFits, someGroup, gridsFit, sigmaCount, sigmaNumber}
+use Rattle.frame.specs.Outcome.{badSides, badSettings}
+use Rattle.groups.specs.Outcome.{tableFits, someGroup, gridsFit, sigmaCount, sigmaNumber}
 use Rattle.blocks.specs.Measures.{badBlocks}
 use Rattle.groups.specs.Held.{someNotHeld}
 

@@ -15,15 +15,16 @@ use Rattle.frame.specs.declared.GroupSizes.{GroupSizes}
 use Rattle.frame.specs.declared.SplitAnswer.{SplitAnswer}
 use Rattle.frame.specs.Sizes.{groupOf, innerOf, sizesOf}
 use Rattle.frame.specs.Laws.{Sound, frame-sound, Bounded, sizes-bounded, split-accepted}
-use Rattle.frame.specs.Outcome.{badSide, badUpsampling, frameChecks, splitOutcome}
+use Rattle.frame.specs.Outcome.{badSides, badSettings, frameChecks, splitOutcome}
 use Rattle.numbers.specs.Numbers.{accepted, outOfMeasure, wrongLength, blockNotHeld, outOfRange}
 use Rattle.numbers.specs.Checks.{always, firstOf}
 use Rattle.blocks.specs.declared.Blocks.{Blocks}
-use Rattle.blocks.specs.Measures.{badBlocks, Measured, measured}
+use Rattle.blocks.specs.Measures.{badBlocks}
+use Rattle.blocks.specs.Laws.{Measured, measured}
 use Rattle.grids.specs.Table.{badPresence, badGrid, lacks, gridStart}
 use Rattle.grids.specs.Laws.{neither}
 use Rattle.groups.specs.Held.{groupAt, notHeld, someNotHeld}
-use Rattle.groups.specs.Outcome.{badSides, badSettings, frameFits, tableFits, tableRead, someGroup, gridsFit, sigmaCount, sigmaNumber}
+use Rattle.groups.specs.Outcome.{frameFits, tableFits, tableRead, someGroup, gridsFit, sigmaCount, sigmaNumber}
 
 -- ---- blocks and the groups of a frame
 
@@ -76,19 +77,6 @@ held f t bx by h =
 
 -- ---- what is refused and what is accepted
 
--- the number that the frame alone gives
-frame-number : (w h u l s : Bool) → firstOf (always outOfMeasure w ∷ always outOfMeasure h ∷ always outOfRange u ∷ always outOfRange l ∷ always outOfRange s ∷ []) ≡ cond (w || h) outOfMeasure (cond (u || l || s) outOfRange accepted)
-frame-number true h u l s = refl
-frame-number false true u l s = refl
-frame-number false false true l s = refl
-frame-number false false false true s = refl
-frame-number false false false false true = refl
-frame-number false false false false false = refl
-
-pub frame-is : (f : Frame) → firstOf (frameChecks f) ≡ cond (badSides f) outOfMeasure (cond (badSettings f) outOfRange accepted)
-unfolding badSides badSettings
-frame-is f = frame-number (badSide (f .width)) (badSide (f .height)) (badUpsampling (f .upsampling)) (ltb 4 (f .«lf_level»)) (ltb 3 (f .«group_size_shift»))
-
 -- which of the frame's numbers are out of range, by that number
 pub sides-bad : (a b : Bool) → cond a outOfMeasure (cond b outOfRange accepted) ≡ 4 → a ≡ true
 sides-bad true b e = refl
@@ -115,9 +103,6 @@ pub record Fitting (f : Frame) (sizes : GroupSizes) (b : Blocks) : Type 0 where
   pub settings : badSettings f ≡ false
   pub blocks : badBlocks b ≡ false
   pub sizes-are : sizes ≡ sizesOf f
-
-pub fitting-sound : (f : Frame) → badSides f ≡ false → badSettings f ≡ false → Sound f
-fitting-sound f s t = frame-sound f (frame-is f ∙ rw (s, t))
 
 -- a check that does not apply
 passed : (b : Bool) (k rest : ℕ) → 0 < k → cond b k rest ≡ 0 → (b ≡ false) × (rest ≡ 0)
@@ -146,7 +131,7 @@ module _ (on : Bool) (f : Frame) (b : Blocks) (t : List ℕ) (grids : List Float
       let fits : tableFits f t ≡ true = not-false (tableFits f t) (rw (s, q) at l) in
       let clear : someGroup f (badPresence t) ≡ false = rw (s, q, fits) at p in
       record {
-        frame-fits = frame-is f ∙ rw (s, q);
+        frame-fits = rw (s, q);
         blocks = measured b k;
         entries = eqb-true (length t) (3 * sizesOf f .«num_groups») fits;
         sides = rw (s, q, fits) at g;

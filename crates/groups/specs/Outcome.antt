@@ -2,28 +2,20 @@
 use mathlib.Core.Bool.{Bool, cond, not, _&&_, _||_}
 use mathlib.Core.List.{List, [], _∷_}
 use Prim.Native.Nat.{ℕ, _*_}
-use lib.Dec.{ltb, eqb}
+use lib.Dec.{eqb}
 use lib.ListN.{length}
 use lib.Ieee.{Float}
 use Rattle.numbers.specs.Numbers.{outOfMeasure, wrongLength, blockNotHeld, outOfRange}
 use Rattle.numbers.specs.Checks.{Check, always, given, firstOf}
 use Rattle.frame.specs.declared.Frame.{Frame}
 use Rattle.frame.specs.Sizes.{sizesOf}
-use Rattle.frame.specs.Outcome.{badSide, badUpsampling}
+use Rattle.frame.specs.Outcome.{badSides, badSettings}
 use Rattle.blocks.specs.declared.Blocks.{Blocks}
 use Rattle.grids.specs.Table.{gridStart, badPresence, badGrid, someBelow}
 use Rattle.blocks.specs.Measures.{across, down, badBlocks}
 use Rattle.groups.specs.Held.{someNotHeld}
 
 -- ---- the numbers that checks need
-
--- frame sides outside 1 to 16,384
-unfoldable pub badSides : Frame → Bool
-badSides f = badSide (f .width) || badSide (f .height)
-
--- upsampling none of 1, 2, 4, 8; LF level over 4; group size shift over 3
-unfoldable pub badSettings : Frame → Bool
-badSettings f = badUpsampling (f .upsampling) || ltb 4 (f .«lf_level») || ltb 3 (f .«group_size_shift»)
 
 -- the frame's numbers are in range, so that it has groups
 abbrev pub frameFits : Frame → Bool

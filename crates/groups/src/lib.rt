@@ -9,7 +9,7 @@ ghost use lib.Dec.{eqb};
 ghost use lib.ListN.{length};
 ghost use Rattle.grids.specs.Table.{badPresence, lacks, someBelow};
 ghost use Rattle.groups.specs.Held.{notHeld, someNotHeld};
-ghost use Rattle.blocks.specs.Measures.{Measured};
+ghost use Rattle.blocks.specs.Laws.{Measured};
 ghost use Rattle.groups.specs.Outcome.{sigmaCount, sigmaNumber};
 ghost use Rattle.groups.specs.Laws.{TableOf, Fitting};
 

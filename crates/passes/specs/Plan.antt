@@ -1,7 +1,8 @@
 -- The passes that settings ask for (document 01, "Edge-preserving steps" and "Runs"), and the margin of document 01's demand 3. Definitions only.
-use mathlib.Core.Bool.{Bool, cond}
+use mathlib.Core.Bool.{Bool, cond, _&&_}
 use mathlib.Core.List.{List, [], _∷_}
-use Prim.Native.Nat.{ℕ, zero, suc, _+_}
+use Prim.Native.Nat.{ℕ, zero, suc, _+_, _-_, min}
+use lib.Dec.{eqb, ltb}
 use lib.Ieee.{Float}
 use Rattle.planes.specs.Samples.{b1}
 use Rattle.epf_sigma.specs.declared.EpfSigma.{EpfSigma}
@@ -45,6 +46,16 @@ stepMargin (suc (suc (suc i))) = 6
 abbrev pub oneIf : Bool → ℕ
 oneIf b = cond b 1 0
 
--- document 01's margin: 1 for Gabor, if on, plus that of the iterations
+-- the margin, a term of document 01's own: 1 for Gabor, if on, plus that of the iterations
 abbrev pub margin : Settings → ℕ
 margin s = oneIf (s .gabor .enabled) + stepMargin (s .epf .iters)
+
+-- ---- which pass is at a place
+
+-- Gabor, if on, comes first
+unfoldable pub gaborAt : Settings → ℕ → Bool
+gaborAt s p = s .gabor .enabled && eqb p 0
+
+-- the step of a pass that is not Gabor's; a pass past the last has step 2
+unfoldable pub stepIndex : Settings → ℕ → ℕ
+stepIndex s p = min (p + oneIf (ltb (s .epf .iters) 3) - oneIf (s .gabor .enabled)) 2

@@ -11,7 +11,7 @@ use lib.ListN.{length, getD}
 use Rattle.epf_sigma.specs.declared.EpfSigma.{EpfSigma}
 use Rattle.passes.specs.declared.Settings.{Settings}
 use Rattle.passes.specs.Pass.{Pass, gaborLike, reach, reaches}
-use Rattle.passes.specs.Plan.{margin, oneIf, plan, scaleOf, step, stepMargin, stepOf, steps}
+use Rattle.passes.specs.Plan.{gaborAt, margin, oneIf, plan, scaleOf, step, stepIndex, stepMargin, stepOf, steps}
 
 -- ---- laws
 
@@ -63,14 +63,6 @@ plan-length n s = go (s .gabor .enabled)
     go false = omega (arith, length-steps n s (s .epf .iters))
 
 -- ---- which pass is at a place
-
--- Gabor, if on, comes first
-unfoldable pub gaborAt : Settings → ℕ → Bool
-gaborAt s p = s .gabor .enabled && eqb p 0
-
--- the step of a pass that is not Gabor's; a pass past the last has step 2
-unfoldable pub stepIndex : Settings → ℕ → ℕ
-stepIndex s p = min (p + oneIf (ltb (s .epf .iters) 3) - oneIf (s .gabor .enabled)) 2
 
 and-true : (a b : Bool) → (a && b) ≡ true → (a ≡ true) × (b ≡ true)
 and-true true b e = (refl, e)

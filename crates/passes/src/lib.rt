@@ -5,8 +5,7 @@ use gabor_header::Gabor;
 ghost use mathlib.Core.Path.{_≡_};
 ghost use Prim.Native.Nat.{_≤_};
 ghost use lib.ListN.{length};
-ghost use Rattle.passes.specs.Plan.{plan, oneIf, stepMargin, margin, scaleOf, stepOf};
-ghost use Rattle.passes.specs.PlanLaws.{gaborAt, stepIndex};
+ghost use Rattle.passes.specs.Plan.{plan, oneIf, stepMargin, margin, scaleOf, stepOf, gaborAt, stepIndex};
 
 // The edge-preserving filter: it is on where there are iterations.
 #[repr(C)]

@@ -30,13 +30,13 @@ started s = record { setup = s; pass = 0; done = replicate 256 false }
 unfoldable pub marked : Run → ℕ → Run
 marked r k = record { setup = r .setup; pass = r .pass; done = set (r .done) k true }
 
--- after an accepted advance
+-- after an accepted advance, a term of document 01's own: the next pass, with no band done
 unfoldable pub advanced : Run → Run
 advanced r = record { setup = r .setup; pass = suc (r .pass); done = replicate 256 false }
 
 -- ---- what a call asks of it
 
--- all passes are over
+-- finished, a term of document 01's own: all passes are over
 abbrev pub finished : Run → Bool
 finished r = eqb (r .pass) (passCount (r .setup))
 

@@ -17,13 +17,13 @@ use Rattle.planes.specs.Stored.{and-first, and-second}
 use Rattle.layout.specs.Outcome.{layoutOf, passChecks, PassOutcome, passOutcome}
 use Rattle.gabor.specs.Outcome.{gaborOutcome}
 use Rattle.tiles.specs.Blocks.{across, down}
-use Rattle.epf.specs.Blocks.{onBlock, onBlocks}
+use Rattle.placement.specs.Blocks.{onBlock, onBlocks}
 use Rattle.epf.specs.declared.EpfStep.{EpfStep}
 use Rattle.epf.specs.Outcome.{stepChecks, epfChecks, epfOutcome}
 use Rattle.passes.specs.declared.Settings.{Settings}
 use Rattle.passes.specs.Pass.{gaborLike, pass}
-use Rattle.passes.specs.Plan.{stepOf, oneIf}
-use Rattle.passes.specs.PlanLaws.{gaborAt, stepIndex, plan-length, plan-gabor, plan-step}
+use Rattle.passes.specs.Plan.{stepOf, oneIf, gaborAt, stepIndex}
+use Rattle.passes.specs.PlanLaws.{plan-length, plan-gabor, plan-step}
 use Rattle.record.specs.declared.Setup.{Setup}
 use Rattle.record.specs.declared.Run.{Run}
 use Rattle.record.specs.Setup.{layout, epfOn, area, rowCount, setLength, sigmaLength}

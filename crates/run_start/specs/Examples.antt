@@ -13,7 +13,8 @@ use Rattle.layout.specs.Outcome.{layoutOf}
 use Rattle.frame.specs.Sizes.{sizesOf}
 use Rattle.grids.specs.Table.{badGrid, cells, gridStart, lacks, someBelow}
 use Rattle.groups.specs.Held.{notHeld, someNotHeld}
-use Rattle.groups.specs.Outcome.{badSides, badSettings, tableFits, gridsFit}
+use Rattle.frame.specs.Outcome.{badSides, badSettings}
+use Rattle.groups.specs.Outcome.{tableFits, gridsFit}
 use Rattle.record.specs.declared.Setup.{Setup}
 use Rattle.record.specs.Setup.{bandCount}
 use Rattle.runs.specs.Start.{Handed, noSetup, pictureChecks, startNumber}

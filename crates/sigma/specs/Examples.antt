@@ -11,7 +11,8 @@ use Rattle.frame.specs.Sizes.{sizesOf}
 use Rattle.blocks.specs.declared.Blocks.{Blocks}
 use Rattle.grids.specs.Table.{badGrid, cells, gridStart, lacks, someBelow}
 use Rattle.groups.specs.Held.{notHeld, someNotHeld}
-use Rattle.groups.specs.Outcome.{badSides, badSettings, tableFits, gridsFit, sigmaNumber}
+use Rattle.frame.specs.Outcome.{badSides, badSettings}
+use Rattle.groups.specs.Outcome.{tableFits, gridsFit, sigmaNumber}
 use Rattle.blocks.specs.Measures.{badBlocks}
 use Rattle.sigma.specs.Sigma.{sigmaIn, sigmaOf, aboveAt, sigmaAt, blockSigmas}
 

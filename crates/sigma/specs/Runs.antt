@@ -24,7 +24,8 @@ use Rattle.frame.specs.Outcome.{frameOutcome}
 use Rattle.blocks.specs.declared.Blocks.{Blocks}
 use Rattle.sigma.specs.declared.Run.{Run}
 use Rattle.grids.specs.Table.{presence, gridWidth, gridHeight, gridStart, badGrid, someBelow}
-use Rattle.blocks.specs.Measures.{across, down, Measured, across-le}
+use Rattle.blocks.specs.Measures.{across, down}
+use Rattle.blocks.specs.Laws.{Measured, across-le}
 use Rattle.groups.specs.Held.{groupAt, notHeld, someNotHeld}
 use Rattle.sigma.specs.Sigma.{missing, sigmaIn, sigmaOf, aboveAt, sigmaAt, blockSigmas}
 use Rattle.groups.specs.Laws.{TableOf, entry-lt, entries-le, Held, held, Accepted}

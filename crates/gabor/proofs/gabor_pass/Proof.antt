@@ -6,7 +6,7 @@ use borrow.Author.Tests.{not-true, not-false}
 use denote.Ref.{now}
 use lib.ListN.{length}
 use Rattle.planes.specs.Band.{setFits, rowsFit}
-use Rattle.gabor.specs.Outcome.{outcome-placed, outcome-source, outcome-target, outcome-rows, outcome-fits, outcome-sides, outcome-passed}
+use Rattle.gabor.specs.Fits.{outcome-placed, outcome-source, outcome-target, outcome-rows, outcome-fits, outcome-sides, outcome-passed}
 use Rattle.gabor.proofs.gabor_pass.Statement.{statement}
 use Rattle.gabor.proofs.gabor_pass.Tie as tie
 

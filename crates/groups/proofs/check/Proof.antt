@@ -12,9 +12,10 @@ use Rattle.frame.specs.declared.Frame.{Frame}
 use Rattle.frame.specs.declared.FrameAnswer.{FrameAnswer}
 use Rattle.frame.specs.Laws.{frame-sizes}
 use Rattle.blocks.specs.declared.Blocks.{Blocks}
-use Rattle.groups.specs.Outcome.{badSides, badSettings}
-use Rattle.blocks.specs.Measures.{badBlocks, measured}
-use Rattle.groups.specs.Laws.{frame-is, sides-bad, sides-fit, settings-bad, settings-fit}
+use Rattle.frame.specs.Outcome.{badSides, badSettings}
+use Rattle.blocks.specs.Measures.{badBlocks}
+use Rattle.blocks.specs.Laws.{measured}
+use Rattle.groups.specs.Laws.{sides-bad, sides-fit, settings-bad, settings-fit}
 use Rattle.groups.proofs.Number as number
 use Rattle.groups.proofs.check.Statement.{statement}
 use Rattle.groups.proofs.check.Tie as tie
@@ -41,7 +42,7 @@ module _ (c : tie.After-group-sizes) where
 
   -- the number that the frame gets
   number-is : c .group-sizes .result .number ≡ cond (badSides (f start)) outOfMeasure (cond (badSettings (f start)) outOfRange accepted)
-  number-is = ap (λ (a : FrameAnswer). a .number) (c .group-sizes .ensures) ∙ frame-is (f start)
+  number-is = ap (λ (a : FrameAnswer). a .number) (c .group-sizes .ensures)
 
 returns : tie.Need-returns
 returns c =

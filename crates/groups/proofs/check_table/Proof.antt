@@ -13,14 +13,14 @@ use lib.Ieee.{Float}
 use Rattle.frame.specs.declared.Frame.{Frame}
 use Rattle.frame.specs.declared.GroupSizes.{GroupSizes}
 use Rattle.frame.specs.Sizes.{sizesOf}
-use Rattle.frame.specs.Laws.{sizes-bounded}
+use Rattle.frame.specs.Laws.{fitting-sound, sizes-bounded}
 use Rattle.blocks.specs.declared.Blocks.{Blocks}
 use Rattle.grids.specs.declared.StartAnswer.{StartAnswer}
 use Rattle.grids.specs.Laws.{start-inside, refused-bad, passed-good}
 use Rattle.grids.specs.Table.{someBelow, badGrid, badPresence, gridStart}
 use Rattle.groups.specs.Outcome.{tableFits, someGroup, gridsFit, sigmaCount}
-use Rattle.groups.specs.Laws.{TableOf, fitting-sound}
-use Rattle.blocks.specs.Measures.{Measured, measured}
+use Rattle.groups.specs.Laws.{TableOf}
+use Rattle.blocks.specs.Laws.{Measured, measured}
 use Rattle.groups.proofs.Number as number
 use Rattle.groups.proofs.check_table.Statement.{statement}
 use Rattle.groups.proofs.check_table.Tie as tie

@@ -5,7 +5,8 @@ use Prim.Native.Nat.{_*_, _≤_}
 use borrow.Author.Tests.{not-true, not-false}
 use borrow.Author.Needs.{needs}
 use native.Mathlib.Omega.{arith}
-use Rattle.blocks.specs.Measures.{across, down, count-le}
+use Rattle.blocks.specs.Measures.{across, down}
+use Rattle.blocks.specs.Laws.{count-le}
 use Rattle.groups.proofs.sigma_count.Statement.{statement}
 use Rattle.groups.proofs.sigma_count.Tie as tie
 

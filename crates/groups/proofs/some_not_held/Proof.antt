@@ -6,7 +6,7 @@ use borrow.Author.Needs.{needs}
 use native.Mathlib.Omega.{arith}
 use Rattle.grids.specs.Table.{someBelow}
 use Rattle.groups.specs.Held.{notHeld, someNotHeld}
-use Rattle.blocks.specs.Measures.{across-le}
+use Rattle.blocks.specs.Laws.{across-le}
 use Rattle.grids.specs.Laws.{some-found, some-turn, some-end}
 use Rattle.groups.proofs.some_not_held.Statement.{statement}
 use Rattle.groups.proofs.some_not_held.Tie as tie

@@ -1,7 +1,7 @@
 -- `passes::gabor_at` meets its contract. Assumes nothing.
 use mathlib.Core.Path.{_≡_}
 use mathlib.Core.Bool.{true, false}
-use Rattle.passes.specs.PlanLaws.{gaborAt}
+use Rattle.passes.specs.Plan.{gaborAt}
 use Rattle.passes.proofs.gabor_at.Statement.{statement}
 use Rattle.passes.proofs.gabor_at.Tie as tie
 

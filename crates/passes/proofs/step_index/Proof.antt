@@ -1,7 +1,7 @@
 -- `passes::step_index` meets its contract. Assumes nothing.
 use borrow.Author.Needs.{needs}
 use native.Mathlib.Omega.{arith}
-use Rattle.passes.specs.PlanLaws.{stepIndex}
+use Rattle.passes.specs.Plan.{stepIndex}
 use Rattle.passes.proofs.step_index.Statement.{statement}
 use Rattle.passes.proofs.step_index.Tie as tie
 
