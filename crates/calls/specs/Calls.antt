@@ -45,7 +45,7 @@ module _ (n : ℕ) (K : Calls n) where
   end t [] = t
   end t (c ∷ cs) = end (next t c) cs
 
-  -- nobody altered anything: each accepted call was lent what the accepted calls before it left; a refused one may be lent anything
+  -- nobody altered anything (document 01's own term): each accepted call was lent what the accepted calls before it left; a refused one may be lent anything
   abbrev pub Unaltered : State → List (K .Call) → Type 0
   Unaltered t [] = Unit {0}
   Unaltered t (c ∷ cs) = (K .number c ≡ 0 → K .Lent t c) × Unaltered (next t c) cs

@@ -26,7 +26,7 @@ module _ (n : ℕ) (h : Handed) where
   abbrev pub input : Picture
   input = inner (layout (h .setup)) (startLeaves n h)
 
-  -- demand 2's samples: that through all passes
+  -- demand 2's samples, a term of document 01's own: that through all passes
   abbrev pub smoothed : Picture
   smoothed = passes (area (h .setup) (sigmasFilled n h)) (plan n (h .setup .settings)) input
 
