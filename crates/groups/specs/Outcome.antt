@@ -41,21 +41,44 @@ gridsFit f t grids = eqb (length grids) (gridStart t (sizesOf f .«num_groups»)
 abbrev pub sigmaCount : Bool → Blocks → ℕ
 sigmaCount on b = cond on (down b * across b) 0
 
+-- ---- checks of a frame with its group table and grids, each with what it needs
+
+-- frame sides, and sides of present grids
+abbrev pub frameSides : Frame → Check
+frameSides f = always outOfMeasure (badSides f)
+
+abbrev pub gridSides : Frame → List ℕ → Check
+gridSides f t = given (tableRead f t) outOfMeasure (someGroup f (badGrid t))
+
+-- lengths of the table and of the grids; a group whose presence is out of range hides the latter
+abbrev pub tableLength : Frame → List ℕ → Check
+tableLength f t = given (frameFits f) wrongLength (not (tableFits f t))
+
+abbrev pub gridsLength : Frame → List ℕ → List Float → Check
+gridsLength f t grids = given (tableRead f t && not (someGroup f (badPresence t))) wrongLength (not (gridsFit f t grids))
+
+-- the frame's settings, and presences
+abbrev pub frameSettings : Frame → Check
+frameSettings f = always outOfRange (badSettings f)
+
+abbrev pub presences : Frame → List ℕ → Check
+presences f t = given (tableRead f t) outOfRange (someGroup f (badPresence t))
+
 -- ---- the table of checks
 
 -- Document 01, "Eleven numbers", "Measures" and "Block sigmas", ascending. With the edge filter off all is checked but 8.
 -- A group whose presence is out of range counts as not present: its sides are passed over, and so is 8 for its grid.
 abbrev pub sigmaChecks : Bool → Frame → Blocks → List ℕ → List Float → ℕ → List Check
 sigmaChecks on f b t grids sigmas =
-    always outOfMeasure (badSides f)
+    frameSides f
     ∷ always outOfMeasure (badBlocks b)
-    ∷ given (tableRead f t) outOfMeasure (someGroup f (badGrid t))
-    ∷ given (frameFits f) wrongLength (not (tableFits f t))
-    ∷ given (tableRead f t && not (someGroup f (badPresence t))) wrongLength (not (gridsFit f t grids))
+    ∷ gridSides f t
+    ∷ tableLength f t
+    ∷ gridsLength f t grids
     ∷ given (not (badBlocks b)) wrongLength (not (eqb sigmas (sigmaCount on b)))
     ∷ given (tableRead f t && not (badBlocks b) && on) blockNotHeld (someNotHeld f b t)
-    ∷ always outOfRange (badSettings f)
-    ∷ given (tableRead f t) outOfRange (someGroup f (badPresence t))
+    ∷ frameSettings f
+    ∷ presences f t
     ∷ []
 
 -- the number of the first check that applies

@@ -24,7 +24,7 @@ use Rattle.grids.specs.Table.{badPresence, badGrid}
 use Rattle.blocks.specs.Measures.{across, down, badBlocks}
 use Rattle.groups.specs.Held.{someNotHeld}
 use Rattle.frame.specs.Outcome.{badSides, badSettings}
-use Rattle.groups.specs.Outcome.{frameFits, tableFits, tableRead, someGroup, gridsFit, sigmaChecks, sigmaNumber}
+use Rattle.groups.specs.Outcome.{frameFits, tableFits, tableRead, someGroup, gridsFit, frameSides, gridSides, tableLength, gridsLength, frameSettings, presences, sigmaChecks, sigmaNumber}
 use Rattle.sigma.specs.Outcome.{SigmasOutcome, leftIn, sigmasOutcome}
 use Rattle.placement.specs.Blocks.{ahead, onBlocks}
 use Rattle.placement.specs.BlockLaws.{ahead-small}
@@ -116,14 +116,14 @@ module _ (n : ℕ) (h : Handed) where
 
   abbrev groupRows : List Check
   groupRows =
-      always outOfMeasure (badSides f)
-      ∷ given (tableRead f t) outOfMeasure (someGroup f (badGrid t))
-      ∷ given (frameFits f) wrongLength (not (tableFits f t))
-      ∷ given (tableRead f t && not (someGroup f (badPresence t))) wrongLength (not (gridsFit f t (h .grids)))
+      frameSides f
+      ∷ gridSides f t
+      ∷ tableLength f t
+      ∷ gridsLength f t (h .grids)
       ∷ given (itersFit s) wrongLength (not (eqb (length (h .sigmas)) (sigmaLength s)))
       ∷ given (runsEpf s && tableRead f t) blockNotHeld (someNotHeld f (blocksOf s) t)
-      ∷ always outOfRange (badSettings f)
-      ∷ given (tableRead f t) outOfRange (someGroup f (badPresence t))
+      ∷ frameSettings f
+      ∷ presences f t
       ∷ []
 
   -- all but these: where the regions lie, then `ownRows`

@@ -12,10 +12,8 @@ use Rattle.region.specs.Measures.{pictured}
 use Rattle.planes.specs.Samples.{b0}
 use Rattle.frame.specs.declared.Frame.{Frame}
 use Rattle.blocks.specs.declared.Blocks.{Blocks}
-use Rattle.grids.specs.Table.{badPresence, badGrid}
 use Rattle.groups.specs.Held.{someNotHeld}
-use Rattle.frame.specs.Outcome.{badSides, badSettings}
-use Rattle.groups.specs.Outcome.{frameFits, tableFits, tableRead, someGroup, gridsFit}
+use Rattle.groups.specs.Outcome.{tableRead, frameSides, gridSides, tableLength, gridsLength, frameSettings, presences}
 use Rattle.sigma.specs.Sigma.{blockSigmas}
 use Rattle.placement.specs.Blocks.{ahead, onBlocks}
 use Rattle.record.specs.declared.Setup.{Setup}
@@ -46,26 +44,22 @@ module _ (n : ℕ) (h : Handed) where
   abbrev runsEpf : Bool
   runsEpf = itersFit setup && epfOn setup
 
-  -- the group table's entries may be read, and each presence is 0 or 1
-  abbrev presencesFit : Bool
-  presencesFit = tableRead (h .frame) (h .table) && not (someGroup (h .frame) (badPresence (h .table)))
-
   -- Document 01's numbers 4 to 9, ascending: each check with the settings that it needs. A group whose presence is out of range counts as not present.
   unfoldable pub pictureChecks : List Check
   pictureChecks =
       always outOfMeasure (not (pictured (setup .image) && pictured (setup .filter)))
-      ∷ always outOfMeasure (badSides (h .frame))
-      ∷ given (tableRead (h .frame) (h .table)) outOfMeasure (someGroup (h .frame) (badGrid (h .table)))
+      ∷ frameSides (h .frame)
+      ∷ gridSides (h .frame) (h .table)
       ∷ always notInside (not (inside (setup .image) (setup .filter)))
       ∷ given runsEpf notOnBlocks (not (onBlocks (setup .filter)))
       ∷ always wrongLength (not (eqb (length (h .first)) (setLength n setup) && eqb (length (h .second)) (setLength n setup)))
-      ∷ given (frameFits (h .frame)) wrongLength (not (tableFits (h .frame) (h .table)))
-      ∷ given presencesFit wrongLength (not (gridsFit (h .frame) (h .table) (h .grids)))
+      ∷ tableLength (h .frame) (h .table)
+      ∷ gridsLength (h .frame) (h .table) (h .grids)
       ∷ given (itersFit setup) wrongLength (not (eqb (length (h .sigmas)) (sigmaLength setup)))
       ∷ given (runsEpf && tableRead (h .frame) (h .table)) blockNotHeld (someNotHeld (h .frame) (blocksOf setup) (h .table))
       ∷ always outOfRange (not (itersFit setup))
-      ∷ always outOfRange (badSettings (h .frame))
-      ∷ given (tableRead (h .frame) (h .table)) outOfRange (someGroup (h .frame) (badPresence (h .table)))
+      ∷ frameSettings (h .frame)
+      ∷ presences (h .frame) (h .table)
       ∷ always outOfRange (not (heightFits setup))
       ∷ given (heightFits setup) outOfRange (not (countFits setup))
       ∷ []
