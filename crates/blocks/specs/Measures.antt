@@ -6,17 +6,17 @@ use native.Mathlib.Nat.{mul-le-mul}
 use native.Mathlib.Omega.{arith}
 use borrow.Author.Tests.{ltb-false}
 use lib.Dec.{ltb}
-use Rattle.frame.specs.Sizes.{dividedUp}
+use Rattle.frame.specs.Sizes.{blocksAlong}
 use Rattle.frame.specs.Outcome.{badSide}
 use Rattle.grids.specs.Laws.{neither, side-range}
 use Rattle.blocks.specs.declared.Blocks.{Blocks}
 
--- a block is 8 by 8 samples: blocks across and down the filter region
+-- blocks across and down the filter region
 abbrev pub across : Blocks → ℕ
-across b = dividedUp (b .width) 8
+across b = blocksAlong (b .width)
 
 abbrev pub down : Blocks → ℕ
-down b = dividedUp (b .height) 8
+down b = blocksAlong (b .height)
 
 -- a filter region with a side outside 1 to 16,384, an area over 16,777,216, or a left or top over 1,048,576, which is 131,072 blocks
 unfoldable pub badBlocks : Blocks → Bool

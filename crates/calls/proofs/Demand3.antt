@@ -8,7 +8,7 @@ use lib.IntN.{ℤ, pos, natAbs, _+ℤ_, _-ℤ_}
 use Rattle.mirror.specs.Cut.{Deep}
 use Rattle.region.specs.declared.Region.{Region}
 use Rattle.region.specs.Regions.{columns, rows, Holds}
-use Rattle.epf.specs.Blocks.{onBlock}
+use Rattle.placement.specs.Blocks.{onBlock}
 use Rattle.passes.specs.Pass.{Area, passes}
 use Rattle.passes.specs.Cut.{Fits, SameBlocks, SomeStep, cut-same, plan-sound, plan-some-step}
 use Rattle.passes.specs.Plan.{plan, margin}

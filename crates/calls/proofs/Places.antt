@@ -12,7 +12,7 @@ use Rattle.interval.specs.Order.{above, below, le-to, le-of, lt-to, lt-of, sum-
 use Rattle.mirror.specs.Cut.{Deep}
 use Rattle.region.specs.declared.Region.{Region}
 use Rattle.region.specs.Regions.{columns, rows, inside}
-use Rattle.epf.specs.Blocks.{onBlock, ahead as notNegative}
+use Rattle.placement.specs.Blocks.{onBlock, ahead as notNegative}
 
 -- ---- one axis: n places from a on
 

@@ -95,15 +95,6 @@ tap-is (suc s) (suc (suc (suc (suc q)))) h = absurd (omega arith)
 
 -- ---- the steps told apart
 
-pub kernel-first : (s : ℕ) → s ≡ 0 → 12 ≡ length (kernel s)
-unfolding kernel
-kernel-first s e = rw e
-
-pub kernel-other : (s : ℕ) → (s ≡ 0 → ⊥) → 4 ≡ length (kernel s)
-unfolding kernel
-kernel-other zero h = absurd (h refl)
-kernel-other (suc s) h = refl
-
 pub half-other : (s : ℕ) → (s ≡ 0 → ⊥) → 2 ≡ half s
 half-other zero h = absurd (h refl)
 half-other (suc s) h = refl

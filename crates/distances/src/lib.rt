@@ -7,7 +7,7 @@ ghost use lib.ListN.{length, getD};
 ghost use lib.Ieee.{nan};
 ghost use Rattle.planes.specs.Samples.{_⊕_, _⊗_, b0};
 ghost use Rattle.planes.specs.Fill.{fill};
-ghost use Rattle.weights.specs.Steps.{kernel, scaled};
+ghost use Rattle.weights.specs.Steps.{scaled};
 ghost use Rattle.distances.specs.Seen.{nearby as nearbyOf, apartBy};
 ghost use Rattle.distances.specs.Taps.{half as halfOf, shift as shiftOf, fieldOf, tapOf};
 ghost use Rattle.distances.specs.Fields.{distAt, fieldsFill, distancesOf};
@@ -27,13 +27,6 @@ const ROWS: usize = 8;
 pub struct Tap {
     pub place: usize,
     pub start: usize,
-}
-
-// How many neighbours a step has.
-pub fn kernel_len(step: usize) -> usize
-    ensures { λ r. ⌜ r ≡ length (kernel step) ⌝ }
-{
-    if step == 0 { 12 } else { 4 }
 }
 
 // How many fields it has.

@@ -26,7 +26,7 @@ use Rattle.layout.specs.Fits.{Accepted, layout-accepted, placed-or, then, answe
 use Rattle.tiles.specs.Blocks.{across, down}
 use Rattle.tiles.specs.Region.{BlocksRoom, blocks-room}
 use Rattle.epf.specs.declared.EpfStep.{EpfStep}
-use Rattle.epf.specs.Blocks.{ahead, onBlock, onBlocks}
+use Rattle.placement.specs.Blocks.{ahead, onBlocks}
 use Rattle.epf.specs.Outcome.{epfOver, stepChecks, epfChecks, epfOutcome}
 
 -- ---- the tests of a placed filter region
@@ -38,35 +38,31 @@ module _ (n : ℕ) (l : Layout) (filter : Region) (step from to sigmas src dst :
   abbrev Number : ℕ → Type 0
   Number k = k ≡ firstOf (stepChecks n l filter step from to sigmas src dst)
 
-  pub no-left : onBlock (filter .left) ≡ false → Number notOnBlocks
+  pub off-blocks : onBlocks filter ≡ false → Number notOnBlocks
   unfolding stepChecks
-  no-left e = rw e
+  off-blocks e = rw e
 
-  pub no-top : onBlock (filter .top) ≡ false → Number notOnBlocks
-  unfolding stepChecks
-  no-top e = simp (e, and-false)
-
-  module _ (a : onBlock (filter .left) ≡ true) (b : onBlock (filter .top) ≡ true) where
+  module _ (a : onBlocks filter ≡ true) where
     pub no-source : (src ≡ size → ⊥) → Number wrongLength
     unfolding stepChecks
-    no-source h = rw (a, b, ne-eqb src size h)
+    no-source h = rw (a, ne-eqb src size h)
 
     pub no-target : (dst ≡ size → ⊥) → Number wrongLength
     unfolding stepChecks
-    no-target h = simp (a, b, ne-eqb dst size h, and-false)
+    no-target h = simp (a, ne-eqb dst size h, and-false)
 
     pub no-sigmas : (sigmas ≡ down l * across l → ⊥) → Number wrongLength
     unfolding stepChecks
-    no-sigmas h = simp (a, b, ne-eqb sigmas (down l * across l) h, and-false)
+    no-sigmas h = simp (a, ne-eqb sigmas (down l * across l) h, and-false)
 
     module _ (s : src ≡ size) (t : dst ≡ size) (u : sigmas ≡ down l * across l) where
       pub no-step : 2 < step → Number outOfRange
       unfolding stepChecks
-      no-step h = rw (a, b, eq-eqb src size s, eq-eqb dst size t, eq-eqb sigmas (down l * across l) u, lt-ltb 2 step h)
+      no-step h = rw (a, eq-eqb src size s, eq-eqb dst size t, eq-eqb sigmas (down l * across l) u, lt-ltb 2 step h)
 
       pub no-rows : rowsFit l from to ≡ false → Number outOfRange
       unfolding stepChecks
-      no-rows h = rw (a, b, eq-eqb src size s, eq-eqb dst size t, eq-eqb sigmas (down l * across l) u, h) (go (ltb 2 step))
+      no-rows h = rw (a, eq-eqb src size s, eq-eqb dst size t, eq-eqb sigmas (down l * across l) u, h) (go (ltb 2 step))
         where
           go : (k : Bool) → outOfRange ≡ cond (true && k) outOfRange outOfRange
           go true = refl
@@ -74,7 +70,7 @@ module _ (n : ℕ) (l : Layout) (filter : Region) (step from to sigmas src dst :
 
       pub all-held : step ≤ 2 → rowsFit l from to ≡ true → Number 0
       unfolding stepChecks
-      all-held h r = rw (a, b, eq-eqb src size s, eq-eqb dst size t, eq-eqb sigmas (down l * across l) u, le-ltb 2 step h, r)
+      all-held h r = rw (a, eq-eqb src size s, eq-eqb dst size t, eq-eqb sigmas (down l * across l) u, le-ltb 2 step h, r)
 
 -- what the number 0 says
 zero-is : (a b c d : Bool) → cond (true && not a) notOnBlocks (cond (true && not b) wrongLength (cond (true && c) outOfRange (cond (true && not d) outOfRange 0))) ≡ 0 → (a ≡ true) × (b ≡ true) × (c ≡ false) × (d ≡ true)

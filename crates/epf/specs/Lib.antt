@@ -1,4 +1,2 @@
-pub mod Blocks
-pub mod BlockLaws
 pub mod Outcome
 pub mod Fits

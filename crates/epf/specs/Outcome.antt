@@ -16,7 +16,7 @@ use Rattle.layout.specs.Outcome.{layoutOf, PassOutcome, passOutcome}
 use Rattle.weights.specs.Steps.{scaled, standardLimit, EpfPass, epfPass}
 use Rattle.tiles.specs.Blocks.{across, sigmaOf, down}
 use Rattle.epf.specs.declared.EpfStep.{EpfStep}
-use Rattle.epf.specs.Blocks.{ahead, onBlocks}
+use Rattle.placement.specs.Blocks.{ahead, onBlocks}
 
 -- the settings that a step reads: n planes, and the copying limit of document 01
 abbrev pub settingsOf : ℕ → EpfStep → EpfPass

@@ -5,6 +5,8 @@ use numbers::NOT_ON_BLOCKS;
 use numbers::OUT_OF_RANGE;
 use numbers::WRONG_LENGTH;
 use outside::copy_outside;
+use placement::ahead;
+use placement::on_blocks;
 use planes::Layout;
 use planes::filter_row;
 use planes::rows_fit;
@@ -21,7 +23,6 @@ ghost use Rattle.layout.specs.Outcome.{PassOutcome};
 ghost use Rattle.weights.specs.Steps.{standardLimit};
 ghost use Rattle.tiles.specs.Tile.{stepOver};
 ghost use Rattle.tiles.specs.Region.{RegionFits};
-ghost use Rattle.epf.specs.Blocks.{ahead as aheadOf, onBlock, onBlocks};
 ghost use Rattle.epf.specs.Outcome.{stepChecks, epfOutcome};
 
 const PLANES: usize = 3;
@@ -42,36 +43,6 @@ pub struct EpfStep {
     pub border_sad_mul: f32,
 }
 
-// A left or a top that is not negative.
-pub fn ahead(z: i32) -> usize
-    ensures { λ r. ⌜ (r ≡ aheadOf z) × (r ≤ 4294967296) ⌝ }
-{
-    if z < 0 {
-        return 0;
-    }
-    z as usize
-}
-
-// Whether a left or a top is not negative and a multiple of 8.
-fn on_block(z: i32) -> bool
-    ensures { λ r. ⌜ r ≡ onBlock z ⌝ }
-{
-    if z < 0 {
-        return false;
-    }
-    ahead(z) % 8 == 0
-}
-
-// Whether a region starts at multiples of 8.
-pub fn on_blocks(r: Region) -> bool
-    ensures { λ b. ⌜ b ≡ onBlocks r ⌝ }
-{
-    if !on_block(r.left) {
-        return false;
-    }
-    on_block(r.top)
-}
-
 // Which number the corner, the lengths, the step and the rows give.
 fn judged(
     l: Layout,
@@ -86,10 +57,7 @@ fn judged(
     requires { ⌜ LayoutFits l ⌝ }
     ensures { λ r. ⌜ r ≡ firstOf (stepChecks 3 l filter step from to sigmas src dst) ⌝ }
 {
-    if !on_block(filter.left) {
-        return NOT_ON_BLOCKS;
-    }
-    if !on_block(filter.top) {
+    if !on_blocks(filter) {
         return NOT_ON_BLOCKS;
     }
     let size = PLANES * l.image.height * l.image.width;

@@ -8,6 +8,10 @@ use Rattle.frame.specs.declared.GroupSizes.{GroupSizes}
 abbrev pub dividedUp : ℕ → ℕ → ℕ
 dividedUp a b = (a + (b - 1)) / b
 
+-- blocks along a side: a block is 8 by 8 samples
+abbrev pub blocksAlong : ℕ → ℕ
+blocksAlong side = dividedUp side 8
+
 -- a frame side divided by upsampling, rounded up, then by 8 to the power of the LF level, rounded up
 abbrev pub sampleSide : ℕ → ℕ → ℕ → ℕ
 sampleSide side upsampling level = dividedUp (dividedUp side upsampling) (8 ^ level)

@@ -1,8 +1,8 @@
 // Weighted sums of a tile of an edge-preserving step, 56 lanes of a row at a time: from fields of distances, slopes and windows.
 // A tile has at most three planes of eight rows of 64 columns. Each loop goes along a row, so that it becomes vector code.
-use distances::kernel_len;
 use distances::neighbour;
 use weights::at_border;
+use weights::kernel_len;
 use weights::weight;
 ghost use mathlib.Core.Path.{_≡_};
 ghost use Prim.Native.Nat.{ℕ, _+_, _-_, _*_, _%_, _<_, _≤_};

@@ -1,1 +1,3 @@
 pub mod Placed
+pub mod Blocks
+pub mod BlockLaws

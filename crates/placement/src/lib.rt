@@ -1,4 +1,4 @@
-// Where a filter region lies in an image region.
+// Where a filter region lies in an image region, and whether it starts at multiples of 8.
 use numbers::ACCEPTED;
 use numbers::NOT_INSIDE;
 use numbers::OUT_OF_MEASURE;
@@ -6,7 +6,9 @@ use region::Region;
 use region::measured;
 ghost use mathlib.Core.Path.{_≡_};
 ghost use Rattle.region.specs.Measures.{pictured, areaFits};
+ghost use Prim.Native.Nat.{_≤_};
 ghost use Rattle.placement.specs.Placed.{placedOutcome};
+ghost use Rattle.placement.specs.Blocks.{ahead as aheadOf, onBlock, onBlocks};
 
 // Columns and rows from the image's corner.
 #[repr(C)]
@@ -17,6 +19,8 @@ pub struct PlacedAnswer {
 }
 
 const LARGEST_AREA: u64 = 16_777_216;
+
+const BLOCK: usize = 8;
 
 fn area_fits(width: u32, height: u32) -> bool
     ensures { λ b. ⌜ b ≡ areaFits width height ⌝ }
@@ -64,4 +68,34 @@ pub fn placed(image: Region, filter: Region) -> PlacedAnswer
         x: axis::offset(image.left, filter.left),
         y: axis::offset(image.top, filter.top),
     }
+}
+
+// A left or a top that is not negative.
+pub fn ahead(z: i32) -> usize
+    ensures { λ r. ⌜ (r ≡ aheadOf z) × (r ≤ 4294967296) ⌝ }
+{
+    if z < 0 {
+        return 0;
+    }
+    z as usize
+}
+
+// Whether a left or a top is not negative and a multiple of 8.
+fn on_block(z: i32) -> bool
+    ensures { λ r. ⌜ r ≡ onBlock z ⌝ }
+{
+    if z < 0 {
+        return false;
+    }
+    ahead(z) % BLOCK == 0
+}
+
+// Whether a region starts at multiples of 8.
+pub fn on_blocks(r: Region) -> bool
+    ensures { λ b. ⌜ b ≡ onBlocks r ⌝ }
+{
+    if !on_block(r.left) {
+        return false;
+    }
+    on_block(r.top)
 }

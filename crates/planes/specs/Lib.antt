@@ -10,3 +10,4 @@ pub mod Outside
 pub mod Stored
 pub mod Loop
 pub mod Room
+pub mod Copy

@@ -1,7 +1,11 @@
 // Planes row after row without gaps, one after the other: where a filter region lies in them, and which sets and rows there are.
 ghost use mathlib.Core.Path.{_≡_};
-ghost use Prim.Native.Nat.{_+_};
+ghost use Prim.Native.Nat.{ℕ, _+_, _≤_};
 ghost use lib.Dec.{leb};
+ghost use lib.ListN.{length, getD};
+ghost use lib.Ieee.{nan};
+ghost use Rattle.planes.specs.Fill.{fill};
+ghost use Rattle.planes.specs.Copy.{copiedRun};
 ghost use Rattle.planes.specs.Band.{layoutFits, setFits, rowsFit, filterRow};
 
 // The longest side of an image region, and the most planes of a set.
@@ -88,4 +92,28 @@ pub fn filter_row(l: Layout, y: usize) -> usize
     }
     let row = y - l.top;
     if row <= l.height { row } else { l.height }
+}
+
+fn copy_samples(dst: &mut [f32], at: usize, src: &[f32], from: usize, n: usize)
+    requires { ⌜ (at + n ≤ length (now dst)) × (from + n ≤ length (now src)) ⌝ }
+    ensures { λ _. ⌜ now (dst .exit) ≡ fill (now (dst .entry)) at n (λ (i : ℕ). getD (now (src .entry)) (from + i) nan) ⌝ }
+{
+    let mut i = 0;
+    while i < n {
+        dst[at + i] = src[from + i];
+        i += 1;
+    }
+}
+
+// Copies n samples from index `from` of `src` to index `at` of `dst`. Nothing where either slice has no such run.
+pub fn copy_run(dst: &mut [f32], at: usize, src: &[f32], from: usize, n: usize)
+    ensures { λ _. ⌜ now (dst .exit) ≡ copiedRun (now (dst .entry)) at (now (src .entry)) from n ⌝ }
+{
+    if !inside(at, n, dst.len()) {
+        return;
+    }
+    if !inside(from, n, src.len()) {
+        return;
+    }
+    copy_samples(dst, at, src, from, n);
 }

@@ -18,7 +18,7 @@ use Rattle.placement.specs.Placed.{placedChecks, placed-inside}
 use Rattle.layout.specs.Fits.{Accepted, layout-accepted}
 use Rattle.grids.specs.Table.{someBelow}
 use Rattle.grids.specs.Laws.{neither, none-below}
-use Rattle.epf.specs.Blocks.{onBlocks}
+use Rattle.placement.specs.Blocks.{onBlocks}
 use Rattle.record.specs.declared.Setup.{Setup}
 use Rattle.record.specs.declared.Run.{Run}
 use Rattle.record.specs.Tables.{is-true, of-true}

@@ -11,7 +11,7 @@ use Rattle.planes.specs.declared.Layout.{Layout}
 use Rattle.planes.specs.Band.{resultHeight}
 use Rattle.layout.specs.Outcome.{layoutOf}
 use Rattle.tiles.specs.Blocks.{across, sigmaOf, down}
-use Rattle.epf.specs.Blocks.{ahead, onBlocks}
+use Rattle.placement.specs.Blocks.{ahead, onBlocks}
 use Rattle.passes.specs.Pass.{Area}
 use Rattle.record.specs.declared.Setup.{Setup}
 

@@ -14,7 +14,7 @@ use Rattle.numbers.specs.Numbers.{outOfMeasure, notInside}
 use Rattle.numbers.specs.Checks.{firstOf}
 use Rattle.layout.specs.Outcome.{layoutOf}
 use Rattle.layout.specs.Fits.{zero-is}
-use Rattle.epf.specs.Blocks.{onBlocks}
+use Rattle.placement.specs.Blocks.{onBlocks}
 use Rattle.record.specs.declared.Setup.{Setup}
 use Rattle.record.specs.declared.Run.{Run}
 use Rattle.record.specs.Record.{passCount, finished, strayDone, notOpen, isDone, runFits}

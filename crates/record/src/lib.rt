@@ -1,11 +1,11 @@
 // The record of a run: what start was told, the pass, and which bands are done in it. It goes in by value and comes back by value.
-use epf::on_blocks;
 use numbers::ACCEPTED;
 use numbers::BAND_NOT_OPEN;
 use numbers::OUT_OF_RANGE;
 use numbers::PASS_NOT_DONE;
 use passes::Settings;
 use passes::pass_count;
+use placement::on_blocks;
 use placement::placed;
 use region::Region;
 ghost use mathlib.Core.Path.{_≡_};

@@ -17,7 +17,7 @@ use Rattle.planes.specs.Stored.{and-first, and-second}
 use Rattle.layout.specs.Outcome.{layoutOf, passChecks, PassOutcome, passOutcome}
 use Rattle.gabor.specs.Outcome.{gaborOutcome}
 use Rattle.tiles.specs.Blocks.{across, down}
-use Rattle.epf.specs.Blocks.{onBlock, onBlocks}
+use Rattle.placement.specs.Blocks.{onBlock, onBlocks}
 use Rattle.epf.specs.declared.EpfStep.{EpfStep}
 use Rattle.epf.specs.Outcome.{stepChecks, epfChecks, epfOutcome}
 use Rattle.passes.specs.declared.Settings.{Settings}

@@ -25,8 +25,8 @@ use Rattle.blocks.specs.Measures.{across, down, badBlocks}
 use Rattle.groups.specs.Held.{someNotHeld}
 use Rattle.groups.specs.Outcome.{badSides, badSettings, frameFits, tableFits, tableRead, someGroup, gridsFit, sigmaChecks, sigmaNumber}
 use Rattle.sigma.specs.Outcome.{SigmasOutcome, leftIn, sigmasOutcome}
-use Rattle.epf.specs.Blocks.{ahead, onBlocks}
-use Rattle.epf.specs.BlockLaws.{ahead-small}
+use Rattle.placement.specs.Blocks.{ahead, onBlocks}
+use Rattle.placement.specs.BlockLaws.{ahead-small}
 use Rattle.record.specs.declared.Setup.{Setup}
 use Rattle.record.specs.declared.Run.{Run}
 use Rattle.record.specs.Setup.{layout, epfOn, itersFit, sized, setLength, sigmaLength}

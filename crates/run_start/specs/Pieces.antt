@@ -8,7 +8,7 @@ use Rattle.numbers.specs.Checks.{Check, always, given, firstOf}
 use Rattle.placement.specs.Placed.{placedChecks}
 use Rattle.frame.specs.declared.Frame.{Frame}
 use Rattle.groups.specs.Outcome.{sigmaNumber}
-use Rattle.epf.specs.Blocks.{onBlocks}
+use Rattle.placement.specs.Blocks.{onBlocks}
 use Rattle.record.specs.declared.Setup.{Setup}
 use Rattle.record.specs.Setup.{epfOn, itersFit, heightFits, countFits}
 use Rattle.runs.specs.Band.{setCheck}

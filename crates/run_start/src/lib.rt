@@ -1,7 +1,5 @@
 // Start: everything is checked before anything is written, and the record of the run is made.
 use blocks::Blocks;
-use epf::ahead;
-use epf::on_blocks;
 use epf_sigma::EpfSigma;
 use frame::Frame;
 use gabor_header::Gabor;
@@ -12,6 +10,8 @@ use numbers::OUT_OF_RANGE;
 use numbers::WRONG_LENGTH;
 use passes::EpfSettings;
 use passes::Settings;
+use placement::ahead;
+use placement::on_blocks;
 use placement::placed;
 use record::MAX_BANDS;
 use record::MAX_ITERS;
@@ -28,7 +28,7 @@ ghost use mathlib.Core.Bool.{_&&_, not};
 ghost use Rattle.numbers.specs.Checks.{firstOf};
 ghost use Rattle.region.specs.Regions.{zeroRegion};
 ghost use Rattle.groups.specs.Outcome.{sigmaNumber};
-ghost use Rattle.epf.specs.Blocks.{onBlocks};
+ghost use Rattle.placement.specs.Blocks.{onBlocks};
 ghost use Rattle.record.specs.Setup.{itersFit, heightFits, countFits};
 ghost use Rattle.record.specs.Record.{started};
 ghost use Rattle.runs.specs.Start.{StartOutcome, blocksOf, noSetup, noRun, startOutcome};

@@ -15,7 +15,7 @@ use Rattle.layout.specs.Outcome.{layoutOf}
 use Rattle.tiles.specs.Blocks.{across, down}
 use Rattle.sigma.specs.Sigma.{blockSigmas}
 use Rattle.sigma.specs.Laws.{length-sigmas}
-use Rattle.epf.specs.Blocks.{onBlocks}
+use Rattle.placement.specs.Blocks.{onBlocks}
 use Rattle.record.specs.declared.Run.{Run}
 use Rattle.record.specs.Setup.{layout, epfOn, itersFit, heightFits, countFits, bandCount, setupFits, sized, setLength, sigmaLength, resultRegion, resultLength}
 use Rattle.record.specs.Record.{finished, runFits}

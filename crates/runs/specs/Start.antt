@@ -16,7 +16,7 @@ use Rattle.grids.specs.Table.{badPresence, badGrid}
 use Rattle.groups.specs.Held.{someNotHeld}
 use Rattle.groups.specs.Outcome.{badSides, badSettings, frameFits, tableFits, tableRead, someGroup, gridsFit}
 use Rattle.sigma.specs.Sigma.{blockSigmas}
-use Rattle.epf.specs.Blocks.{ahead, onBlocks}
+use Rattle.placement.specs.Blocks.{ahead, onBlocks}
 use Rattle.record.specs.declared.Setup.{Setup}
 use Rattle.record.specs.declared.Run.{Run}
 use Rattle.record.specs.Setup.{epfOn, itersFit, heightFits, countFits, setLength, sigmaLength}

@@ -1,7 +1,15 @@
 // The parts of one sample of an edge-preserving step (document 01, "Edge-preserving steps").
 ghost use mathlib.Core.Path.{_≡_};
+ghost use lib.ListN.{length};
 ghost use Rattle.planes.specs.Samples.{_⊘_};
-ghost use Rattle.weights.specs.Steps.{positive as positiveOf, falloff, weightBy, copied as copiedOf, border, multiplier as multiplierOf};
+ghost use Rattle.weights.specs.Steps.{kernel, positive as positiveOf, falloff, weightBy, copied as copiedOf, border, multiplier as multiplierOf};
+
+// How many neighbours a step has.
+pub fn kernel_len(step: usize) -> usize
+    ensures { λ r. ⌜ r ≡ length (kernel step) ⌝ }
+{
+    if step == 0 { 12 } else { 4 }
+}
 
 // NaN and negatives become 0.
 fn positive(x: f32) -> f32

@@ -4,7 +4,7 @@ use mathlib.Core.Bool.{Bool, true, false, cond, not, _&&_}
 use borrow.Author.Needs.{needs}
 use Rattle.numbers.specs.Checks.{applies}
 use Rattle.numbers.specs.Numbers.{outOfRange}
-use Rattle.epf.specs.Blocks.{onBlocks}
+use Rattle.placement.specs.Blocks.{onBlocks}
 use Rattle.record.specs.Setup.{itersFit, heightFits, countFits}
 use Rattle.runs.specs.Band.{setCheck}
 use Rattle.run_start.specs.Pieces.{runsEpf}

@@ -1,12 +1,12 @@
--- `epf::on_blocks` meets its contract. Assumes nothing.
+-- `placement::on_blocks` meets its contract. Assumes nothing.
 use mathlib.Core.Path.{_≡_, sym, _∙_}
 use mathlib.Core.Bool.{true, false}
 use borrow.Author.Needs.{needs}
 use borrow.Author.Tests.{not-true, not-false}
 use mir.Facts.{toZ-ofZ}
-use Rattle.epf.specs.Blocks.{onBlock}
-use Rattle.epf.proofs.on_blocks.Statement.{statement}
-use Rattle.epf.proofs.on_blocks.Tie as tie
+use Rattle.placement.specs.Blocks.{onBlock}
+use Rattle.placement.proofs.on_blocks.Statement.{statement}
+use Rattle.placement.proofs.on_blocks.Tie as tie
 
 returns : tie.Need-returns
 returns c =

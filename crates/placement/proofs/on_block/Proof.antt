@@ -1,9 +1,9 @@
--- `epf::on_block` meets its contract. Assumes nothing.
+-- `placement::on_block` meets its contract. Assumes nothing.
 use borrow.Author.Needs.{needs}
 use mir.Facts.{toZ-ofZ}
-use Rattle.epf.specs.BlockLaws.{negative, multiple}
-use Rattle.epf.proofs.on_block.Statement.{statement}
-use Rattle.epf.proofs.on_block.Tie as tie
+use Rattle.placement.specs.BlockLaws.{negative, multiple}
+use Rattle.placement.proofs.on_block.Statement.{statement}
+use Rattle.placement.proofs.on_block.Tie as tie
 
 pub on-block-spec : {M : Type 1} → statement M
 on-block-spec = tie.close

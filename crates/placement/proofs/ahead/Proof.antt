@@ -1,4 +1,4 @@
--- `epf::ahead` meets its contract. The machine's bits are cleared (`toZ-ofZ`), then it goes by the sign. Assumes nothing.
+-- `placement::ahead` meets its contract. The machine's bits are cleared (`toZ-ofZ`), then it goes by the sign. Assumes nothing.
 use mathlib.Core.Path.{ap, _∙_}
 use Prim.Native.Nat.{_^_, _<_, _≤_}
 use native.Mathlib.Omega.{arith}
@@ -7,10 +7,10 @@ use mir.Syntax.{w32, w64}
 use mir.Val.{Fits, SFits}
 use lib.IntN.{ℤ, natAbs}
 use lib.Signed.{mag}
-use Rattle.epf.specs.Blocks.{ahead}
-use Rattle.epf.specs.BlockLaws.{ahead-small, not-negative, negative}
-use Rattle.epf.proofs.ahead.Statement.{statement}
-use Rattle.epf.proofs.ahead.Tie as tie
+use Rattle.placement.specs.Blocks.{ahead}
+use Rattle.placement.specs.BlockLaws.{ahead-small, not-negative, negative}
+use Rattle.placement.proofs.ahead.Statement.{statement}
+use Rattle.placement.proofs.ahead.Tie as tie
 
 small : (z : ℤ) → SFits w32 z → ahead z ≤ 4294967296
 small z f = let l : mag z < 2 ^ 31 = f .sfits in omega (arith, ahead-small z)

@@ -7,7 +7,7 @@ use borrow.Author.Tests.{le-ltb}
 use lib.Dec.{eqb}
 use lib.IntN.{ℤ, pos, negsuc}
 use lib.Signed.{mag, ltZ}
-use Rattle.epf.specs.Blocks.{ahead, onBlock}
+use Rattle.placement.specs.Blocks.{ahead, onBlock}
 
 pub ahead-small : (z : ℤ) → ahead z ≤ mag z
 ahead-small (pos k) = omega arith
