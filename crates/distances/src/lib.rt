@@ -23,8 +23,8 @@ pub const WINDOWS: usize = 2688;
 
 const CENTRE: usize = 196;
 
-// From a row's first position to past its last lane's centre in the row above: CENTRE + 56 lanes - STRIDE.
-const LAST: usize = 188;
+// Past the last of 56 lanes of a tile of no rows: CENTRE + 56 - STRIDE.
+const PAST: usize = 188;
 
 // The most fields of a step, one for each pair of opposite neighbours, and their positions: a plane's for each.
 const PAIRS: usize = 6;
@@ -76,15 +76,6 @@ fn shift(step: usize, h: usize) -> usize
     if h == 0 { 1 } else { 64 }
 }
 
-fn at_most(x: usize, k: usize) -> usize
-    ensures { λ r. ⌜ r ≡ min x k ⌝ }
-{
-    if x < k {
-        return x;
-    }
-    k
-}
-
 fn ahead(step: usize, h: usize) -> Tap
     requires { ⌜ h < 6 ⌝ }
     ensures { λ r. ⌜ r ≡ record { place = 196 + shiftOf step h; start = h * 896 + 196 } ⌝ }
@@ -112,9 +103,12 @@ fn field_of(step: usize, q: usize) -> usize
 {
     if step == 0 {
         if q < PAIRS {
-            return 5 - q;
+            return PAIRS - 1 - q;
         }
-        return at_most(q - PAIRS, 5);
+        if q < 2 * PAIRS {
+            return q - PAIRS;
+        }
+        return PAIRS - 1;
     }
     if q < 2 { 1 } else { 0 }
 }
@@ -298,7 +292,7 @@ fn fill_fields(
             scales,
             planes,
             from,
-            rows * STRIDE + LAST - from,
+            rows * STRIDE + PAST - from,
         );
         h += 1;
     }

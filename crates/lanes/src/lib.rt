@@ -131,11 +131,8 @@ fn with_four(
     requires { ⌜ (a + 192 < 768) × (k0 < 2688) × (k1 < 2688) × (k2 < 2688) × (k3 < 2688) ⌝ }
     ensures { λ r. ⌜ r ≡ x ⊕ getD (now (stored .entry)) a nan ⊗ getD (now (win .entry)) k0 nan ⊕ getD (now (stored .entry)) (a + 64) nan ⊗ getD (now (win .entry)) k1 nan ⊕ getD (now (stored .entry)) (a + 128) nan ⊗ getD (now (win .entry)) k2 nan ⊕ getD (now (stored .entry)) (a + 192) nan ⊗ getD (now (win .entry)) k3 nan ⌝ }
 {
-    x
-        + stored[a] * win[k0]
-        + stored[a + STRIDE] * win[k1]
-        + stored[a + 2 * STRIDE] * win[k2]
-        + stored[a + 3 * STRIDE] * win[k3]
+    let half = x + stored[a] * win[k0] + stored[a + STRIDE] * win[k1];
+    half + stored[a + 2 * STRIDE] * win[k2] + stored[a + 3 * STRIDE] * win[k3]
 }
 
 // Adds four neighbours to 56 lanes.

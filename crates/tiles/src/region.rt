@@ -1,6 +1,5 @@
 // Rows of the filter region, by strips that lie within one row of blocks.
 use crate::Step;
-use crate::tile::at_most;
 use crate::tile::blocks_of;
 use crate::tile::tile;
 use distances::FIELDS;
@@ -10,11 +9,12 @@ use planes::Layout;
 use planes::set_fits;
 use rects::Rect;
 use slopes::SLOPES;
+use window::at_most;
 ghost use mathlib.Core.Path.{_≡_};
 ghost use Prim.Native.Nat.{ℕ, _+_, _-_, _*_, _<_, _≤_};
 ghost use lib.ListN.{length};
 ghost use Rattle.planes.specs.Rect.{planesFill};
-ghost use Rattle.tiles.specs.Tile.{stepOver};
+ghost use Rattle.tiles.specs.Tile.{Scratch, stepOver};
 ghost use Rattle.tiles.specs.Region.{RegionFits, StripFits, regionOf};
 
 // Columns of a tile, and rows and columns of a block.
@@ -27,7 +27,7 @@ const LAST_STEP: usize = 2;
 // A top of a region, which is an i32, is less; below it rows are counted without a carry.
 const MAX_TOP: usize = 4_294_967_296;
 
-// A strip of rows, tile after tile, with the local memory of a tile.
+// A strip of rows, tile after tile.
 fn strip(
     dst: &mut [f32],
     src: &[f32],
@@ -38,14 +38,14 @@ fn strip(
     top: usize,
     y: usize,
     rows: usize,
+    win: &mut [f32; WINDOWS],
+    fields: &mut [f32; FIELDS],
+    slopes: &mut [f32; SLOPES],
+    lanes: &mut [f32],
 )
-    requires { ⌜ RegionFits l n s top (length (now dst)) (length (now sigmas)) × (length (now src) ≡ length (now dst)) × StripFits l y rows ⌝ }
-    ensures { λ _. ⌜ now (dst .exit) ≡ planesFill (l .image .width) (l .image .height) (l .left) (l .width) (l .top + y) rows (λ (c : ℕ) (i : ℕ) (r : ℕ). stepOver n l s top (now (sigmas .entry)) (now (src .entry)) c i (y + r)) (now (dst .entry)) n ⌝ }
+    requires { ⌜ RegionFits l n s top (length (now dst)) (length (now sigmas)) × (length (now src) ≡ length (now dst)) × StripFits l y rows × Scratch (now win) (now fields) (now slopes) (now lanes) ⌝ }
+    ensures { λ _. ⌜ (now (dst .exit) ≡ planesFill (l .image .width) (l .image .height) (l .left) (l .width) (l .top + y) rows (λ (c : ℕ) (i : ℕ) (r : ℕ). stepOver n l s top (now (sigmas .entry)) (now (src .entry)) c i (y + r)) (now (dst .entry)) n) × Scratch (now (win .exit)) (now (fields .exit)) (now (slopes .exit)) (now (lanes .exit)) ⌝ }
 {
-    let mut win = [0.0; WINDOWS];
-    let mut fields = [0.0; FIELDS];
-    let mut slopes = [0.0; SLOPES];
-    let mut lanes = [0.0; TILE];
     let mut x = 0;
     while x < l.width {
         let cols = at_most(l.width - x, COLUMNS);
@@ -59,16 +59,16 @@ fn strip(
             sigmas,
             top,
             rect,
-            &mut win,
-            &mut fields,
-            &mut slopes,
-            &mut lanes,
+            win,
+            fields,
+            slopes,
+            lanes,
         );
         x += cols;
     }
 }
 
-// Rows `from` up to `to`, strip after strip.
+// Rows `from` up to `to`, strip after strip, with the local memory of a tile.
 fn strips(
     dst: &mut [f32],
     src: &[f32],
@@ -83,10 +83,28 @@ fn strips(
     requires { ⌜ RegionFits l n s top (length (now dst)) (length (now sigmas)) × (length (now src) ≡ length (now dst)) × (from ≤ to) × (to ≤ l .height) ⌝ }
     ensures { λ _. ⌜ now (dst .exit) ≡ planesFill (l .image .width) (l .image .height) (l .left) (l .width) (l .top + from) (to - from) (λ (c : ℕ) (i : ℕ) (r : ℕ). stepOver n l s top (now (sigmas .entry)) (now (src .entry)) c i (from + r)) (now (dst .entry)) n ⌝ }
 {
+    let mut win = [0.0; WINDOWS];
+    let mut fields = [0.0; FIELDS];
+    let mut slopes = [0.0; SLOPES];
+    let mut lanes = [0.0; TILE];
     let mut y = from;
     while y < to {
         let rows = at_most(to - y, BLOCK - y % BLOCK);
-        strip(dst, src, l, n, s, sigmas, top, y, rows);
+        strip(
+            dst,
+            src,
+            l,
+            n,
+            s,
+            sigmas,
+            top,
+            y,
+            rows,
+            &mut win,
+            &mut fields,
+            &mut slopes,
+            &mut lanes,
+        );
         y += rows;
     }
 }

@@ -13,10 +13,11 @@ use rects::store_tile;
 use slopes::SLOPES;
 use slopes::tile_slopes;
 use weights::copied;
+use window::at_most;
 use window::load;
 ghost use mathlib.Core.Path.{_≡_};
 ghost use mathlib.Core.Bool.{cond, true};
-ghost use Prim.Native.Nat.{ℕ, _+_, _-_, _*_, _/_, _<_, _≤_, min};
+ghost use Prim.Native.Nat.{ℕ, _+_, _-_, _*_, _/_, _<_, _≤_};
 ghost use lib.ListN.{length, getD};
 ghost use lib.Ieee.{nan};
 ghost use Rattle.planes.specs.Band.{inner};
@@ -31,15 +32,6 @@ const BLOCK: usize = 8;
 const LAST_STEP: usize = 2;
 
 const PLANES: usize = 3;
-
-pub(crate) fn at_most(x: usize, k: usize) -> usize
-    ensures { λ r. ⌜ r ≡ min x k ⌝ }
-{
-    if x < k {
-        return x;
-    }
-    k
-}
 
 // How many blocks begin in so many columns or rows.
 pub(crate) fn blocks_of(n: usize) -> usize
@@ -209,8 +201,7 @@ pub(crate) fn tile(
     lanes: &mut [f32],
 )
     requires { ⌜ TileFits l n rect × RectFits l n rect (length (now dst)) × (length (now src) ≡ length (now dst)) × (s .step < 3) × (top ≤ 4294967296) ⌝ }
-    requires { ⌜ sigmaStart l (rect .x) (rect .y) + blocksAlong (rect .cols) ≤ length (now sigmas) ⌝ }
-    requires { ⌜ Scratch (now win) (now fields) (now slopes) (now lanes) ⌝ }
+    requires { ⌜ (sigmaStart l (rect .x) (rect .y) + blocksAlong (rect .cols) ≤ length (now sigmas)) × Scratch (now win) (now fields) (now slopes) (now lanes) ⌝ }
     ensures { λ _. ⌜ (now (dst .exit) ≡ rectFilled l n rect (λ (c : ℕ) (i : ℕ) (r : ℕ). stepOver n l s top (now (sigmas .entry)) (now (src .entry)) c (rect .x + i) (rect .y + r)) (now (dst .entry))) × Scratch (now (win .exit)) (now (fields .exit)) (now (slopes .exit)) (now (lanes .exit)) ⌝ }
 {
     let first = first_sigma(l, rect);
