@@ -12,15 +12,26 @@ ghost use Rattle.distances.specs.Seen.{nearby as nearbyOf, apartBy};
 ghost use Rattle.distances.specs.Taps.{half as halfOf, shift as shiftOf, fieldOf, tapOf};
 ghost use Rattle.distances.specs.Fields.{distAt, fieldsFill, distancesOf};
 
-// Positions of a window's row and of a plane's window; the place of a sample in its own window.
+const PLANES: usize = 3;
+
+// Positions of a window's row, of a plane's window and of three planes' windows; the place of a sample in its own window.
 const STRIDE: usize = 64;
 
 const PLANE: usize = 896;
 
+pub const WINDOWS: usize = 2688;
+
 const CENTRE: usize = 196;
 
-const PLANES: usize = 3;
+// Past the last of 56 lanes of a tile of no rows: CENTRE + 56 - STRIDE.
+const PAST: usize = 188;
 
+// The most fields of a step, one for each pair of opposite neighbours, and their positions: a plane's for each.
+const PAIRS: usize = 6;
+
+pub const FIELDS: usize = 5376;
+
+// The most rows of a tile.
 const ROWS: usize = 8;
 
 // A neighbour's place in the window of a sample, and where its distances start among the fields.
@@ -33,7 +44,7 @@ pub struct Tap {
 fn half(step: usize) -> usize
     ensures { λ r. ⌜ r ≡ halfOf step ⌝ }
 {
-    if step == 0 { 6 } else { 2 }
+    if step == 0 { PAIRS } else { 2 }
 }
 
 // How far apart the places are that field h of step 0 compares.
@@ -65,15 +76,6 @@ fn shift(step: usize, h: usize) -> usize
     if h == 0 { 1 } else { 64 }
 }
 
-fn at_most(x: usize, k: usize) -> usize
-    ensures { λ r. ⌜ r ≡ min x k ⌝ }
-{
-    if x < k {
-        return x;
-    }
-    k
-}
-
 fn ahead(step: usize, h: usize) -> Tap
     requires { ⌜ h < 6 ⌝ }
     ensures { λ r. ⌜ r ≡ record { place = 196 + shiftOf step h; start = h * 896 + 196 } ⌝ }
@@ -100,10 +102,13 @@ fn field_of(step: usize, q: usize) -> usize
     ensures { λ r. ⌜ r ≡ fieldOf step q ⌝ }
 {
     if step == 0 {
-        if q < 6 {
-            return 5 - q;
+        if q < PAIRS {
+            return PAIRS - 1 - q;
         }
-        return at_most(q - 6, 5);
+        if q < 2 * PAIRS {
+            return q - PAIRS;
+        }
+        return PAIRS - 1;
     }
     if q < 2 { 1 } else { 0 }
 }
@@ -126,7 +131,14 @@ pub fn neighbour(step: usize, q: usize) -> Tap
 }
 
 // |differences| between the places from position `from` on and those k after them, in plane c.
-fn differences(d: &mut [f32; 896], win: &[f32; 2688], c: usize, k: usize, from: usize, n: usize)
+fn differences(
+    d: &mut [f32; PLANE],
+    win: &[f32; WINDOWS],
+    c: usize,
+    k: usize,
+    from: usize,
+    n: usize,
+)
     requires { ⌜ (c < 3) × (from + n + k ≤ 896) ⌝ }
     ensures { λ _. ⌜ now (d .exit) ≡ fill (now (d .entry)) from n (λ (i : ℕ). apartBy (now (win .entry)) c k (from + i)) ⌝ }
 {
@@ -140,7 +152,7 @@ fn differences(d: &mut [f32; 896], win: &[f32; 2688], c: usize, k: usize, from: 
 }
 
 // The differences that a distance of step 0 or 1 sums at position j, in its order.
-fn nearby(step: usize, d: &[f32; 896], j: usize) -> f32
+fn nearby(step: usize, d: &[f32; PLANE], j: usize) -> f32
     requires { ⌜ (step < 2) × (64 ≤ j) × (j + 64 < 896) ⌝ }
     ensures { λ r. ⌜ r ≡ nearbyOf step (λ (p : ℕ). getD (now (d .entry)) p nan) j ⌝ }
 {
@@ -152,29 +164,29 @@ fn nearby(step: usize, d: &[f32; 896], j: usize) -> f32
 
 // Adds a channel's scaled sums of differences to n distances.
 fn add_nearby(
-    e: &mut [f32; 5376],
+    fields: &mut [f32; FIELDS],
     at: usize,
-    d: &[f32; 896],
+    d: &[f32; PLANE],
     scale: f32,
     step: usize,
     from: usize,
     n: usize,
 )
     requires { ⌜ (step < 2) × (64 ≤ from) × (from + n + 64 ≤ 896) × (at + n ≤ 5376) ⌝ }
-    ensures { λ _. ⌜ now (e .exit) ≡ fill (now (e .entry)) at n (λ (i : ℕ). getD (now (e .entry)) (at + i) nan ⊕ scale ⊗ nearbyOf step (λ (p : ℕ). getD (now (d .entry)) p nan) (from + i)) ⌝ }
+    ensures { λ _. ⌜ now (fields .exit) ≡ fill (now (fields .entry)) at n (λ (i : ℕ). getD (now (fields .entry)) (at + i) nan ⊕ scale ⊗ nearbyOf step (λ (p : ℕ). getD (now (d .entry)) p nan) (from + i)) ⌝ }
 {
     let mut i = 0;
     while i < n {
-        e[at + i] = e[at + i] + scale * nearby(step, d, from + i);
+        fields[at + i] = fields[at + i] + scale * nearby(step, d, from + i);
         i += 1;
     }
 }
 
 // The same of step 2, which compares single samples.
 fn add_single(
-    e: &mut [f32; 5376],
+    fields: &mut [f32; FIELDS],
     at: usize,
-    win: &[f32; 2688],
+    win: &[f32; WINDOWS],
     c: usize,
     k: usize,
     scale: f32,
@@ -182,23 +194,24 @@ fn add_single(
     n: usize,
 )
     requires { ⌜ (c < 3) × (from + n + k ≤ 896) × (at + n ≤ 5376) ⌝ }
-    ensures { λ _. ⌜ now (e .exit) ≡ fill (now (e .entry)) at n (λ (i : ℕ). getD (now (e .entry)) (at + i) nan ⊕ scale ⊗ nearbyOf 2 (apartBy (now (win .entry)) c k) (from + i)) ⌝ }
+    ensures { λ _. ⌜ now (fields .exit) ≡ fill (now (fields .entry)) at n (λ (i : ℕ). getD (now (fields .entry)) (at + i) nan ⊕ scale ⊗ nearbyOf 2 (apartBy (now (win .entry)) c k) (from + i)) ⌝ }
 {
     let base = c * PLANE;
     let mut i = 0;
     while i < n {
         let p = from + i;
-        e[at + i] = e[at + i] + scale * (0.0 + difference(win[base + (p + k)], win[base + p]));
+        fields[at + i] = fields[at + i]
+            + scale * (0.0 + difference(win[base + (p + k)], win[base + p]));
         i += 1;
     }
 }
 
 // Adds channel c to n distances.
 fn add_channel(
-    e: &mut [f32; 5376],
+    fields: &mut [f32; FIELDS],
     at: usize,
-    d: &mut [f32; 896],
-    win: &[f32; 2688],
+    d: &mut [f32; PLANE],
+    win: &[f32; WINDOWS],
     c: usize,
     step: usize,
     k: usize,
@@ -207,70 +220,70 @@ fn add_channel(
     n: usize,
 )
     requires { ⌜ (length (now d) ≡ 896) × (c < 3) × (64 ≤ from) × (from + n + 64 + k ≤ 896) × (at + n ≤ 5376) ⌝ }
-    ensures { λ _. ⌜ (now (e .exit) ≡ fill (now (e .entry)) at n (λ (i : ℕ). getD (now (e .entry)) (at + i) nan ⊕ scale ⊗ nearbyOf step (apartBy (now (win .entry)) c k) (from + i))) × (length (now (d .exit)) ≡ 896) ⌝ }
+    ensures { λ _. ⌜ (now (fields .exit) ≡ fill (now (fields .entry)) at n (λ (i : ℕ). getD (now (fields .entry)) (at + i) nan ⊕ scale ⊗ nearbyOf step (apartBy (now (win .entry)) c k) (from + i))) × (length (now (d .exit)) ≡ 896) ⌝ }
 {
     if 1 < step {
-        add_single(e, at, win, c, k, scale, from, n);
+        add_single(fields, at, win, c, k, scale, from, n);
         return;
     }
     differences(d, win, c, k, from - STRIDE, n + 2 * STRIDE);
-    add_nearby(e, at, d, scale, step, from, n);
+    add_nearby(fields, at, d, scale, step, from, n);
 }
 
-fn clear(e: &mut [f32; 5376], at: usize, n: usize)
+fn clear(fields: &mut [f32; FIELDS], at: usize, n: usize)
     requires { ⌜ at + n ≤ 5376 ⌝ }
-    ensures { λ _. ⌜ now (e .exit) ≡ fill (now (e .entry)) at n (λ (i : ℕ). b0) ⌝ }
+    ensures { λ _. ⌜ now (fields .exit) ≡ fill (now (fields .entry)) at n (λ (i : ℕ). b0) ⌝ }
 {
     let mut i = 0;
     while i < n {
-        e[at + i] = 0.0;
+        fields[at + i] = 0.0;
         i += 1;
     }
 }
 
 // n distances from position `from` on, between places that lie k apart.
 fn field(
-    e: &mut [f32; 5376],
+    fields: &mut [f32; FIELDS],
     at: usize,
-    d: &mut [f32; 896],
-    win: &[f32; 2688],
+    d: &mut [f32; PLANE],
+    win: &[f32; WINDOWS],
     step: usize,
     k: usize,
-    scales: &[f32; 3],
+    scales: &[f32; PLANES],
     planes: usize,
     from: usize,
     n: usize,
 )
     requires { ⌜ (length (now d) ≡ 896) × (planes ≤ 3) × (64 ≤ from) × (from + n + 64 + k ≤ 896) × (at + n ≤ 5376) ⌝ }
-    ensures { λ _. ⌜ (now (e .exit) ≡ fill (now (e .entry)) at n (λ (i : ℕ). distAt step (scaled planes (now (scales .entry))) (now (win .entry)) k (from + i))) × (length (now (d .exit)) ≡ 896) ⌝ }
+    ensures { λ _. ⌜ (now (fields .exit) ≡ fill (now (fields .entry)) at n (λ (i : ℕ). distAt step (scaled planes (now (scales .entry))) (now (win .entry)) k (from + i))) × (length (now (d .exit)) ≡ 896) ⌝ }
 {
-    clear(e, at, n);
+    clear(fields, at, n);
     let mut c = 0;
     while c < planes {
-        add_channel(e, at, d, win, c, step, k, scales[c], from, n);
+        add_channel(fields, at, d, win, c, step, k, scales[c], from, n);
         c += 1;
     }
 }
 
-fn fields(
-    e: &mut [f32; 5376],
-    win: &[f32; 2688],
+fn fill_fields(
+    fields: &mut [f32; FIELDS],
+    win: &[f32; WINDOWS],
     step: usize,
-    scales: &[f32; 3],
+    scales: &[f32; PLANES],
     planes: usize,
     rows: usize,
 )
     requires { ⌜ (planes ≤ 3) × (1 ≤ rows) × (rows ≤ 8) ⌝ }
-    ensures { λ _. ⌜ now (e .exit) ≡ fieldsFill step (scaled planes (now (scales .entry))) (now (win .entry)) rows (now (e .entry)) (halfOf step) ⌝ }
+    ensures { λ _. ⌜ now (fields .exit) ≡ fieldsFill step (scaled planes (now (scales .entry))) (now (win .entry)) rows (now (fields .entry)) (halfOf step) ⌝ }
 {
-    let mut d = [0.0; 896];
+    let mut d = [0.0; PLANE];
     let count = half(step);
     let mut h = 0;
     while h < count {
         let k = shift(step, h);
         let from = CENTRE - k;
         field(
-            e,
+            fields,
             h * PLANE + from,
             &mut d,
             win,
@@ -279,7 +292,7 @@ fn fields(
             scales,
             planes,
             from,
-            rows * STRIDE + 188 - from,
+            rows * STRIDE + PAST - from,
         );
         h += 1;
     }
@@ -287,14 +300,14 @@ fn fields(
 
 // The fields of a tile of one to eight rows, from windows of at most three planes; nothing for other numbers.
 pub fn distances(
-    e: &mut [f32; 5376],
-    win: &[f32; 2688],
+    fields: &mut [f32; FIELDS],
+    win: &[f32; WINDOWS],
     step: usize,
-    scales: &[f32; 3],
+    scales: &[f32; PLANES],
     planes: usize,
     rows: usize,
 )
-    ensures { λ _. ⌜ now (e .exit) ≡ distancesOf step planes (now (scales .entry)) (now (win .entry)) rows (now (e .entry)) ⌝ }
+    ensures { λ _. ⌜ now (fields .exit) ≡ distancesOf step planes (now (scales .entry)) (now (win .entry)) rows (now (fields .entry)) ⌝ }
 {
     if PLANES < planes {
         return;
@@ -305,5 +318,5 @@ pub fn distances(
     if ROWS < rows {
         return;
     }
-    fields(e, win, step, scales, planes, rows)
+    fill_fields(fields, win, step, scales, planes, rows)
 }

@@ -80,10 +80,12 @@ fn judged(
 }
 
 fn step_of(s: EpfStep) -> Step
-    ensures { λ r. ⌜ r ≡ record { step = s .step; scale = s .multiplier; edge = s .«border_sad_mul»; limit = standardLimit } ⌝ }
+    ensures { λ r. ⌜ r ≡ record { step = s .step; scales = s .«channel_scale»; scale = s .multiplier; edge = s .«border_sad_mul»; limit = standardLimit } ⌝ }
 {
+    let scales = s.channel_scale;
     Step {
         step: s.step as usize,
+        scales,
         scale: s.multiplier,
         edge: s.border_sad_mul,
         limit: COPYING_LIMIT,
@@ -97,7 +99,6 @@ fn epf_band(
     l: Layout,
     n: usize,
     s: Step,
-    scales: &[f32; 3],
     sigmas: &[f32],
     top: usize,
     from: usize,
@@ -105,12 +106,12 @@ fn epf_band(
 )
     requires { ⌜ BandFits l n from to (now src) (now dst) ⌝ }
     requires { ⌜ RegionFits l n s top (length (now dst)) (length (now sigmas)) ⌝ }
-    ensures { λ _. ⌜ now (dst .exit) ≡ passed n l from to (stepOver n l s (now (scales .entry)) top (now (sigmas .entry)) (now (src .entry))) (now (src .entry)) (now (dst .entry)) ⌝ }
+    ensures { λ _. ⌜ now (dst .exit) ≡ passed n l from to (stepOver n l s top (now (sigmas .entry)) (now (src .entry))) (now (src .entry)) (now (dst .entry)) ⌝ }
 {
     copy_outside(src, dst, l, n, from, to);
     let first = filter_row(l, from);
     let last = filter_row(l, to);
-    filter_region(dst, src, l, n, s, scales, sigmas, top, first, last);
+    filter_region(dst, src, l, n, s, sigmas, top, first, last);
 }
 
 // Rows `from` up to `to` of the result, which is the full planes (`preserve_outside`) or the filter region alone: reads `src` and writes `dst`,
@@ -150,7 +151,6 @@ pub fn epf_pass(
     if number != ACCEPTED {
         return number;
     }
-    let scales = s.channel_scale;
     let settings = step_of(s);
     epf_band(
         src,
@@ -158,7 +158,6 @@ pub fn epf_pass(
         l,
         PLANES,
         settings,
-        &scales,
         sigmas,
         ahead(filter.top),
         first,

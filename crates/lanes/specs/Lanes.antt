@@ -16,7 +16,8 @@ use Rattle.planes.specs.Fill.{fill, length-fill, fill-before, fill-cong}
 use Rattle.planes.specs.Loop.{Written, written-more}
 use Rattle.planes.specs.Rect.{rowsFill, planesFill, planes-turn}
 use Rattle.planes.specs.Join.{planes-cong, rect-below}
-use Rattle.weights.specs.Steps.{kernel, weightBy, border}
+use Rattle.weights.specs.Steps.{kernel, weightBy}
+use Rattle.slopes.specs.Slopes.{firstSlope}
 use Rattle.distances.specs.Runs.{run-at, run-anew, run-same, run-more}
 use Rattle.distances.specs.Taps.{tapOf}
 
@@ -32,11 +33,11 @@ unfoldable pub samplesTo : (ℕ → Float) → (ℕ → Float) → Float → ℕ
 samplesTo f s x zero = x
 samplesTo f s x (suc q) = samplesTo f s x q ⊕ f q ⊗ s q
 
--- ---- a lane: column i of row r; slopes start at index `kind`
+-- ---- a lane: column i of row r; slopes start at index `first`
 
 -- the weight of neighbour q
 unfoldable pub weightOf : ℕ → List Float → List Float → ℕ → ℕ → ℕ → ℕ → Float
-weightOf step e slopes kind r i q = weightBy (getD slopes (kind + i) nan) (getD e (tapOf step q .start + r * 64 + i) nan)
+weightOf step e slopes first r i q = weightBy (getD slopes (first + i) nan) (getD e (tapOf step q .start + r * 64 + i) nan)
 
 -- the sample at place k of channel c
 abbrev pub sampleOf : List Float → ℕ → ℕ → ℕ → ℕ → Float
@@ -48,18 +49,14 @@ neighbourOf step win c r i q = sampleOf win c r (tapOf step q .place) i
 
 -- the sample and its weighted neighbours, divided by 1 plus the weights
 unfoldable pub laneOf : ℕ → List Float → List Float → List Float → ℕ → ℕ → ℕ → ℕ → Float
-laneOf step e slopes win kind c i r =
-    samplesTo (weightOf step e slopes kind r i) (neighbourOf step win c r i) (sampleOf win c r 196 i) (length (kernel step))
-    ⊘ weightsTo (weightOf step e slopes kind r i) (length (kernel step))
-
--- slopes of rows at a block's border stand after those of the others
-abbrev pub kindOf : ℕ → ℕ
-kindOf row = cond (border row) 64 0
+laneOf step e slopes win first c i r =
+    samplesTo (weightOf step e slopes first r i) (neighbourOf step win c r i) (sampleOf win c r 196 i) (length (kernel step))
+    ⊘ weightsTo (weightOf step e slopes first r i) (length (kernel step))
 
 -- what a tile's lanes leave: 56 columns of each row of each plane. Row 0 is row `top` of the image.
 unfoldable pub lanesOf : ℕ → List Float → List Float → List Float → ℕ → ℕ → ℕ → List Float → List Float
 lanesOf step e slopes win planes top rows out =
-    cond (eqb (length out) 1536 && (leb planes 3 && leb rows 8)) (planesFill 64 8 0 56 0 rows (λ c i r. laneOf step e slopes win (kindOf (top + r)) c i r) out planes) out
+    cond (eqb (length out) 1536 && (leb planes 3 && leb rows 8)) (planesFill 64 8 0 56 0 rows (λ c i r. laneOf step e slopes win (firstSlope (top + r)) c i r) out planes) out
 
 -- ---- runs from index 0
 
@@ -177,11 +174,11 @@ samples-same f g s x zero h = refl
 samples-same f g s x (suc n) h = rw (samples-same f g s x n (λ q l. h q (omega arith)), h n (omega arith))
 
 -- with the weights of a row: its lanes
-pub stored-lane : (step : ℕ) (e slopes win t sum : List Float) (kind c r i : ℕ) → Weighed (λ i q. weightOf step e slopes kind r i q) t sum (length (kernel step)) → i < 56
-    → storedTo step t win c r (length (kernel step)) i ⊘ getD sum i nan ≡ laneOf step e slopes win kind c i r
+pub stored-lane : (step : ℕ) (e slopes win t sum : List Float) (first c r i : ℕ) → Weighed (λ i q. weightOf step e slopes first r i q) t sum (length (kernel step)) → i < 56
+    → storedTo step t win c r (length (kernel step)) i ⊘ getD sum i nan ≡ laneOf step e slopes win first c i r
 unfolding storedTo laneOf
-stored-lane step e slopes win t sum kind c r i w l =
-    rw (samples-same _ (weightOf step e slopes kind r i) (neighbourOf step win c r i) (sampleOf win c r 196 i) (length (kernel step)) (λ q h. w .each q i h l), w .total i l)
+stored-lane step e slopes win t sum first c r i w l =
+    rw (samples-same _ (weightOf step e slopes first r i) (neighbourOf step win c r i) (sampleOf win c r 196 i) (length (kernel step)) (λ q h. w .each q i h l), w .total i l)
 
 -- ---- planes and rows
 
@@ -198,10 +195,10 @@ plane-next r v d a b k at p e q =
     planes-turn 64 8 0 56 r 1 (λ c i j. v c i) d a b k p (rw z at (one-row a b at 56 (v k) q))
 
 -- the lanes of row r, of all planes
-pub row-lanes : (step : ℕ) (e slopes win t sum d b : List Float) (kind r k : ℕ) → Weighed (λ i q. weightOf step e slopes kind r i q) t sum (length (kernel step))
+pub row-lanes : (step : ℕ) (e slopes win t sum d b : List Float) (first r k : ℕ) → Weighed (λ i q. weightOf step e slopes first r i q) t sum (length (kernel step))
     → b ≡ planesFill 64 8 0 56 r 1 (λ c i j. storedTo step t win c r (length (kernel step)) i ⊘ getD sum i nan) d k
-    → b ≡ planesFill 64 8 0 56 r 1 (λ c i j. laneOf step e slopes win kind c i r) d k
-row-lanes step e slopes win t sum d b kind r k w p = p ∙ planes-cong 64 8 0 56 r 1 _ _ d k (λ c i j a l h. stored-lane step e slopes win t sum kind c r i w l)
+    → b ≡ planesFill 64 8 0 56 r 1 (λ c i j. laneOf step e slopes win first c i r) d k
+row-lanes step e slopes win t sum d b first r k w p = p ∙ planes-cong 64 8 0 56 r 1 _ _ d k (λ c i j a l h. stored-lane step e slopes win t sum first c r i w l)
 
 -- a turn of the loop over rows
 pub row-next : (v : ℕ → ℕ → ℕ → Float) (d a b : List Float) (k r : ℕ) → k ≤ 3 → r < 8 → length d ≡ 1536 → a ≡ planesFill 64 8 0 56 0 r v d k
@@ -219,18 +216,6 @@ rows-done v d (suc k) = rows-done v d k
 pub rows-end : (v : Picture) (d a : List Float) (k r m : ℕ) → a ≡ planesFill 64 8 0 56 0 r v d k → r ≤ m → m ≤ r → a ≡ planesFill 64 8 0 56 0 m v d k
 rows-end v d a k r m e p q = let z : r ≡ m = omega arith in rw (← z) e
 
--- the image row's remainder counts
-pub kind-same : (k top r : ℕ) → k ≡ kindOf (top % 8 + r) → k ≡ kindOf (top + r)
-unfolding border
-kind-same k top r e = let z : (top % 8 + r) % 8 ≡ (top + r) % 8 = omega arith in e ∙ rw z
-
-pub kind-small : (k row : ℕ) → k ≡ kindOf row → k ≤ 64
-kind-small k row e = rw e (go (border row))
-  where
-    go : (b : Bool) → cond b 64 0 ≤ 64
-    go true = omega arith
-    go false = omega arith
-
 -- ---- the tests
 
 module _ (step : ℕ) (e slopes win : List Float) (planes top rows : ℕ) (out : List Float) where
@@ -247,6 +232,6 @@ module _ (step : ℕ) (e slopes win : List Float) (planes top rows : ℕ) (out :
   many-rows h = simp (lt-leb rows 8 h, and-false)
 
   pub lanes-done : length out ≡ 1536 → planes ≤ 3 → rows ≤ 8
-      → lanesOf step e slopes win planes top rows out ≡ planesFill 64 8 0 56 0 rows (λ c i r. laneOf step e slopes win (kindOf (top + r)) c i r) out planes
+      → lanesOf step e slopes win planes top rows out ≡ planesFill 64 8 0 56 0 rows (λ c i r. laneOf step e slopes win (firstSlope (top + r)) c i r) out planes
   unfolding lanesOf
   lanes-done l p q = rw (eq-eqb (length out) 1536 l, le-leb planes 3 p, le-leb rows 8 q)

@@ -42,25 +42,25 @@ centre-seen : (win : List Float) (c r i : ℕ) → sampleOf win c r 196 i ≡ se
 unfolding seen
 centre-seen win c r i = ap (λ (k : ℕ). getD win k nan) (omega arith)
 
-weight-means : (step : ℕ) (e slopes : List Float) (kind r i q : ℕ) (slope d : Float) → getD e (tapOf step q .start + (r * 64 + i)) nan ≡ d → getD slopes (kind + i) nan ≡ slope
-    → weightOf step e slopes kind r i q ≡ weightBy slope d
+weight-means : (step : ℕ) (e slopes : List Float) (first r i q : ℕ) (slope d : Float) → getD e (tapOf step q .start + (r * 64 + i)) nan ≡ d → getD slopes (first + i) nan ≡ slope
+    → weightOf step e slopes first r i q ≡ weightBy slope d
 unfolding weightOf
-weight-means step e slopes kind r i q slope d far steep =
+weight-means step e slopes first r i q slope d far steep =
     let z : tapOf step q .start + r * 64 + i ≡ tapOf step q .start + (r * 64 + i) = omega arith in
     rw (z, steep, far)
 
-pub lane-means : (step : ℕ) (cs : List Scaled) (e slopes win : List Float) (kind c r i : ℕ) (sigma m : Float)
+pub lane-means : (step : ℕ) (cs : List Scaled) (e slopes win : List Float) (first c r i : ℕ) (sigma m : Float)
     → ((q : ℕ) → q < length (kernel step) → getD e (tapOf step q .start + (r * 64 + i)) nan ≡ distance cs (dists step) (seen win (r * 64 + i)) (neighbour step q))
-    → getD slopes (kind + i) nan ≡ falloff ⊘ sigma ⊗ m
-    → laneOf step e slopes win kind c i r ≡ blend cs (kernel step) (dists step) sigma m (seen win (r * 64 + i)) c ⊘ divisor cs (kernel step) (dists step) sigma m (seen win (r * 64 + i))
+    → getD slopes (first + i) nan ≡ falloff ⊘ sigma ⊗ m
+    → laneOf step e slopes win first c i r ≡ blend cs (kernel step) (dists step) sigma m (seen win (r * 64 + i)) c ⊘ divisor cs (kernel step) (dists step) sigma m (seen win (r * 64 + i))
 unfolding laneOf blend divisor weightAt
-lane-means step cs e slopes win kind c r i sigma m far steep =
+lane-means step cs e slopes win first c r i sigma m far steep =
     let v = seen win (r * 64 + i) in
     let h : Offset → Float = λ k. weightBy (falloff ⊘ sigma ⊗ m) (distance cs (dists step) v k) in
-    let weights : (q : ℕ) → q < length (kernel step) → weightOf step e slopes kind r i q ≡ h (neighbour step q) = λ q l. weight-means step e slopes kind r i q _ _ (far q l) steep in
+    let weights : (q : ℕ) → q < length (kernel step) → weightOf step e slopes first r i q ≡ h (neighbour step q) = λ q l. weight-means step e slopes first r i q _ _ (far q l) steep in
     rw (
       centre-seen win c r i,
-      samples-along (weightOf step e slopes kind r i) (neighbourOf step win c r i) (v c (pos 0) (pos 0)) h (λ k. v c (k .0) (k .1)) (kernel step) (length (kernel step)) (omega arith) weights (λ q l. neighbour-seen step win c r i q l),
-      weights-along (weightOf step e slopes kind r i) h (kernel step) (length (kernel step)) (omega arith) weights,
+      samples-along (weightOf step e slopes first r i) (neighbourOf step win c r i) (v c (pos 0) (pos 0)) h (λ k. v c (k .0) (k .1)) (kernel step) (length (kernel step)) (omega arith) weights (λ q l. neighbour-seen step win c r i q l),
+      weights-along (weightOf step e slopes first r i) h (kernel step) (length (kernel step)) (omega arith) weights,
       take-length (kernel step),
     )

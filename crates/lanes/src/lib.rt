@@ -1,7 +1,10 @@
 // Weighted sums of a tile of an edge-preserving step, 56 lanes of a row at a time: from fields of distances, slopes and windows.
 // A tile has at most three planes of eight rows of 64 columns. Each loop goes along a row, so that it becomes vector code.
+use distances::FIELDS;
+use distances::WINDOWS;
 use distances::neighbour;
-use weights::at_border;
+use slopes::SLOPES;
+use slopes::first_slope;
 use weights::kernel_len;
 use weights::weight;
 ghost use mathlib.Core.Path.{_≡_};
@@ -13,14 +16,15 @@ ghost use Rattle.planes.specs.Fill.{fill};
 ghost use Rattle.planes.specs.Rect.{planesFill};
 ghost use Rattle.weights.specs.Steps.{kernel, weightBy};
 ghost use Rattle.distances.specs.Taps.{tapOf};
-ghost use Rattle.lanes.specs.Lanes.{weightOf, storedTo, laneOf, kindOf, lanesOf, Weighed};
+ghost use Rattle.slopes.specs.Slopes.{firstSlope};
+ghost use Rattle.lanes.specs.Lanes.{weightOf, storedTo, laneOf, lanesOf, Weighed};
 
 // Lanes that are computed, columns of a tile's row and samples of a tile's plane.
 const LANES: usize = 56;
 
 const STRIDE: usize = 64;
 
-const TILE: usize = 512;
+const TILE_PLANE: usize = 512;
 
 // Samples of a plane's window, and the place of a sample in its own window.
 const PLANE: usize = 896;
@@ -29,11 +33,16 @@ const CENTRE: usize = 196;
 
 const PLANES: usize = 3;
 
-const TILES: usize = 1536;
+pub const TILE: usize = 1536;
 
 const ROWS: usize = 8;
 
-fn ones(sum: &mut [f32; 64])
+const BLOCK: usize = 8;
+
+// The weights of a row: a stride for each of at most twelve neighbours.
+const WEIGHTS: usize = 768;
+
+fn ones(sum: &mut [f32; STRIDE])
     ensures { λ _. ⌜ now (sum .exit) ≡ fill (now (sum .entry)) 0 56 (λ (i : ℕ). b1) ⌝ }
 {
     let mut i = 0;
@@ -45,21 +54,21 @@ fn ones(sum: &mut [f32; 64])
 
 // The weights of one neighbour, and their sums.
 fn weigh(
-    t: &mut [f32; 768],
+    stored: &mut [f32; WEIGHTS],
     at: usize,
-    sum: &mut [f32; 64],
-    e: &[f32; 5376],
+    sum: &mut [f32; STRIDE],
+    fields: &[f32; FIELDS],
     from: usize,
-    slopes: &[f32; 128],
-    kind: usize,
+    slopes: &[f32; SLOPES],
+    first: usize,
 )
-    requires { ⌜ (at + 56 ≤ 768) × (from + 56 ≤ 5376) × (kind + 56 ≤ 128) ⌝ }
-    ensures { λ _. ⌜ (now (t .exit) ≡ fill (now (t .entry)) at 56 (λ (i : ℕ). weightBy (getD (now (slopes .entry)) (kind + i) nan) (getD (now (e .entry)) (from + i) nan))) × (now (sum .exit) ≡ fill (now (sum .entry)) 0 56 (λ (i : ℕ). getD (now (sum .entry)) (0 + i) nan ⊕ weightBy (getD (now (slopes .entry)) (kind + i) nan) (getD (now (e .entry)) (from + i) nan))) ⌝ }
+    requires { ⌜ (at + 56 ≤ 768) × (from + 56 ≤ 5376) × (first + 56 ≤ 128) ⌝ }
+    ensures { λ _. ⌜ (now (stored .exit) ≡ fill (now (stored .entry)) at 56 (λ (i : ℕ). weightBy (getD (now (slopes .entry)) (first + i) nan) (getD (now (fields .entry)) (from + i) nan))) × (now (sum .exit) ≡ fill (now (sum .entry)) 0 56 (λ (i : ℕ). getD (now (sum .entry)) (0 + i) nan ⊕ weightBy (getD (now (slopes .entry)) (first + i) nan) (getD (now (fields .entry)) (from + i) nan))) ⌝ }
 {
     let mut i = 0;
     while i < LANES {
-        let w = weight(e[from + i], slopes[kind + i]);
-        t[at + i] = w;
+        let w = weight(fields[from + i], slopes[first + i]);
+        stored[at + i] = w;
         sum[i] = sum[i] + w;
         i += 1;
     }
@@ -67,29 +76,37 @@ fn weigh(
 
 // The weights of all neighbours of row r.
 fn weigh_all(
-    t: &mut [f32; 768],
-    sum: &mut [f32; 64],
-    e: &[f32; 5376],
-    slopes: &[f32; 128],
+    stored: &mut [f32; WEIGHTS],
+    sum: &mut [f32; STRIDE],
+    fields: &[f32; FIELDS],
+    slopes: &[f32; SLOPES],
     step: usize,
     r: usize,
-    kind: usize,
+    first: usize,
 )
-    requires { ⌜ (length (now t) ≡ 768) × (length (now sum) ≡ 64) × (r < 8) × (kind ≤ 64) ⌝ }
-    ensures { λ _. ⌜ Weighed (λ (i : ℕ) (q : ℕ). weightOf step (now (e .entry)) (now (slopes .entry)) kind r i q) (now (t .exit)) (now (sum .exit)) (length (kernel step)) ⌝ }
+    requires { ⌜ (length (now stored) ≡ 768) × (length (now sum) ≡ 64) × (r < 8) × (first ≤ 64) ⌝ }
+    ensures { λ _. ⌜ Weighed (λ (i : ℕ) (q : ℕ). weightOf step (now (fields .entry)) (now (slopes .entry)) first r i q) (now (stored .exit)) (now (sum .exit)) (length (kernel step)) ⌝ }
 {
     ones(sum);
     let n = kernel_len(step);
     let mut q = 0;
     while q < n {
         let start = neighbour(step, q).start;
-        weigh(t, q * STRIDE, sum, e, start + r * STRIDE, slopes, kind);
+        weigh(
+            stored,
+            q * STRIDE,
+            sum,
+            fields,
+            start + r * STRIDE,
+            slopes,
+            first,
+        );
         q += 1;
     }
 }
 
 // The samples themselves.
-fn centre(out: &mut [f32], at: usize, win: &[f32; 2688], from: usize)
+fn centre(out: &mut [f32], at: usize, win: &[f32; WINDOWS], from: usize)
     requires { ⌜ (at + 56 ≤ length (now out)) × (from + 56 ≤ 2688) ⌝ }
     ensures { λ _. ⌜ now (out .exit) ≡ fill (now (out .entry)) at 56 (λ (i : ℕ). getD (now (win .entry)) (from + i) nan) ⌝ }
 {
@@ -101,45 +118,55 @@ fn centre(out: &mut [f32], at: usize, win: &[f32; 2688], from: usize)
 }
 
 // A lane's sum with four weighted neighbours more: weights from index a on, samples at four places.
-fn four(
+fn with_four(
     x: f32,
-    t: &[f32; 768],
+    stored: &[f32; WEIGHTS],
     a: usize,
-    win: &[f32; 2688],
+    win: &[f32; WINDOWS],
     k0: usize,
     k1: usize,
     k2: usize,
     k3: usize,
 ) -> f32
     requires { ⌜ (a + 192 < 768) × (k0 < 2688) × (k1 < 2688) × (k2 < 2688) × (k3 < 2688) ⌝ }
-    ensures { λ r. ⌜ r ≡ x ⊕ getD (now (t .entry)) a nan ⊗ getD (now (win .entry)) k0 nan ⊕ getD (now (t .entry)) (a + 64) nan ⊗ getD (now (win .entry)) k1 nan ⊕ getD (now (t .entry)) (a + 128) nan ⊗ getD (now (win .entry)) k2 nan ⊕ getD (now (t .entry)) (a + 192) nan ⊗ getD (now (win .entry)) k3 nan ⌝ }
+    ensures { λ r. ⌜ r ≡ x ⊕ getD (now (stored .entry)) a nan ⊗ getD (now (win .entry)) k0 nan ⊕ getD (now (stored .entry)) (a + 64) nan ⊗ getD (now (win .entry)) k1 nan ⊕ getD (now (stored .entry)) (a + 128) nan ⊗ getD (now (win .entry)) k2 nan ⊕ getD (now (stored .entry)) (a + 192) nan ⊗ getD (now (win .entry)) k3 nan ⌝ }
 {
-    x + t[a] * win[k0] + t[a + 64] * win[k1] + t[a + 128] * win[k2] + t[a + 192] * win[k3]
+    let half = x + stored[a] * win[k0] + stored[a + STRIDE] * win[k1];
+    half + stored[a + 2 * STRIDE] * win[k2] + stored[a + 3 * STRIDE] * win[k3]
 }
 
 // Adds four neighbours to 56 lanes.
 fn add_four(
     out: &mut [f32],
     at: usize,
-    t: &[f32; 768],
+    stored: &[f32; WEIGHTS],
     a: usize,
-    win: &[f32; 2688],
+    win: &[f32; WINDOWS],
     k0: usize,
     k1: usize,
     k2: usize,
     k3: usize,
 )
     requires { ⌜ (at + 56 ≤ length (now out)) × (a + 248 ≤ 768) × (k0 + 56 ≤ 2688) × (k1 + 56 ≤ 2688) × (k2 + 56 ≤ 2688) × (k3 + 56 ≤ 2688) ⌝ }
-    ensures { λ _. ⌜ now (out .exit) ≡ fill (now (out .entry)) at 56 (λ (i : ℕ). getD (now (out .entry)) (at + i) nan ⊕ getD (now (t .entry)) (a + i) nan ⊗ getD (now (win .entry)) (k0 + i) nan ⊕ getD (now (t .entry)) (a + i + 64) nan ⊗ getD (now (win .entry)) (k1 + i) nan ⊕ getD (now (t .entry)) (a + i + 128) nan ⊗ getD (now (win .entry)) (k2 + i) nan ⊕ getD (now (t .entry)) (a + i + 192) nan ⊗ getD (now (win .entry)) (k3 + i) nan) ⌝ }
+    ensures { λ _. ⌜ now (out .exit) ≡ fill (now (out .entry)) at 56 (λ (i : ℕ). getD (now (out .entry)) (at + i) nan ⊕ getD (now (stored .entry)) (a + i) nan ⊗ getD (now (win .entry)) (k0 + i) nan ⊕ getD (now (stored .entry)) (a + i + 64) nan ⊗ getD (now (win .entry)) (k1 + i) nan ⊕ getD (now (stored .entry)) (a + i + 128) nan ⊗ getD (now (win .entry)) (k2 + i) nan ⊕ getD (now (stored .entry)) (a + i + 192) nan ⊗ getD (now (win .entry)) (k3 + i) nan) ⌝ }
 {
     let mut i = 0;
     while i < LANES {
-        out[at + i] = four(out[at + i], t, a + i, win, k0 + i, k1 + i, k2 + i, k3 + i);
+        out[at + i] = with_four(
+            out[at + i],
+            stored,
+            a + i,
+            win,
+            k0 + i,
+            k1 + i,
+            k2 + i,
+            k3 + i,
+        );
         i += 1;
     }
 }
 
-fn divide(out: &mut [f32], at: usize, sum: &[f32; 64])
+fn divide(out: &mut [f32], at: usize, sum: &[f32; STRIDE])
     requires { ⌜ at + 56 ≤ length (now out) ⌝ }
     ensures { λ _. ⌜ now (out .exit) ≡ fill (now (out .entry)) at 56 (λ (i : ℕ). getD (now (out .entry)) (at + i) nan ⊘ getD (now (sum .entry)) i nan) ⌝ }
 {
@@ -162,14 +189,14 @@ fn samples_at(base: usize, step: usize, q: usize) -> usize
 fn blend(
     out: &mut [f32],
     at: usize,
-    t: &[f32; 768],
-    win: &[f32; 2688],
+    stored: &[f32; WEIGHTS],
+    win: &[f32; WINDOWS],
     c: usize,
     r: usize,
     step: usize,
 )
     requires { ⌜ (at + 56 ≤ length (now out)) × (c < 3) × (r < 8) ⌝ }
-    ensures { λ _. ⌜ now (out .exit) ≡ fill (now (out .entry)) at 56 (storedTo step (now (t .entry)) (now (win .entry)) c r (length (kernel step))) ⌝ }
+    ensures { λ _. ⌜ now (out .exit) ≡ fill (now (out .entry)) at 56 (storedTo step (now (stored .entry)) (now (win .entry)) c r (length (kernel step))) ⌝ }
 {
     let base = c * PLANE + r * STRIDE;
     centre(out, at, win, base + CENTRE);
@@ -180,7 +207,7 @@ fn blend(
         let k1 = samples_at(base, step, q + 1);
         let k2 = samples_at(base, step, q + 2);
         let k3 = samples_at(base, step, q + 3);
-        add_four(out, at, t, q * STRIDE, win, k0, k1, k2, k3);
+        add_four(out, at, stored, q * STRIDE, win, k0, k1, k2, k3);
         q += 4;
     }
 }
@@ -188,76 +215,77 @@ fn blend(
 // Row r of each plane, divided by the sums of the weights.
 fn blend_planes(
     out: &mut [f32],
-    t: &[f32; 768],
-    sum: &[f32; 64],
-    win: &[f32; 2688],
+    stored: &[f32; WEIGHTS],
+    sum: &[f32; STRIDE],
+    win: &[f32; WINDOWS],
     step: usize,
     planes: usize,
     r: usize,
 )
     requires { ⌜ (length (now out) ≡ 1536) × (planes ≤ 3) × (r < 8) ⌝ }
-    ensures { λ _. ⌜ now (out .exit) ≡ planesFill 64 8 0 56 r 1 (λ (c : ℕ) (i : ℕ) (j : ℕ). storedTo step (now (t .entry)) (now (win .entry)) c r (length (kernel step)) i ⊘ getD (now (sum .entry)) i nan) (now (out .entry)) planes ⌝ }
+    ensures { λ _. ⌜ now (out .exit) ≡ planesFill 64 8 0 56 r 1 (λ (c : ℕ) (i : ℕ) (j : ℕ). storedTo step (now (stored .entry)) (now (win .entry)) c r (length (kernel step)) i ⊘ getD (now (sum .entry)) i nan) (now (out .entry)) planes ⌝ }
 {
     let mut c = 0;
     while c < planes {
-        let at = c * TILE + r * STRIDE;
-        blend(out, at, t, win, c, r, step);
+        let at = c * TILE_PLANE + r * STRIDE;
+        blend(out, at, stored, win, c, r, step);
         divide(out, at, sum);
         c += 1;
     }
 }
 
-// The lanes of row r, whose slopes start at `kind`.
+// The lanes of row r, whose slopes start at `first`.
 fn filter_row(
     out: &mut [f32],
-    t: &mut [f32; 768],
-    sum: &mut [f32; 64],
-    e: &[f32; 5376],
-    slopes: &[f32; 128],
-    win: &[f32; 2688],
+    stored: &mut [f32; WEIGHTS],
+    sum: &mut [f32; STRIDE],
+    fields: &[f32; FIELDS],
+    slopes: &[f32; SLOPES],
+    win: &[f32; WINDOWS],
     step: usize,
     planes: usize,
     r: usize,
-    kind: usize,
+    first: usize,
 )
-    requires { ⌜ (length (now out) ≡ 1536) × (length (now t) ≡ 768) × (length (now sum) ≡ 64) × (planes ≤ 3) × (r < 8) × (kind ≤ 64) ⌝ }
-    ensures { λ _. ⌜ (now (out .exit) ≡ planesFill 64 8 0 56 r 1 (λ (c : ℕ) (i : ℕ) (j : ℕ). laneOf step (now (e .entry)) (now (slopes .entry)) (now (win .entry)) kind c i r) (now (out .entry)) planes) × (length (now (t .exit)) ≡ 768) × (length (now (sum .exit)) ≡ 64) ⌝ }
+    requires { ⌜ (length (now out) ≡ 1536) × (length (now stored) ≡ 768) × (length (now sum) ≡ 64) × (planes ≤ 3) × (r < 8) × (first ≤ 64) ⌝ }
+    ensures { λ _. ⌜ (now (out .exit) ≡ planesFill 64 8 0 56 r 1 (λ (c : ℕ) (i : ℕ) (j : ℕ). laneOf step (now (fields .entry)) (now (slopes .entry)) (now (win .entry)) first c i r) (now (out .entry)) planes) × (length (now (stored .exit)) ≡ 768) × (length (now (sum .exit)) ≡ 64) ⌝ }
 {
-    weigh_all(t, sum, e, slopes, step, r, kind);
-    blend_planes(out, t, sum, win, step, planes, r);
-}
-
-// Where the slopes of a row of the image start.
-pub fn kind_of(row: usize) -> usize
-    ensures { λ r. ⌜ r ≡ kindOf row ⌝ }
-{
-    if at_border(row) {
-        return STRIDE;
-    }
-    0
+    weigh_all(stored, sum, fields, slopes, step, r, first);
+    blend_planes(out, stored, sum, win, step, planes, r);
 }
 
 // The rows of a tile; row 0 is row `top` of the image.
 fn filter_rows(
     out: &mut [f32],
-    e: &[f32; 5376],
-    slopes: &[f32; 128],
-    win: &[f32; 2688],
+    fields: &[f32; FIELDS],
+    slopes: &[f32; SLOPES],
+    win: &[f32; WINDOWS],
     step: usize,
     planes: usize,
     top: usize,
     rows: usize,
 )
     requires { ⌜ (length (now out) ≡ 1536) × (planes ≤ 3) × (rows ≤ 8) ⌝ }
-    ensures { λ _. ⌜ now (out .exit) ≡ planesFill 64 8 0 56 0 rows (λ (c : ℕ) (i : ℕ) (r : ℕ). laneOf step (now (e .entry)) (now (slopes .entry)) (now (win .entry)) (kindOf (top + r)) c i r) (now (out .entry)) planes ⌝ }
+    ensures { λ _. ⌜ now (out .exit) ≡ planesFill 64 8 0 56 0 rows (λ (c : ℕ) (i : ℕ) (r : ℕ). laneOf step (now (fields .entry)) (now (slopes .entry)) (now (win .entry)) (firstSlope (top + r)) c i r) (now (out .entry)) planes ⌝ }
 {
-    let mut t = [0.0; 768];
-    let mut sum = [0.0; 64];
-    let first = top % 8;
+    let mut stored = [0.0; WEIGHTS];
+    let mut sum = [0.0; STRIDE];
+    let offset = top % BLOCK;
     let mut r = 0;
     while r < rows {
-        let kind = kind_of(first + r);
-        filter_row(out, &mut t, &mut sum, e, slopes, win, step, planes, r, kind);
+        let first = first_slope(offset + r);
+        filter_row(
+            out,
+            &mut stored,
+            &mut sum,
+            fields,
+            slopes,
+            win,
+            step,
+            planes,
+            r,
+            first,
+        );
         r += 1;
     }
 }
@@ -265,17 +293,17 @@ fn filter_rows(
 // The lanes of a tile of at most three planes and eight rows; nothing for more, or where `out` is no tile.
 pub fn filter_tile(
     out: &mut [f32],
-    e: &[f32; 5376],
-    slopes: &[f32; 128],
-    win: &[f32; 2688],
+    fields: &[f32; FIELDS],
+    slopes: &[f32; SLOPES],
+    win: &[f32; WINDOWS],
     step: usize,
     planes: usize,
     top: usize,
     rows: usize,
 )
-    ensures { λ _. ⌜ now (out .exit) ≡ lanesOf step (now (e .entry)) (now (slopes .entry)) (now (win .entry)) planes top rows (now (out .entry)) ⌝ }
+    ensures { λ _. ⌜ now (out .exit) ≡ lanesOf step (now (fields .entry)) (now (slopes .entry)) (now (win .entry)) planes top rows (now (out .entry)) ⌝ }
 {
-    if out.len() != TILES {
+    if out.len() != TILE {
         return;
     }
     if PLANES < planes {
@@ -284,5 +312,5 @@ pub fn filter_tile(
     if ROWS < rows {
         return;
     }
-    filter_rows(out, e, slopes, win, step, planes, top, rows)
+    filter_rows(out, fields, slopes, win, step, planes, top, rows)
 }

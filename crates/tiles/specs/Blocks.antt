@@ -1,13 +1,14 @@
 -- The blocks of a filter region (document 01, "Block sigmas"): how many lie beside and below each other, and the sigma of each. Definitions only.
 use mathlib.Core.List.{List}
-use Prim.Native.Nat.{ℕ, _+_, _*_, _/_}
+use Prim.Native.Nat.{ℕ, _+_, _*_}
 use lib.ListN.{getD}
 use lib.Ieee.{Float, nan}
+use Rattle.frame.specs.Sizes.{blocksAlong}
 use Rattle.planes.specs.declared.Layout.{Layout}
 
 -- blocks across the filter region
 abbrev pub across : Layout → ℕ
-across l = (l .width + 7) / 8
+across l = blocksAlong (l .width)
 
 -- sigmas row of blocks after row of blocks
 abbrev pub sigmaOf : ℕ → List Float → ℕ → ℕ → Float
@@ -15,4 +16,4 @@ sigmaOf n sigmas = λ bx by. getD sigmas (by * n + bx) nan
 
 -- blocks below each other in the filter region
 abbrev pub down : Layout → ℕ
-down l = (l .height + 7) / 8
+down l = blocksAlong (l .height)

@@ -17,9 +17,11 @@ use Rattle.planes.specs.Join.{rect-below, rect-beside}
 use Rattle.planes.specs.Band.{setFits}
 use Rattle.planes.specs.Stored.{LayoutFits}
 use Rattle.planes.specs.Room.{set-facts, set-true}
+use Rattle.frame.specs.Sizes.{blocksAlong}
+use Rattle.rects.specs.declared.Rect.{Rect}
+use Rattle.rects.specs.Rects.{RectFits}
 use Rattle.tiles.specs.declared.Step.{Step}
-use Rattle.tiles.specs.Store.{RectFits}
-use Rattle.tiles.specs.Tile.{sigmaStart, blocksOf, TileFits, stepOver}
+use Rattle.tiles.specs.Tile.{sigmaStart, TileFits, stepOver}
 use Rattle.tiles.specs.Blocks.{across, down}
 
 -- no columns, no rows
@@ -57,7 +59,7 @@ pub record StripFits (l : Layout) (y rows : ℕ) : Type 0 where
   pub inside : y + rows ≤ l .height
 
 module _ (l : Layout) (n : ℕ) (s : Step) (top len count y rows x cols : ℕ) (fits : RegionFits l n s top len count) (strip : StripFits l y rows) where
-  pub tile-fits : x < l .width → x % 8 ≡ 0 → cols ≡ min (l .width - x) 56 → TileFits l n x y rows cols
+  pub tile-fits : x < l .width → x % 8 ≡ 0 → cols ≡ min (l .width - x) 56 → TileFits l n (record { x = x; y = y; rows = rows; cols = cols })
   tile-fits h m e = record {
     few = fits .planes;
     start = m;
@@ -69,7 +71,7 @@ module _ (l : Layout) (n : ℕ) (s : Step) (top len count y rows x cols : ℕ) (
     down = strip .inside;
   }
 
-  pub tile-room : x < l .width → cols ≡ min (l .width - x) 56 → RectFits l n x y rows cols len
+  pub tile-room : x < l .width → cols ≡ min (l .width - x) 56 → RectFits l n (record { x = x; y = y; rows = rows; cols = cols }) len
   tile-room h e = record { layout = fits .layout; planes = fits .planes; across = omega arith; down = strip .inside; some = strip .some; set = fits .set }
 
   -- the strip's sigmas
@@ -81,7 +83,7 @@ module _ (l : Layout) (n : ℕ) (s : Step) (top len count y rows x cols : ℕ) (
       let z : y / 8 + 1 ≡ suc (y / 8) = omega arith in
       (omega (arith, fits .sigmas, suc-mul (y / 8) (across l), rw z at (mul-le-mul-right (across l) a)), mul-le-mul b w)
 
-  pub tile-sigmas : x < l .width → x % 8 ≡ 0 → cols ≡ min (l .width - x) 56 → sigmaStart l x y + blocksOf cols ≤ count
+  pub tile-sigmas : x < l .width → x % 8 ≡ 0 → cols ≡ min (l .width - x) 56 → sigmaStart l x y + blocksAlong cols ≤ count
   tile-sigmas h m e = omega (arith, strip-sigmas .0)
 
 -- one tile more
@@ -119,14 +121,14 @@ regionFits l n s top from to src dst count =
     setFits l n src && (setFits l n dst && (eqb count (down l * across l) && (ltb (s .step) 3 && (leb top 4294967296 && (leb from to && leb to (l .height))))))
 
 -- what filtering them leaves: the step's samples in those rows, and nothing where these do not fit
-unfoldable pub regionOf : ℕ → Layout → Step → List Float → ℕ → ℕ → ℕ → List Float → List Float → List Float → List Float
-regionOf n l s scales top from to sigmas src dst =
+unfoldable pub regionOf : ℕ → Layout → Step → ℕ → ℕ → ℕ → List Float → List Float → List Float → List Float
+regionOf n l s top from to sigmas src dst =
     cond (regionFits l n s top from to (length src) (length dst) (length sigmas))
-    (planesFill (l .image .width) (l .image .height) (l .left) (l .width) (l .top + from) (to - from) (λ c i r. stepOver n l s scales top sigmas src c i (from + r)) dst n) dst
+    (planesFill (l .image .width) (l .image .height) (l .left) (l .width) (l .top + from) (to - from) (λ c i r. stepOver n l s top sigmas src c i (from + r)) dst n) dst
 
-module _ (n : ℕ) (l : Layout) (s : Step) (scales : List Float) (top from to : ℕ) (sigmas src dst : List Float) where
+module _ (n : ℕ) (l : Layout) (s : Step) (top from to : ℕ) (sigmas src dst : List Float) where
   abbrev Kept : Type 0
-  Kept = dst ≡ regionOf n l s scales top from to sigmas src dst
+  Kept = dst ≡ regionOf n l s top from to sigmas src dst
 
   kept : regionFits l n s top from to (length src) (length dst) (length sigmas) ≡ false → Kept
   unfolding regionOf
@@ -161,8 +163,8 @@ module _ (n : ℕ) (l : Layout) (s : Step) (scales : List Float) (top from to : 
       (record { layout = u .layout; planes = u .planes; set = v .size; sigmas = c; low = omega arith; place = e }, u .size ∙ sym (v .size))
 
   pub region-done : RegionFits l n s top (length dst) (length sigmas) → length src ≡ length dst → from ≤ to → to ≤ l .height
-      → regionOf n l s scales top from to sigmas src dst
-      ≡ planesFill (l .image .width) (l .image .height) (l .left) (l .width) (l .top + from) (to - from) (λ c i r. stepOver n l s scales top sigmas src c i (from + r)) dst n
+      → regionOf n l s top from to sigmas src dst
+      ≡ planesFill (l .image .width) (l .image .height) (l .left) (l .width) (l .top + from) (to - from) (λ c i r. stepOver n l s top sigmas src c i (from + r)) dst n
   unfolding regionOf
   region-done f e p q =
       rw (

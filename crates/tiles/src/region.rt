@@ -1,9 +1,15 @@
 // Rows of the filter region, by strips that lie within one row of blocks.
 use crate::Step;
-use crate::tile::at_most;
+use crate::tile::blocks_of;
 use crate::tile::tile;
+use distances::FIELDS;
+use distances::WINDOWS;
+use lanes::TILE;
 use planes::Layout;
 use planes::set_fits;
+use rects::Rect;
+use slopes::SLOPES;
+use window::at_most;
 ghost use mathlib.Core.Path.{_≡_};
 ghost use Prim.Native.Nat.{ℕ, _+_, _-_, _*_, _<_, _≤_};
 ghost use lib.ListN.{length};
@@ -16,6 +22,9 @@ const COLUMNS: usize = 56;
 
 const BLOCK: usize = 8;
 
+const LAST_STEP: usize = 2;
+
+// A top of a region, which is an i32, is less; below it rows are counted without a carry.
 const MAX_TOP: usize = 4_294_967_296;
 
 // A strip of rows, tile after tile.
@@ -25,70 +34,59 @@ fn strip(
     l: Layout,
     n: usize,
     s: Step,
-    scales: &[f32; 3],
     sigmas: &[f32],
     top: usize,
     y: usize,
     rows: usize,
-    win: &mut [f32; 2688],
-    e: &mut [f32; 5376],
-    sl: &mut [f32; 128],
-    out: &mut [f32],
+    win: &mut [f32; WINDOWS],
+    fields: &mut [f32; FIELDS],
+    slopes: &mut [f32; SLOPES],
+    lanes: &mut [f32],
 )
-    requires { ⌜ RegionFits l n s top (length (now dst)) (length (now sigmas)) ⌝ }
-    requires { ⌜ (length (now src) ≡ length (now dst)) × StripFits l y rows ⌝ }
-    requires { ⌜ Scratch (now win) (now e) (now sl) (now out) ⌝ }
-    ensures { λ _. ⌜ (now (dst .exit) ≡ planesFill (l .image .width) (l .image .height) (l .left) (l .width) (l .top + y) rows (λ (c : ℕ) (i : ℕ) (r : ℕ). stepOver n l s (now (scales .entry)) top (now (sigmas .entry)) (now (src .entry)) c i (y + r)) (now (dst .entry)) n) × Scratch (now (win .exit)) (now (e .exit)) (now (sl .exit)) (now (out .exit)) ⌝ }
+    requires { ⌜ RegionFits l n s top (length (now dst)) (length (now sigmas)) × (length (now src) ≡ length (now dst)) × StripFits l y rows × Scratch (now win) (now fields) (now slopes) (now lanes) ⌝ }
+    ensures { λ _. ⌜ (now (dst .exit) ≡ planesFill (l .image .width) (l .image .height) (l .left) (l .width) (l .top + y) rows (λ (c : ℕ) (i : ℕ) (r : ℕ). stepOver n l s top (now (sigmas .entry)) (now (src .entry)) c i (y + r)) (now (dst .entry)) n) × Scratch (now (win .exit)) (now (fields .exit)) (now (slopes .exit)) (now (lanes .exit)) ⌝ }
 {
-    let start = y / BLOCK * ((l.width + 7) / BLOCK);
     let mut x = 0;
     while x < l.width {
         let cols = at_most(l.width - x, COLUMNS);
+        let rect = Rect { x, y, rows, cols };
         tile(
             dst,
             src,
             l,
             n,
             s,
-            scales,
             sigmas,
-            start + x / BLOCK,
             top,
-            x,
-            y,
-            rows,
-            cols,
+            rect,
             win,
-            e,
-            sl,
-            out,
+            fields,
+            slopes,
+            lanes,
         );
         x += cols;
     }
 }
 
-// Rows `from` up to `to`, strip after strip.
+// Rows `from` up to `to`, strip after strip, with the local memory of a tile.
 fn strips(
     dst: &mut [f32],
     src: &[f32],
     l: Layout,
     n: usize,
     s: Step,
-    scales: &[f32; 3],
     sigmas: &[f32],
     top: usize,
     from: usize,
     to: usize,
-    win: &mut [f32; 2688],
-    e: &mut [f32; 5376],
-    sl: &mut [f32; 128],
-    out: &mut [f32],
 )
-    requires { ⌜ RegionFits l n s top (length (now dst)) (length (now sigmas)) ⌝ }
-    requires { ⌜ (length (now src) ≡ length (now dst)) × (from ≤ to) × (to ≤ l .height) ⌝ }
-    requires { ⌜ Scratch (now win) (now e) (now sl) (now out) ⌝ }
-    ensures { λ _. ⌜ now (dst .exit) ≡ planesFill (l .image .width) (l .image .height) (l .left) (l .width) (l .top + from) (to - from) (λ (c : ℕ) (i : ℕ) (r : ℕ). stepOver n l s (now (scales .entry)) top (now (sigmas .entry)) (now (src .entry)) c i (from + r)) (now (dst .entry)) n ⌝ }
+    requires { ⌜ RegionFits l n s top (length (now dst)) (length (now sigmas)) × (length (now src) ≡ length (now dst)) × (from ≤ to) × (to ≤ l .height) ⌝ }
+    ensures { λ _. ⌜ now (dst .exit) ≡ planesFill (l .image .width) (l .image .height) (l .left) (l .width) (l .top + from) (to - from) (λ (c : ℕ) (i : ℕ) (r : ℕ). stepOver n l s top (now (sigmas .entry)) (now (src .entry)) c i (from + r)) (now (dst .entry)) n ⌝ }
 {
+    let mut win = [0.0; WINDOWS];
+    let mut fields = [0.0; FIELDS];
+    let mut slopes = [0.0; SLOPES];
+    let mut lanes = [0.0; TILE];
     let mut y = from;
     while y < to {
         let rows = at_most(to - y, BLOCK - y % BLOCK);
@@ -98,57 +96,17 @@ fn strips(
             l,
             n,
             s,
-            scales,
             sigmas,
             top,
             y,
             rows,
-            win,
-            e,
-            sl,
-            out,
+            &mut win,
+            &mut fields,
+            &mut slopes,
+            &mut lanes,
         );
         y += rows;
     }
-}
-
-// The same, with the local memory of a tile.
-fn with_scratch(
-    dst: &mut [f32],
-    src: &[f32],
-    l: Layout,
-    n: usize,
-    s: Step,
-    scales: &[f32; 3],
-    sigmas: &[f32],
-    top: usize,
-    from: usize,
-    to: usize,
-)
-    requires { ⌜ RegionFits l n s top (length (now dst)) (length (now sigmas)) ⌝ }
-    requires { ⌜ (length (now src) ≡ length (now dst)) × (from ≤ to) × (to ≤ l .height) ⌝ }
-    ensures { λ _. ⌜ now (dst .exit) ≡ planesFill (l .image .width) (l .image .height) (l .left) (l .width) (l .top + from) (to - from) (λ (c : ℕ) (i : ℕ) (r : ℕ). stepOver n l s (now (scales .entry)) top (now (sigmas .entry)) (now (src .entry)) c i (from + r)) (now (dst .entry)) n ⌝ }
-{
-    let mut win = [0.0; 2688];
-    let mut e = [0.0; 5376];
-    let mut sl = [0.0; 128];
-    let mut out = [0.0; 1536];
-    strips(
-        dst,
-        src,
-        l,
-        n,
-        s,
-        scales,
-        sigmas,
-        top,
-        from,
-        to,
-        &mut win,
-        &mut e,
-        &mut sl,
-        &mut out,
-    );
 }
 
 // Rows `from` up to `to` of the filter region, in n planes; row 0 of it is row `top` of the image. Sigmas stand row of blocks after row of blocks.
@@ -159,13 +117,12 @@ pub fn filter_region(
     l: Layout,
     n: usize,
     s: Step,
-    scales: &[f32; 3],
     sigmas: &[f32],
     top: usize,
     from: usize,
     to: usize,
 )
-    ensures { λ _. ⌜ now (dst .exit) ≡ regionOf n l s (now (scales .entry)) top from to (now (sigmas .entry)) (now (src .entry)) (now (dst .entry)) ⌝ }
+    ensures { λ _. ⌜ now (dst .exit) ≡ regionOf n l s top from to (now (sigmas .entry)) (now (src .entry)) (now (dst .entry)) ⌝ }
 {
     if !set_fits(l, n, src.len()) {
         return;
@@ -173,10 +130,10 @@ pub fn filter_region(
     if !set_fits(l, n, dst.len()) {
         return;
     }
-    if sigmas.len() != (l.height + 7) / BLOCK * ((l.width + 7) / BLOCK) {
+    if sigmas.len() != blocks_of(l.height) * blocks_of(l.width) {
         return;
     }
-    if 2 < s.step {
+    if LAST_STEP < s.step {
         return;
     }
     if MAX_TOP < top {
@@ -188,5 +145,5 @@ pub fn filter_region(
     if l.height < to {
         return;
     }
-    with_scratch(dst, src, l, n, s, scales, sigmas, top, from, to);
+    strips(dst, src, l, n, s, sigmas, top, from, to);
 }

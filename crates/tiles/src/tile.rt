@@ -1,66 +1,57 @@
 // One tile: its lanes where a block is filtered, its samples where one is copied.
 use crate::Step;
-use crate::inside::filter_inside;
-use crate::inside::lies_inside;
-use crate::slopes::tile_slopes;
-use crate::store::store_planes;
+use distances::FIELDS;
+use distances::WINDOWS;
 use distances::distances;
+use inside::filter_inside;
+use inside::lies_inside;
 use lanes::filter_tile;
 use planes::Layout;
+use rects::Rect;
+use rects::copy_rect;
+use rects::store_tile;
+use slopes::SLOPES;
+use slopes::tile_slopes;
 use weights::copied;
+use window::at_most;
 use window::load;
 ghost use mathlib.Core.Path.{_≡_};
 ghost use mathlib.Core.Bool.{cond, true};
-ghost use Prim.Native.Nat.{ℕ, _+_, _-_, _*_, _/_, _<_, _≤_, min};
+ghost use Prim.Native.Nat.{ℕ, _+_, _-_, _*_, _/_, _<_, _≤_};
 ghost use lib.ListN.{length, getD};
 ghost use lib.Ieee.{nan};
-ghost use Rattle.planes.specs.Rect.{planesFill};
 ghost use Rattle.planes.specs.Band.{inner};
+ghost use Rattle.rects.specs.Rects.{rectFilled, RectFits};
+ghost use Rattle.frame.specs.Sizes.{blocksAlong};
 ghost use Rattle.weights.specs.Steps.{copied as copiedOf};
-ghost use Rattle.tiles.specs.Store.{RectFits};
-ghost use Rattle.tiles.specs.Tile.{sigmaStart, blocksOf, TileFits, Scratch, Computed, Restored, stepOver};
+ghost use Rattle.tiles.specs.Tile.{sigmaStart, TileFits, Scratch, Filtered, FilteredBy, Restored, stepOver};
 
-pub(crate) fn at_most(x: usize, k: usize) -> usize
-    ensures { λ r. ⌜ r ≡ min x k ⌝ }
+const BLOCK: usize = 8;
+
+// The step that the planes themselves serve, and the planes that it takes.
+const LAST_STEP: usize = 2;
+
+const PLANES: usize = 3;
+
+// How many blocks begin in so many columns or rows.
+pub(crate) fn blocks_of(n: usize) -> usize
+    requires { ⌜ n ≤ 16384 ⌝ }
+    ensures { λ r. ⌜ r ≡ blocksAlong n ⌝ }
 {
-    if x < k {
-        return x;
-    }
-    k
+    (n + (BLOCK - 1)) / BLOCK
 }
 
-// A rectangle as it is.
-fn copy_rect(
-    dst: &mut [f32],
-    src: &[f32],
-    l: Layout,
-    n: usize,
-    x: usize,
-    y: usize,
-    rows: usize,
-    cols: usize,
-)
-    requires { ⌜ RectFits l n x y rows cols (length (now dst)) × (length (now src) ≡ length (now dst)) ⌝ }
-    ensures { λ _. ⌜ now (dst .exit) ≡ planesFill (l .image .width) (l .image .height) (l .left + x) cols (l .top + y) rows (λ (c : ℕ) (i : ℕ) (r : ℕ). inner l (now (src .entry)) c (x + i) (y + r)) (now (dst .entry)) n ⌝ }
+// The sigma of the block in which a tile starts.
+fn first_sigma(l: Layout, rect: Rect) -> usize
+    requires { ⌜ (l .width ≤ 16384) × (rect .x ≤ 16384) × (rect .y ≤ 16384) ⌝ }
+    ensures { λ r. ⌜ r ≡ sigmaStart l (rect .x) (rect .y) ⌝ }
 {
-    let stride = l.image.width;
-    let at = (l.top + y) * stride + (l.left + x);
-    store_planes(
-        dst,
-        l,
-        src,
-        at,
-        stride,
-        l.image.height * stride,
-        n,
-        x,
-        y,
-        rows,
-        cols,
-    );
+    let row = rect.y / BLOCK;
+    let across = blocks_of(l.width);
+    row * across + rect.x / BLOCK
 }
 
-// Block b of a tile, if it is copied.
+// A block, if it is copied.
 fn restore_block(
     dst: &mut [f32],
     src: &[f32],
@@ -68,18 +59,15 @@ fn restore_block(
     n: usize,
     sigma: f32,
     limit: f32,
-    x: usize,
-    y: usize,
-    rows: usize,
-    cols: usize,
+    rect: Rect,
 )
-    requires { ⌜ RectFits l n x y rows cols (length (now dst)) × (length (now src) ≡ length (now dst)) ⌝ }
-    ensures { λ _. ⌜ now (dst .exit) ≡ cond (copiedOf sigma limit) (planesFill (l .image .width) (l .image .height) (l .left + x) cols (l .top + y) rows (λ (c : ℕ) (i : ℕ) (r : ℕ). inner l (now (src .entry)) c (x + i) (y + r)) (now (dst .entry)) n) (now (dst .entry)) ⌝ }
+    requires { ⌜ RectFits l n rect (length (now dst)) × (length (now src) ≡ length (now dst)) ⌝ }
+    ensures { λ _. ⌜ now (dst .exit) ≡ cond (copiedOf sigma limit) (rectFilled l n rect (λ (c : ℕ) (i : ℕ) (r : ℕ). inner l (now (src .entry)) c (rect .x + i) (rect .y + r)) (now (dst .entry))) (now (dst .entry)) ⌝ }
 {
     if !copied(sigma, limit) {
         return;
     }
-    copy_rect(dst, src, l, n, x, y, rows, cols)
+    copy_rect(dst, src, l, n, rect)
 }
 
 // The copied blocks of a tile whose rectangle is filtered.
@@ -89,44 +77,36 @@ fn restore(
     l: Layout,
     n: usize,
     sigmas: &[f32],
-    sb: usize,
+    first: usize,
     limit: f32,
-    x: usize,
-    y: usize,
-    rows: usize,
-    cols: usize,
+    rect: Rect,
 )
-    requires { ⌜ RectFits l n x y rows cols (length (now dst)) × (length (now src) ≡ length (now dst)) × (cols ≤ 56) × (sb + blocksOf cols ≤ length (now sigmas)) ⌝ }
-    ensures { λ _. ⌜ Restored l n limit (now (sigmas .entry)) (now (src .entry)) sb x y rows cols (blocksOf cols) (now (dst .entry)) (now (dst .exit)) ⌝ }
+    requires { ⌜ RectFits l n rect (length (now dst)) × (length (now src) ≡ length (now dst)) × (rect .cols ≤ 56) × (first + blocksAlong (rect .cols) ≤ length (now sigmas)) ⌝ }
+    ensures { λ _. ⌜ Restored l n limit (now (sigmas .entry)) (now (src .entry)) first rect (blocksAlong (rect .cols)) (now (dst .entry)) (now (dst .exit)) ⌝ }
 {
-    let blocks = (cols + 7) / 8;
+    let blocks = blocks_of(rect.cols);
     let mut b = 0;
     while b < blocks {
-        let i = b * 8;
-        restore_block(
-            dst,
-            src,
-            l,
-            n,
-            sigmas[sb + b],
-            limit,
-            x + i,
-            y,
-            rows,
-            at_most(cols - i, 8),
-        );
+        let i = b * BLOCK;
+        let block = Rect {
+            x: rect.x + i,
+            y: rect.y,
+            rows: rect.rows,
+            cols: at_most(rect.cols - i, BLOCK),
+        };
+        restore_block(dst, src, l, n, sigmas[first + b], limit, block);
         b += 1;
     }
 }
 
 // Whether all blocks are copied.
-fn all_copied(sigmas: &[f32], sb: usize, blocks: usize, limit: f32) -> bool
-    requires { ⌜ sb + blocks ≤ length (now sigmas) ⌝ }
-    ensures { λ r. ⌜ (r ≡ true → (b : ℕ) → b < blocks → copiedOf (getD (now (sigmas .entry)) (sb + b) nan) limit ≡ true) ⌝ }
+fn all_copied(sigmas: &[f32], first: usize, blocks: usize, limit: f32) -> bool
+    requires { ⌜ first + blocks ≤ length (now sigmas) ⌝ }
+    ensures { λ r. ⌜ (r ≡ true → (b : ℕ) → b < blocks → copiedOf (getD (now (sigmas .entry)) (first + b) nan) limit ≡ true) ⌝ }
 {
     let mut b = 0;
     while b < blocks {
-        if !copied(sigmas[sb + b], limit) {
+        if !copied(sigmas[first + b], limit) {
             return false;
         }
         b += 1;
@@ -141,106 +121,68 @@ fn filter_window(
     l: Layout,
     n: usize,
     s: Step,
-    scales: &[f32; 3],
-    sigmas: &[f32],
-    sb: usize,
     top: usize,
-    x: usize,
-    y: usize,
-    rows: usize,
-    cols: usize,
-    win: &mut [f32; 2688],
-    e: &mut [f32; 5376],
-    sl: &mut [f32; 128],
-    out: &mut [f32],
+    rect: Rect,
+    win: &mut [f32; WINDOWS],
+    fields: &mut [f32; FIELDS],
+    slopes: &[f32; SLOPES],
+    lanes: &mut [f32],
 )
-    requires { ⌜ TileFits l n x y rows cols ⌝ }
-    requires { ⌜ RectFits l n x y rows cols (length (now dst)) × (length (now src) ≡ length (now dst)) × (s .step < 3) × (top ≤ 4294967296) ⌝ }
-    requires { ⌜ (sb ≡ sigmaStart l x y) × (sb + blocksOf cols ≤ length (now sigmas)) ⌝ }
-    requires { ⌜ Scratch (now win) (now e) (now sl) (now out) ⌝ }
-    ensures { λ _. ⌜ Computed l n s (now (scales .entry)) top (now (sigmas .entry)) (now (src .entry)) x y rows cols (now (dst .entry)) (now (dst .exit)) (now (win .exit)) (now (e .exit)) (now (sl .exit)) (now (out .exit)) ⌝ }
+    requires { ⌜ TileFits l n rect × RectFits l n rect (length (now dst)) × (length (now src) ≡ length (now dst)) × (s .step < 3) × (top ≤ 4294967296) ⌝ }
+    requires { ⌜ Scratch (now win) (now fields) (now slopes) (now lanes) ⌝ }
+    ensures { λ _. ⌜ FilteredBy l n s top (now (slopes .entry)) (now (src .entry)) rect (now (dst .entry)) (now (dst .exit)) × Scratch (now (win .exit)) (now (fields .exit)) (now (slopes .entry)) (now (lanes .exit)) ⌝ }
 {
+    let rows = rect.rows;
+    let step = s.step;
+    let scales = s.scales;
     load(
         win,
         src,
         l,
         n,
-        x,
-        y,
-        s.step,
-        rows + 6 - 2 * s.step,
-        cols + 8,
+        rect.x,
+        rect.y,
+        step,
+        rows + 6 - 2 * step,
+        rect.cols + 8,
     );
-    distances(e, win, s.step, scales, n, rows);
-    tile_slopes(sl, sigmas, sb, (cols + 7) / 8, s.scale, s.edge);
-    filter_tile(out, e, sl, win, s.step, n, top + y, rows);
-    store_planes(dst, l, out, 0, 64, 512, n, x, y, rows, cols);
+    distances(fields, win, step, &scales, n, rows);
+    filter_tile(lanes, fields, slopes, win, step, n, top + rect.y, rows);
+    store_tile(dst, lanes, l, n, rect);
 }
 
-// A tile, all its blocks filtered.
+// A tile, all its blocks filtered; `first` is the sigma of its first.
 fn filter(
     dst: &mut [f32],
     src: &[f32],
     l: Layout,
     n: usize,
     s: Step,
-    scales: &[f32; 3],
     sigmas: &[f32],
-    sb: usize,
+    first: usize,
     top: usize,
-    x: usize,
-    y: usize,
-    rows: usize,
-    cols: usize,
-    win: &mut [f32; 2688],
-    e: &mut [f32; 5376],
-    sl: &mut [f32; 128],
-    out: &mut [f32],
+    rect: Rect,
+    win: &mut [f32; WINDOWS],
+    fields: &mut [f32; FIELDS],
+    slopes: &mut [f32; SLOPES],
+    lanes: &mut [f32],
 )
-    requires { ⌜ TileFits l n x y rows cols ⌝ }
-    requires { ⌜ RectFits l n x y rows cols (length (now dst)) × (length (now src) ≡ length (now dst)) × (s .step < 3) × (top ≤ 4294967296) ⌝ }
-    requires { ⌜ (sb ≡ sigmaStart l x y) × (sb + blocksOf cols ≤ length (now sigmas)) ⌝ }
-    requires { ⌜ Scratch (now win) (now e) (now sl) (now out) ⌝ }
-    ensures { λ _. ⌜ Computed l n s (now (scales .entry)) top (now (sigmas .entry)) (now (src .entry)) x y rows cols (now (dst .entry)) (now (dst .exit)) (now (win .exit)) (now (e .exit)) (now (sl .exit)) (now (out .exit)) ⌝ }
+    requires { ⌜ TileFits l n rect × RectFits l n rect (length (now dst)) × (length (now src) ≡ length (now dst)) × (s .step < 3) × (top ≤ 4294967296) ⌝ }
+    requires { ⌜ (first ≡ sigmaStart l (rect .x) (rect .y)) × (first + blocksAlong (rect .cols) ≤ length (now sigmas)) ⌝ }
+    requires { ⌜ Scratch (now win) (now fields) (now slopes) (now lanes) ⌝ }
+    ensures { λ _. ⌜ Filtered l n s top (now (sigmas .entry)) (now (src .entry)) rect (now (dst .entry)) (now (dst .exit)) × Scratch (now (win .exit)) (now (fields .exit)) (now (slopes .exit)) (now (lanes .exit)) ⌝ }
 {
-    if lies_inside(l, n, s.step, x, y, rows, cols) {
-        filter_inside(
-            dst,
-            src,
-            l,
-            n,
-            s,
-            scales,
-            sigmas,
-            sb,
-            top,
-            x,
-            y,
-            rows,
-            cols,
-            sl,
-        );
-        return;
+    tile_slopes(slopes, sigmas, first, blocks_of(rect.cols), s.scale, s.edge);
+    let scales = s.scales;
+    if s.step == LAST_STEP {
+        if n == PLANES {
+            if lies_inside(l, rect) {
+                filter_inside(dst, src, l, &scales, slopes, top + rect.y, rect);
+                return;
+            }
+        }
     }
-    filter_window(
-        dst,
-        src,
-        l,
-        n,
-        s,
-        scales,
-        sigmas,
-        sb,
-        top,
-        x,
-        y,
-        rows,
-        cols,
-        win,
-        e,
-        sl,
-        out,
-    )
+    filter_window(dst, src, l, n, s, top, rect, win, fields, slopes, lanes)
 }
 
 // One tile: its samples copied where all its blocks are, else filtered with the copied blocks restored.
@@ -250,27 +192,21 @@ pub(crate) fn tile(
     l: Layout,
     n: usize,
     s: Step,
-    scales: &[f32; 3],
     sigmas: &[f32],
-    sb: usize,
     top: usize,
-    x: usize,
-    y: usize,
-    rows: usize,
-    cols: usize,
-    win: &mut [f32; 2688],
-    e: &mut [f32; 5376],
-    sl: &mut [f32; 128],
-    out: &mut [f32],
+    rect: Rect,
+    win: &mut [f32; WINDOWS],
+    fields: &mut [f32; FIELDS],
+    slopes: &mut [f32; SLOPES],
+    lanes: &mut [f32],
 )
-    requires { ⌜ TileFits l n x y rows cols ⌝ }
-    requires { ⌜ RectFits l n x y rows cols (length (now dst)) × (length (now src) ≡ length (now dst)) × (s .step < 3) × (top ≤ 4294967296) ⌝ }
-    requires { ⌜ (sb ≡ sigmaStart l x y) × (sb + blocksOf cols ≤ length (now sigmas)) ⌝ }
-    requires { ⌜ Scratch (now win) (now e) (now sl) (now out) ⌝ }
-    ensures { λ _. ⌜ (now (dst .exit) ≡ planesFill (l .image .width) (l .image .height) (l .left + x) cols (l .top + y) rows (λ (c : ℕ) (i : ℕ) (r : ℕ). stepOver n l s (now (scales .entry)) top (now (sigmas .entry)) (now (src .entry)) c (x + i) (y + r)) (now (dst .entry)) n) × Scratch (now (win .exit)) (now (e .exit)) (now (sl .exit)) (now (out .exit)) ⌝ }
+    requires { ⌜ TileFits l n rect × RectFits l n rect (length (now dst)) × (length (now src) ≡ length (now dst)) × (s .step < 3) × (top ≤ 4294967296) ⌝ }
+    requires { ⌜ (sigmaStart l (rect .x) (rect .y) + blocksAlong (rect .cols) ≤ length (now sigmas)) × Scratch (now win) (now fields) (now slopes) (now lanes) ⌝ }
+    ensures { λ _. ⌜ (now (dst .exit) ≡ rectFilled l n rect (λ (c : ℕ) (i : ℕ) (r : ℕ). stepOver n l s top (now (sigmas .entry)) (now (src .entry)) c (rect .x + i) (rect .y + r)) (now (dst .entry))) × Scratch (now (win .exit)) (now (fields .exit)) (now (slopes .exit)) (now (lanes .exit)) ⌝ }
 {
-    if all_copied(sigmas, sb, (cols + 7) / 8, s.limit) {
-        copy_rect(dst, src, l, n, x, y, rows, cols);
+    let first = first_sigma(l, rect);
+    if all_copied(sigmas, first, blocks_of(rect.cols), s.limit) {
+        copy_rect(dst, src, l, n, rect);
         return;
     }
     filter(
@@ -279,18 +215,14 @@ pub(crate) fn tile(
         l,
         n,
         s,
-        scales,
         sigmas,
-        sb,
+        first,
         top,
-        x,
-        y,
-        rows,
-        cols,
+        rect,
         win,
-        e,
-        sl,
-        out,
+        fields,
+        slopes,
+        lanes,
     );
-    restore(dst, src, l, n, sigmas, sb, s.limit, x, y, rows, cols);
+    restore(dst, src, l, n, sigmas, first, s.limit, rect);
 }

@@ -1,5 +1,5 @@
 // A window on a filter region: rows and columns around a place in each plane, mirrored at the filter region's edges, as planes of 14 rows of 64 columns.
-// This is the one place where a step mirrors. All that it computes afterwards is computed from windows.
+// This is the one place where a step mirrors: what needs no mirror, step 2 away from the region's edges, reads the planes themselves.
 mod row;
 
 use crate::row::load_row;
@@ -7,7 +7,7 @@ use mirror::mirrored;
 use planes::Layout;
 use planes::set_fits;
 ghost use mathlib.Core.Path.{_≡_};
-ghost use Prim.Native.Nat.{ℕ, _+_, _-_, _*_, _<_, _≤_};
+ghost use Prim.Native.Nat.{ℕ, _+_, _-_, _*_, _<_, _≤_, min};
 ghost use lib.ListN.{length};
 ghost use Rattle.planes.specs.Rect.{rowsFill, planesFill};
 ghost use Rattle.window.specs.Window.{planeSample, windowSample, loaded, WindowFits, PlaneFits};
@@ -22,9 +22,21 @@ const COLUMNS: usize = 64;
 
 const ROWS: usize = 14;
 
+// The samples of three planes' windows.
+const WINDOWS: usize = 2688;
+
+pub fn at_most(x: usize, k: usize) -> usize
+    ensures { λ r. ⌜ r ≡ min x k ⌝ }
+{
+    if x < k {
+        return x;
+    }
+    k
+}
+
 // Rows `top` to top + rows of a window's plane, from a region of w columns and h rows that starts at `start`.
 fn load_plane(
-    win: &mut [f32; 2688],
+    win: &mut [f32; WINDOWS],
     at: usize,
     src: &[f32],
     start: usize,
@@ -51,7 +63,7 @@ fn load_plane(
 
 // The first n planes.
 fn load_planes(
-    win: &mut [f32; 2688],
+    win: &mut [f32; WINDOWS],
     src: &[f32],
     l: Layout,
     n: usize,
@@ -90,7 +102,7 @@ fn load_planes(
 // Rows `top` to top + rows and the first `cols` columns of a window on column x and row y of the filter region, in n planes.
 // Nothing where these do not fit.
 pub fn load(
-    win: &mut [f32; 2688],
+    win: &mut [f32; WINDOWS],
     src: &[f32],
     l: Layout,
     n: usize,

@@ -1,8 +1,11 @@
 // A row of a window, from the row of a plane that it shows.
 use crate::LEFT;
+use crate::WINDOWS;
+use crate::at_most;
 use mirror::mirrored;
+use planes::copy_run;
 ghost use mathlib.Core.Path.{_≡_};
-ghost use Prim.Native.Nat.{ℕ, _+_, _-_, _<_, _≤_, min};
+ghost use Prim.Native.Nat.{ℕ, _+_, _-_, _<_, _≤_};
 ghost use lib.ListN.{length, getD};
 ghost use lib.Ieee.{nan};
 ghost use Rattle.planes.specs.Fill.{fill};
@@ -15,15 +18,6 @@ pub(crate) struct EpfInputRow<'a> {
     width: usize,
 }
 
-fn at_most(x: usize, k: usize) -> usize
-    ensures { λ r. ⌜ r ≡ min x k ⌝ }
-{
-    if x < k {
-        return x;
-    }
-    k
-}
-
 // How much x lacks of k.
 fn short_of(x: usize, k: usize) -> usize
     ensures { λ r. ⌜ r ≡ k - x ⌝ }
@@ -34,21 +28,9 @@ fn short_of(x: usize, k: usize) -> usize
     0
 }
 
-// n samples as they stand.
-fn copy_inside(win: &mut [f32; 2688], at: usize, src: &[f32], from: usize, n: usize)
-    requires { ⌜ (at + n ≤ 2688) × (from + n ≤ length (now src)) ⌝ }
-    ensures { λ _. ⌜ now (win .exit) ≡ fill (now (win .entry)) at n (λ (j : ℕ). getD (now (src .entry)) (from + j) nan) ⌝ }
-{
-    let mut j = 0;
-    while j < n {
-        win[at + j] = src[from + j];
-        j += 1;
-    }
-}
-
 // n samples from four columns left of x on, mirrored in the row of w samples that starts at `row`.
 fn copy_mirrored(
-    win: &mut [f32; 2688],
+    win: &mut [f32; WINDOWS],
     at: usize,
     src: &[f32],
     row: usize,
@@ -69,7 +51,7 @@ fn copy_mirrored(
 
 // The same, without a mirror where the row has the samples.
 fn copy_row(
-    win: &mut [f32; 2688],
+    win: &mut [f32; WINDOWS],
     at: usize,
     src: &[f32],
     row: usize,
@@ -83,12 +65,18 @@ fn copy_row(
     let low = short_of(x, LEFT);
     let high = at_most(w + LEFT - x, cols);
     copy_mirrored(win, at, src, row, x, w, low);
-    copy_inside(win, at + low, src, row + (x + low - LEFT), high - low);
+    copy_run(win, at + low, src, row + (x + low - LEFT), high - low);
     copy_mirrored(win, at + high, src, row, x + high, w, cols - high);
 }
 
 // The same from a view.
-fn load_view<'w, 'a>(win: &'w mut [f32; 2688], at: usize, r: EpfInputRow<'a>, x: usize, cols: usize)
+fn load_view<'w, 'a>(
+    win: &'w mut [f32; WINDOWS],
+    at: usize,
+    r: EpfInputRow<'a>,
+    x: usize,
+    cols: usize,
+)
     requires { ⌜ RowFits at (r .place) x (r .width) cols (length (now (r .plane))) ⌝ }
     ensures { λ _. ⌜ now (win .exit) ≡ fill (now (win .entry)) at cols (rowSample (now (r .entry .plane)) (r .entry .place) x (r .entry .width)) ⌝ }
 {
@@ -97,7 +85,7 @@ fn load_view<'w, 'a>(win: &'w mut [f32; 2688], at: usize, r: EpfInputRow<'a>, x:
 
 // The view is made here, and every other caller passes plain parameters.
 pub(crate) fn load_row(
-    win: &mut [f32; 2688],
+    win: &mut [f32; WINDOWS],
     at: usize,
     src: &[f32],
     row: usize,

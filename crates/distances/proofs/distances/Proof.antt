@@ -12,4 +12,4 @@ distances-spec = tie.close
     (λ c. no-rows _ _ _ _ _ _ (c .if2 .taken))
     (λ c. many-rows _ _ _ _ _ _ (c .if3 .taken))
     (λ c κs. omega arith)
-    (λ c. c .fields .ensures ∙ sym (distances-done _ _ _ _ _ _ (omega arith) (omega arith) (omega arith))))
+    (λ c. c .fill-fields .ensures ∙ sym (distances-done _ _ _ _ _ _ (omega arith) (omega arith) (omega arith))))

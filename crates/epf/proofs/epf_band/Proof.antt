@@ -18,8 +18,8 @@ returns c =
     let last = c .before .before .before .before .filter-row2 .ensures in
     let rows = filter-rows (a .l) (a .from) (a .to) (s .pre .0 .order) (s .pre .0 .rows) in
     let long = copied .kept .1 .0 in
-    band-passed (a .l) (a .n) (a .from) (a .to) _ _ (stepOver (a .n) (a .l) (a .s) (now (a .scales)) (a .top) (now (a .sigmas)) (now (a .src))) (now (a .src)) (now (a .dst)) _ _ (s .pre .0) (copied .ensures) first last
-    (c .before .before .filter-region .ensures ∙ region-done (a .n) (a .l) (a .s) (now (a .scales)) (a .top) _ _ (now (a .sigmas)) (now (a .src)) _ (region-long long (s .pre .1)) (omega (arith, long, s .pre .0 .source, s .pre .0 .target))
+    band-passed (a .l) (a .n) (a .from) (a .to) _ _ (stepOver (a .n) (a .l) (a .s) (a .top) (now (a .sigmas)) (now (a .src))) (now (a .src)) (now (a .dst)) _ _ (s .pre .0) (copied .ensures) first last
+    (c .before .before .filter-region .ensures ∙ region-done (a .n) (a .l) (a .s) (a .top) _ _ (now (a .sigmas)) (now (a .src)) _ (region-long long (s .pre .1)) (omega (arith, long, s .pre .0 .source, s .pre .0 .target))
     (omega (arith, rows, first, last)) (omega (arith, rows, last)))
 
 pub epf-band-spec : {M : Type 1} → statement M

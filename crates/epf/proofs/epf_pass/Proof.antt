@@ -5,6 +5,7 @@ use borrow.Author.Needs.{needs}
 use mir.Facts.{toZ-ofZ}
 use denote.Ref.{now}
 use lib.ListN.{length}
+use Rattle.planes.specs.declared.Layout.{Layout}
 use Rattle.tiles.specs.declared.Step.{Step}
 use Rattle.tiles.specs.Tile.{stepOver}
 use Rattle.layout.specs.Fits.{Accepted}
@@ -22,15 +23,24 @@ module _ (c : tie.Else1) where
 
 -- and every other test held
 module _ (c : tie.Else2) where
-  fits : StepFits 3 (c .before .before .before .before .before .layout-of .result .layout) (c .before .before .before .before .before .before .before .before .before .args .s .step) (c .before .before .before .before .before .before .before .before .before .args .from) (c .before .before .before .before .before .before .before .before .before .args .to) (length (now (c .before .before .before .before .before .before .before .before .before .args .sigmas))) (length (now (c .before .before .before .before .before .before .before .before .before .args .src))) (length (now (c .before .before .before .before .before .before .before .before .before .args .dst)))
-  fits = step-fits 3 (c .before .before .before .before .before .layout-of .result .layout) (c .before .before .before .before .before .before .before .before .before .args .filter) (c .before .before .before .before .before .before .before .before .before .args .s .step) (c .before .before .before .before .before .before .before .before .before .args .from) (c .before .before .before .before .before .before .before .before .before .args .to) _ _ _ (sym (c .before .judged .ensures) ∙ c .if2 .left)
+  abbrev first : tie.Start
+  first = c .before .before .before .before .before .before .before .before .before
+
+  abbrev layout : Layout
+  layout = c .before .before .before .before .before .layout-of .result .layout
+
+  fits : StepFits 3 layout (first .args .s .step) (first .args .from) (first .args .to) (length (now (first .args .sigmas))) (length (now (first .args .src))) (length (now (first .args .dst)))
+  fits = step-fits 3 layout (first .args .filter) (first .args .s .step) (first .args .from) (first .args .to) _ _ _ (sym (c .before .judged .ensures) ∙ c .if2 .left)
 
 returns-3 : tie.Need-returns-3
 unfolding stepOver
 returns-3 c =
-    let s = c .before .before .before .before .before .before .before .before .before .before .before .before .before .before .before .before .before .before in let a = s .args in let l = c .before .before .before .before .before .before .before .before .before .before .before .before .before .before .layout-of in let j = c .before .before .before .before .before .before .before .before .before .before .judged in
-    done (a .image) (a .filter) (a .preserve-outside) (a .s) (now (a .sigmas)) (a .from) (a .to) (now (a .src)) (now (a .dst)) (l .result) (l .ensures) (c .before .before .before .before .before .before .before .before .before .before .before .before .before .if1 .left) (j .result) (j .ensures) (c .before .before .before .before .before .before .before .before .before .if2 .left) _
-    (rw (c .before .before .before .ahead .ensures .0, toZ-ofZ (record { sfits = c .before .before .before .before .struct-told .given .1 .0 .1 }), c .before .before .before .before .before .before .before .step-of .ensures) at (c .before .before .epf-band .ensures))
+    let d = c .before .before .before .before .before .before .before in
+    let a = first d .args in
+    let l = d .before .before .before .before .before .layout-of in
+    let j = d .before .judged in
+    done (a .image) (a .filter) (a .preserve-outside) (a .s) (now (a .sigmas)) (a .from) (a .to) (now (a .src)) (now (a .dst)) (l .result) (l .ensures) (d .before .before .before .before .if1 .left) (j .result) (j .ensures) (d .if2 .left) _
+    (rw (c .before .before .before .ahead .ensures .0, toZ-ofZ (record { sfits = c .before .before .before .before .struct-told .given .1 .0 .1 }), c .before .before .before .before .before .before .step-of .ensures) at (c .before .before .epf-band .ensures))
 
 pub epf-pass-spec : {M : Type 1} → statement M
 epf-pass-spec = tie.close
@@ -42,8 +52,8 @@ epf-pass-spec = tie.close
     (λ c. let s = c .before .before .before .before .before .before .before .before .before .args in let l = c .before .before .before .before .before .layout-of in refused (s .image) (s .filter) (s .preserve-outside) (s .s) (now (s .sigmas)) (s .from) (s .to) (now (s .src)) (now (s .dst)) (l .result) (l .ensures) (c .before .before .before .before .if1 .left) (c .before .judged .result) (c .before .judged .ensures) (c .if2 .taken))
     (λ c κs. search needs)
     (λ c κs. search needs)
-    (λ c κs. let d = c .before .before .before .before .before .before in let f = fits d in let g = held (c .before .before .before .before .before .before .before .before .before .before) .fits in
-    let step = ap (λ (z : Step). z .step) (c .before .before .before .before .step-of .ensures) in
+    (λ c κs. let d = c .before .before .before .before in let f = fits d in let g = held (d .before .before .before .before) .fits in
+    let step = ap (λ (z : Step). z .step) (c .before .before .before .step-of .ensures) in
     (band-fits 3 _ _ _ _ _ _ _ (omega arith) g f, record { layout = g; planes = omega arith; set = f .target; sigmas = f .blocks; low = omega (arith, f .low, step); place = c .ahead .ensures .1 }))
     (λ c. search needs)
     returns-3)

@@ -20,9 +20,9 @@ abbrev μ-loop : tie.MeasureT-loop
 loop-again : tie.Need-loop-again Inv-loop μ-loop
 loop-again c =
     let l = c .before .before .before in let s = l .before .before .args in
-    let t = now (s .t) in let w = now (s .win) in
+    let t = now (s .stored) in let w = now (s .win) in
     run-more (λ (x : Float) (j : ℕ). x ⊕ getD t (s .a + j) nan ⊗ getD w (s .k0 + j) nan ⊕ getD t (s .a + j + 64) nan ⊗ getD w (s .k1 + j) nan
-    ⊕ getD t (s .a + j + 128) nan ⊗ getD w (s .k2 + j) nan ⊕ getD t (s .a + j + 192) nan ⊗ getD w (s .k3 + j) nan) (l .loop .inv) (omega arith) (c .four .ensures)
+    ⊕ getD t (s .a + j + 128) nan ⊗ getD w (s .k2 + j) nan ⊕ getD t (s .a + j + 192) nan ⊗ getD w (s .k3 + j) nan) (l .loop .inv) (omega arith) (c .with-four .ensures)
 
 pub add-four-spec : {M : Type 1} → statement M
 add-four-spec = tie.close

@@ -35,14 +35,14 @@ loop-again c =
       omega (arith, more (c .before .before .before .before .before .before .before .before), c .before .before .before .before .before .before .before .before .before .before .kernel-len .ensures),
       omega (arith, l .loop .inv .1),
       c .before .before .add-four .kept .0 ∙ l .loop .inv .2,
-      stored-four (s .args .step) (now (s .args .t)) (now (s .args .win)) (s .args .c) (s .args .r) (s .args .at) _ _ _ (l .loop .q) _ _ _ _ (l .loop .inv .3)
+      stored-four (s .args .step) (now (s .args .stored)) (now (s .args .win)) (s .args .c) (s .args .r) (s .args .at) _ _ _ (l .loop .q) _ _ _ _ (l .loop .inv .3)
           (c .before .before .before .before .before .before .before .samples-at .ensures .0) (c .before .before .before .before .before .before .samples-at2 .ensures .0) (c .before .before .before .before .before .samples-at3 .ensures .0) (c .before .before .before .before .samples-at4 .ensures .0) (c .before .before .add-four .ensures),
     )
 
 returns : tie.Need-returns Inv-loop μ-loop
 returns c =
     let s = c .before .before .before .before .before .before .before .before in let inv = c .before .loop .inv in
-    stored-end (s .args .step) (now (s .args .t)) (now (s .args .win)) (s .args .c) (s .args .r) (s .args .at) _ _ _ (c .before .loop .q) (length (kernel (s .args .step))) (c .before .before .before .before .before .centre .ensures) (inv .3)
+    stored-end (s .args .step) (now (s .args .stored)) (now (s .args .win)) (s .args .c) (s .args .r) (s .args .at) _ _ _ (c .before .loop .q) (length (kernel (s .args .step))) (c .before .before .before .before .before .centre .ensures) (inv .3)
     (omega (arith, inv .0, c .loop-test .left, c .before .before .kernel-len .ensures))
 
 pub blend-spec : {M : Type 1} → statement M
@@ -56,7 +56,7 @@ blend-spec = tie.close
     (λ c. omega arith)
     (λ c κs. omega arith)
     (λ c κs. search needs)
-    (λ c. let s = c .before .before .before .before .before .before in (omega arith, omega arith, refl, stored-none (s .args .step) (now (s .args .t)) (now (s .args .win)) (s .args .c) (s .args .r) (s .args .at) _ _ (c .before .before .before .centre .ensures)))
+    (λ c. let s = c .before .before .before .before .before .before in (omega arith, omega arith, refl, stored-none (s .args .step) (now (s .args .stored)) (now (s .args .win)) (s .args .c) (s .args .r) (s .args .at) _ _ (c .before .before .before .centre .ensures)))
     (λ c κs. omega (arith, more c))
     (λ c. omega (arith, few (c .before)))
     (λ c κs. omega (arith, more (c .before)))

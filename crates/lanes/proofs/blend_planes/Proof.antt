@@ -28,8 +28,8 @@ loop-again c =
     let l = c .before .before .before .before .before .before .before .before .before in let s = l .before .before .args in (
       omega arith,
       c .before .before .divide .kept .0 ∙ c .before .before .before .before .before .before .blend .kept .0 ∙ l .loop .inv .1,
-      plane-next (s .r) (λ k i. storedTo (s .step) (now (s .t)) (now (s .win)) k (s .r) (length (kernel (s .step))) i ⊘ getD (now (s .sum)) i nan) _ _ _ (l .loop .c) _ (l .loop .inv .2) refl
-          (stored-divided (s .step) (now (s .t)) (now (s .win)) (l .loop .c) (s .r) _ _ _ _ (now (s .sum)) (length (kernel (s .step))) (c .before .before .before .before .before .before .blend .ensures) (c .before .before .divide .ensures)),
+      plane-next (s .r) (λ k i. storedTo (s .step) (now (s .stored)) (now (s .win)) k (s .r) (length (kernel (s .step))) i ⊘ getD (now (s .sum)) i nan) _ _ _ (l .loop .c) _ (l .loop .inv .2) refl
+          (stored-divided (s .step) (now (s .stored)) (now (s .win)) (l .loop .c) (s .r) _ _ _ _ (now (s .sum)) (length (kernel (s .step))) (c .before .before .before .before .before .before .blend .ensures) (c .before .before .divide .ensures)),
     )
 
 pub blend-planes-spec : {M : Type 1} → statement M

@@ -6,17 +6,18 @@ use borrow.Author.Needs.{needs}
 use denote.Ref.{now}
 use lib.ListN.{length}
 use Rattle.planes.specs.Rect.{planesFill}
-use Rattle.lanes.specs.Lanes.{laneOf, kindOf, kind-same, kind-small, row-next, rows-done, rows-end}
+use Rattle.slopes.specs.Slopes.{firstSlope, first-same, first-small}
+use Rattle.lanes.specs.Lanes.{laneOf, row-next, rows-done, rows-end}
 use Rattle.lanes.proofs.filter_rows.Statement.{statement}
 use Rattle.lanes.proofs.filter_rows.Tie as tie
 
 abbrev Inv-loop : tie.InvT-loop
-Inv-loop out₀ e slopes win step planes top rows t₀ sum₀ first r₀ out t sum r =
+Inv-loop out₀ e slopes win step planes top rows t₀ sum₀ offset r₀ out t sum r =
     (r ≤ rows) × (length out ≡ length out₀) × (length t ≡ 768) × (length sum ≡ 64)
-    × (out ≡ planesFill 64 8 0 56 0 r (λ (c : ℕ) (i : ℕ) (r : ℕ). laneOf step e slopes win (kindOf (top + r)) c i r) out₀ planes)
+    × (out ≡ planesFill 64 8 0 56 0 r (λ (c : ℕ) (i : ℕ) (r : ℕ). laneOf step e slopes win (firstSlope (top + r)) c i r) out₀ planes)
 
 abbrev μ-loop : tie.MeasureT-loop
-μ-loop out₀ e slopes win step planes top rows t₀ sum₀ first r₀ out t sum r = rows - r
+μ-loop out₀ e slopes win step planes top rows t₀ sum₀ offset r₀ out t sum r = rows - r
 
 loop-again : tie.Need-loop-again Inv-loop μ-loop
 loop-again c =
@@ -25,8 +26,8 @@ loop-again c =
       f .kept .0 ∙ l .loop .inv .1,
       f .ensures .1,
       f .ensures .2,
-      row-next (λ (c : ℕ) (i : ℕ) (r : ℕ). laneOf (s .args .step) (now (s .args .e)) (now (s .args .slopes)) (now (s .args .win)) (kindOf (s .args .top + r)) c i r) _ _ _ (s .args .planes) (l .loop .r) (omega arith) (omega arith) (s .pre .0) (l .loop .inv .4)
-          (rw (← (kind-same _ (s .args .top) (l .loop .r) (c .before .before .before .before .before .before .kind-of .ensures))) (f .ensures .0)),
+      row-next (λ (c : ℕ) (i : ℕ) (r : ℕ). laneOf (s .args .step) (now (s .args .fields)) (now (s .args .slopes)) (now (s .args .win)) (firstSlope (s .args .top + r)) c i r) _ _ _ (s .args .planes) (l .loop .r) (omega arith) (omega arith) (s .pre .0) (l .loop .inv .4)
+          (rw (← (first-same _ (s .args .top) (l .loop .r) (c .before .before .before .before .before .before .first-slope .ensures))) (f .ensures .0)),
     )
 
 pub filter-rows-spec : {M : Type 1} → statement M
@@ -37,7 +38,7 @@ filter-rows-spec = tie.close
     (λ c. (omega arith, refl, refl, refl, rows-done _ _ _))
     (λ c. omega arith)
     (λ c κs. search needs)
-    (λ c κs. let l = c .before .before .before .before .before in let inv = l .loop .inv in omega (arith, inv, l .before .before .pre, kind-small _ _ (c .before .before .before .kind-of .ensures)))
+    (λ c κs. let l = c .before .before .before .before .before in let inv = l .loop .inv in omega (arith, inv, l .before .before .pre, first-small _ _ (c .before .before .before .first-slope .ensures)))
     (λ c. omega arith)
     (λ c. omega arith)
     loop-again

@@ -13,18 +13,18 @@ use Rattle.lanes.proofs.weigh.Statement.{statement}
 use Rattle.lanes.proofs.weigh.Tie as tie
 
 abbrev Inv-loop : tie.InvT-loop
-Inv-loop t₀ at sum₀ e from slopes kind i₀ t sum i =
-    Written t₀ at 56 (λ (j : ℕ). weightBy (getD slopes (kind + j) nan) (getD e (from + j) nan)) t i
-    × Written sum₀ 0 56 (λ (j : ℕ). getD sum₀ (0 + j) nan ⊕ weightBy (getD slopes (kind + j) nan) (getD e (from + j) nan)) sum i
+Inv-loop t₀ at sum₀ e from slopes first i₀ t sum i =
+    Written t₀ at 56 (λ (j : ℕ). weightBy (getD slopes (first + j) nan) (getD e (from + j) nan)) t i
+    × Written sum₀ 0 56 (λ (j : ℕ). getD sum₀ (0 + j) nan ⊕ weightBy (getD slopes (first + j) nan) (getD e (from + j) nan)) sum i
 
 abbrev μ-loop : tie.MeasureT-loop
-μ-loop t₀ at sum₀ e from slopes kind i₀ t sum i = 56 - i
+μ-loop t₀ at sum₀ e from slopes first i₀ t sum i = 56 - i
 
 loop-again : tie.Need-loop-again Inv-loop μ-loop
 loop-again c =
     let w = c .before in let l = w .before .before .before .before in let s = l .before in (
       written-more (l .loop .inv .0) (omega arith) (w .weight .ensures),
-      run-more0 (λ (x : Float) (j : ℕ). x ⊕ weightBy (getD (now (s .args .slopes)) (s .args .kind + j) nan) (getD (now (s .args .e)) (s .args .from + j) nan)) (l .loop .inv .1) (omega arith) (rw (w .weight .ensures)),
+      run-more0 (λ (x : Float) (j : ℕ). x ⊕ weightBy (getD (now (s .args .slopes)) (s .args .first + j) nan) (getD (now (s .args .fields)) (s .args .from + j) nan)) (l .loop .inv .1) (omega arith) (rw (w .weight .ensures)),
     )
 
 pub weigh-spec : {M : Type 1} → statement M

@@ -11,10 +11,10 @@ use Rattle.lanes.proofs.weigh_all.Statement.{statement}
 use Rattle.lanes.proofs.weigh_all.Tie as tie
 
 abbrev Inv-loop : tie.InvT-loop
-Inv-loop t₀ sum₀ e slopes step r kind n q₀ t sum q = (q ≤ n) × Weighed (λ (i : ℕ) (p : ℕ). weightOf step e slopes kind r i p) t sum q
+Inv-loop t₀ sum₀ e slopes step r first n q₀ t sum q = (q ≤ n) × Weighed (λ (i : ℕ) (p : ℕ). weightOf step e slopes first r i p) t sum q
 
 abbrev μ-loop : tie.MeasureT-loop
-μ-loop t₀ sum₀ e slopes step r kind n q₀ t sum q = n - q
+μ-loop t₀ sum₀ e slopes step r first n q₀ t sum q = n - q
 
 -- in a turn
 module _ (c : tie.After-neighbour Inv-loop μ-loop) where
