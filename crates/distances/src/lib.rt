@@ -2,7 +2,7 @@
 // A neighbour's distances are those of the opposite neighbour that far before, so a step has a field for each pair.
 use rounding::difference;
 ghost use mathlib.Core.Path.{_≡_};
-ghost use Prim.Native.Nat.{ℕ, _+_, _-_, _*_, _<_, _≤_, min};
+ghost use Prim.Native.Nat.{ℕ, _+_, _-_, _*_, _<_, _≤_};
 ghost use lib.ListN.{length, getD};
 ghost use lib.Ieee.{nan};
 ghost use Rattle.planes.specs.Samples.{_⊕_, _⊗_, b0};

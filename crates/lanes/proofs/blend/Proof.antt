@@ -13,37 +13,46 @@ use Rattle.lanes.proofs.blend.Statement.{statement}
 use Rattle.lanes.proofs.blend.Tie as tie
 
 abbrev Inv-loop : tie.InvT-loop
-Inv-loop out₀ at t win c r step base n q₀ out q = (q ≤ n) × (q % 4 ≡ 0) × (length out ≡ length out₀) × (out ≡ fill out₀ at 56 (storedTo step t win c r q))
+Inv-loop out₀ at stored win c r step base n q₀ out q = (q ≤ n) × (q % 4 ≡ 0) × (length out ≡ length out₀) × (out ≡ fill out₀ at 56 (storedTo step stored win c r q))
 
 abbrev μ-loop : tie.MeasureT-loop
-μ-loop out₀ at t win c r step base n q₀ out q = n - q
+μ-loop out₀ at stored win c r step base n q₀ out q = n - q
 
--- in a turn there are four neighbours more
+-- in a turn
 module _ (c : tie.In-loop Inv-loop μ-loop) where
-  more : c .before .loop .q + 4 ≤ length (kernel (c .before .before .before .before .before .before .before .before .args .step))
-  more = omega (arith, c .loop-test .taken, c .before .loop .inv .0, c .before .loop .inv .1, c .before .before .kernel-len .ensures, kernel-few (c .before .before .before .before .before .before .before .before .args .step))
+  abbrev start : tie.Start Inv-loop μ-loop
+  start = c .before .before .before .before .before .before .before .before
 
-  few : c .before .loop .q + 4 ≤ 12
-  few = omega (arith, more, kernel-few (c .before .before .before .before .before .before .before .before .args .step) .0)
+  abbrev at : tie.At-loop Inv-loop μ-loop
+  at = c .before
 
-  long : c .before .before .before .before .before .before .before .before .args .at + 56 ≤ length (c .before .loop .out)
-  long = omega (arith, c .before .before .before .before .before .before .before .before .pre .0, c .before .before .before .before .before .centre .kept .0, c .before .loop .inv .2)
+  -- there are four neighbours more
+  more : at .loop .q + 4 ≤ length (kernel (start .args .step))
+  more = omega (arith, c .loop-test .taken, at .loop .inv .0, at .loop .inv .1, c .before .before .kernel-len .ensures, kernel-few (start .args .step))
+
+  few : at .loop .q + 4 ≤ 12
+  few = omega (arith, more, kernel-few (start .args .step) .0)
+
+  long : start .args .at + 56 ≤ length (at .loop .out)
+  long = omega (arith, start .pre .0, c .before .before .before .before .before .centre .kept .0, at .loop .inv .2)
 
 loop-again : tie.Need-loop-again Inv-loop μ-loop
 loop-again c =
-    let s = c .before .before .before .before .before .before .before .before .before .before .before .before .before .before .before .before in let l = c .before .before .before .before .before .before .before .before .before in (
-      omega (arith, more (c .before .before .before .before .before .before .before .before), c .before .before .before .before .before .before .before .before .before .before .kernel-len .ensures),
-      omega (arith, l .loop .inv .1),
-      c .before .before .add-four .kept .0 ∙ l .loop .inv .2,
-      stored-four (s .args .step) (now (s .args .stored)) (now (s .args .win)) (s .args .c) (s .args .r) (s .args .at) _ _ _ (l .loop .q) _ _ _ _ (l .loop .inv .3)
+    let d = c .before .before .before .before .before .before .before .before in
+    let s = start d .args in
+    let inv = at d .loop .inv in (
+      omega (arith, more d, d .before .before .kernel-len .ensures),
+      omega (arith, inv .1),
+      c .before .before .add-four .kept .0 ∙ inv .2,
+      stored-four (s .step) (now (s .stored)) (now (s .win)) (s .c) (s .r) (s .at) _ _ _ (at d .loop .q) _ _ _ _ (inv .3)
           (c .before .before .before .before .before .before .before .samples-at .ensures .0) (c .before .before .before .before .before .before .samples-at2 .ensures .0) (c .before .before .before .before .before .samples-at3 .ensures .0) (c .before .before .before .before .samples-at4 .ensures .0) (c .before .before .add-four .ensures),
     )
 
 returns : tie.Need-returns Inv-loop μ-loop
 returns c =
-    let s = c .before .before .before .before .before .before .before .before in let inv = c .before .loop .inv in
-    stored-end (s .args .step) (now (s .args .stored)) (now (s .args .win)) (s .args .c) (s .args .r) (s .args .at) _ _ _ (c .before .loop .q) (length (kernel (s .args .step))) (c .before .before .before .before .before .centre .ensures) (inv .3)
-    (omega (arith, inv .0, c .loop-test .left, c .before .before .kernel-len .ensures))
+    let s = c .before .before .before .before .before .before .before .before .args in
+    let inv = c .before .loop .inv in
+    stored-end (s .step) (now (s .stored)) (now (s .win)) (s .c) (s .r) (s .at) _ _ _ (c .before .loop .q) (length (kernel (s .step))) (c .before .before .before .before .before .centre .ensures) (inv .3) (omega (arith, inv .0, c .loop-test .left, c .before .before .kernel-len .ensures))
 
 pub blend-spec : {M : Type 1} → statement M
 blend-spec = tie.close
@@ -56,7 +65,7 @@ blend-spec = tie.close
     (λ c. omega arith)
     (λ c κs. omega arith)
     (λ c κs. search needs)
-    (λ c. let s = c .before .before .before .before .before .before in (omega arith, omega arith, refl, stored-none (s .args .step) (now (s .args .stored)) (now (s .args .win)) (s .args .c) (s .args .r) (s .args .at) _ _ (c .before .before .before .centre .ensures)))
+    (λ c. let s = c .before .before .before .before .before .before .args in (omega arith, omega arith, refl, stored-none (s .step) (now (s .stored)) (now (s .win)) (s .c) (s .r) (s .at) _ _ (c .before .before .before .centre .ensures)))
     (λ c κs. omega (arith, more c))
     (λ c. omega (arith, few (c .before)))
     (λ c κs. omega (arith, more (c .before)))
@@ -65,7 +74,7 @@ blend-spec = tie.close
     (λ c. omega (arith, few (c .before .before .before)))
     (λ c κs. omega (arith, more (c .before .before .before)))
     (λ c. omega (arith, few (c .before .before .before .before .before)))
-    (λ c κs. let s = c .before .before .before .before .before .before .before .before .before .before .before .before .before in omega (arith, few (c .before .before .before .before .before), long (c .before .before .before .before .before), s .pre, c .before .before .before .before .samples-at .ensures .1, c .before .before .before .samples-at2 .ensures .1, c .before .before .samples-at3 .ensures .1, c .before .samples-at4 .ensures .1))
+    (λ c κs. let d = c .before .before .before .before .before in omega (arith, few d, long d, start d .pre, c .before .before .before .before .samples-at .ensures .1, c .before .before .before .samples-at2 .ensures .1, c .before .before .samples-at3 .ensures .1, c .before .samples-at4 .ensures .1))
     (λ c. omega (arith, few (c .before .before .before .before .before .before .before .before)))
     (λ c. omega (arith, c .before .before .before .before .before .before .before .before .loop-test .taken))
     loop-again

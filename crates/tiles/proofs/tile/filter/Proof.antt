@@ -20,13 +20,18 @@ steep s b slopes eb e =
     let p = s .pre .0 in
     tile-sloped (a .l) (a .n) (a .s) (a .top) (now (a .src)) (a .rect) (p .0) (now (a .dst)) (p .1) (p .2) (now (a .sigmas)) (now (a .slopes)) slopes (omega (arith, s .pre .1 .0)) (s .pre .1 .1 .steep) (rw (s .pre .1 .0 .0, eb) at e)
 
+-- after them
+module _ (c : tie.After-tile-slopes) where
+  abbrev start : tie.Start
+  start = c .before .before .before .before .before .before .before
+
 returns : tie.Need-returns
 returns c =
-    let s = c .before .before .before .before .before .before .before .before .before .before .before .before .before .before .before .before .before .before .before .before in
-    let a = s .args in
-    let p = s .pre .0 in
-    let z = s .pre .1 .1 in
-    let k = steep s _ _ (c .before .before .before .before .before .before .before .before .before .before .before .before .before .before .blocks-of .ensures) (c .before .before .before .before .before .before .before .before .before .before .before .before .before .tile-slopes .ensures) in (
+    let d = c .before .before .before .before .before .before .before .before .before .before .before .before .before in
+    let a = start d .args in
+    let p = start d .pre .0 in
+    let z = start d .pre .1 .1 in
+    let k = steep (start d) _ _ (d .before .blocks-of .ensures) (d .tile-slopes .ensures) in (
       inside-filtered (a .l) (a .n) (a .s) (a .top) (now (a .src)) (a .rect) (p .0) (now (a .dst)) (p .1) (p .2) _ _ (c .before .before .before .before .before .before .before .before .before .if2 .taken) (c .before .before .before .before .before .before .before .before .before .before .if1 .taken) (sym (c .before .before .before .before .before .before .before .before .lies-inside .ensures) ∙ c .before .before .before .before .before .before .before .if3 .taken) (c .before .before .filter-inside .ensures) _ k,
       record { windows = z .windows; far = z .far; steep = k .long; tile = z .tile },
     )
@@ -37,11 +42,11 @@ filter-spec = tie.close
     (λ c κs. omega (arith, c .before .before .before .before .before .pre .0 .0 .wide))
     (λ c κs. search needs)
     (λ c κs. search needs)
-    (λ c. let p = c .before .before .before .before .before .before .before .before .before .before .before .before .before .before .before .before .before .pre .0 in omega (arith, p .0 .down, p .1 .layout .down, p .1 .layout .high, p .4))
+    (λ c. let p = start (c .before .before .before .before .before .before .before .before .before .before) .pre .0 in omega (arith, p .0 .down, p .1 .layout .down, p .1 .layout .high, p .4))
     (λ c κs. search needs)
     (λ c. search needs)
     returns
-    (λ c κs. let s = c .before .before .before .before .before .before .before .before .before .before .before .before .before .before .before in let z = s .pre .1 .1 in (s .pre .0, record { windows = z .windows; far = z .far; steep = steep s _ _ (c .before .before .before .before .before .before .before .before .before .blocks-of .ensures) (c .before .before .before .before .before .before .before .before .tile-slopes .ensures) .long; tile = z .tile }))
+    (λ c κs. let d = c .before .before .before .before .before .before .before .before in let z = start d .pre .1 .1 in (start d .pre .0, record { windows = z .windows; far = z .far; steep = steep (start d) _ _ (d .before .blocks-of .ensures) (d .tile-slopes .ensures) .long; tile = z .tile }))
     (λ c. search needs)
     (λ c. search needs)
-    (λ c. let f = c .before .before .before .before .filter-window .ensures in (f .0 _ (steep (c .before .before .before .before .before .before .before .before .before .before .before .before .before .before .before .before .before .before .before .before) _ _ (c .before .before .before .before .before .before .before .before .before .before .before .before .before .before .blocks-of .ensures) (c .before .before .before .before .before .before .before .before .before .before .before .before .before .tile-slopes .ensures)), f .1)))
+    (λ c. let d = c .before .before .before .before .before .before .before .before .before .before .before .before .before in let f = c .before .before .before .before .filter-window .ensures in (f .0 _ (steep (start d) _ _ (d .before .blocks-of .ensures) (d .tile-slopes .ensures)), f .1)))
