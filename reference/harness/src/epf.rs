@@ -7,7 +7,8 @@ mod whole;
 
 use crate::{
     expected::epf::{Handed, number},
-    picture::{self, Rows, any_len, judge, plain, region, samples, special, wide},
+    pass::{self, by_bands, one_call},
+    picture::{self, Rows, any_len, plain, region, samples, special, wide},
     random::Random,
     report::{Amount, Report, Row},
     sigma::sigma,
@@ -45,7 +46,11 @@ struct Pass<'a> {
     sigmas: &'a [f32],
 }
 
-impl Pass<'_> {
+impl pass::Pass for Pass<'_> {
+    fn place(&self) -> &oracle::Place {
+        &self.place
+    }
+
     fn ours(&self, (from, to): Rows, source: &[f32], target: &mut [f32]) -> u32 {
         let place = self.place;
         let (image, filter) = (region(place.image), region(place.filter));
@@ -83,7 +88,6 @@ impl Pass<'_> {
         picture::planes(&set)
     }
 
-    /// The number that is due, with sets so long.
     fn number(&self, rows: Rows, sets: [usize; 2]) -> u32 {
         number(Handed {
             image: wide(self.place.image),
@@ -94,10 +98,6 @@ impl Pass<'_> {
             sigmas: self.sigmas.len(),
             sets,
         })
-    }
-
-    fn height(&self) -> u32 {
-        picture::result(&self.place).height
     }
 }
 
@@ -282,36 +282,33 @@ fn random_picture(step: u32, random: &mut Random, row: &mut Row) {
 }
 
 fn one_step(place: oracle::Place, step: u32, band: u32, random: &mut Random, row: &mut Row) {
-    let blocks = place.filter.width.div_ceil(8) * place.filter.height.div_ceil(8);
-    let sigmas: Vec<f32> = (0..blocks).map(|_| sigma(random)).collect();
+    let sigmas: Vec<f32> = (0..block_count(place.filter))
+        .map(|_| sigma(random))
+        .collect();
+    with_sigmas(place, step, band, &sigmas, random, row);
+}
+
+fn block_count(filter: oracle::Region) -> u32 {
+    filter.width.div_ceil(8) * filter.height.div_ceil(8)
+}
+
+/// A picture under these sigmas, with any settings.
+fn with_sigmas(
+    place: oracle::Place,
+    step: u32,
+    band: u32,
+    sigmas: &[f32],
+    random: &mut Random,
+    row: &mut Row,
+) {
     let pass = Pass {
         place,
         step,
         settings: settings(random),
-        sigmas: &sigmas,
+        sigmas,
     };
     let source = textured(picture::set_len(&place), random);
     by_bands(&pass, band, &source, random, row);
-}
-
-/// All bands of a step, each into a target of its own, and all into one.
-fn by_bands(pass: &Pass, band: u32, source: &[f32], random: &mut Random, row: &mut Row) {
-    row.by_bands();
-    let before = samples(source.len(), random);
-    let result = pass.rust(source);
-    let height = pass.height();
-    let mut all = before.clone();
-    for from in (0..height).step_by(band as usize) {
-        let rows = (from, height.min(from + band));
-        let (mut ours, mut due) = (before.clone(), before.clone());
-        let number = pass.ours(rows, source, &mut ours);
-        picture::store(&pass.place, &result, rows, &mut due);
-        judge(pass, rows, (number, &ours), (0, &due), row);
-        pass.ours(rows, source, &mut all);
-    }
-    let mut due = before;
-    picture::store(&pass.place, &result, (0, height), &mut due);
-    judge(pass, (0, height), (0, &all), (0, &due), row);
 }
 
 /// Each number at its limits; a refusal writes nothing.
@@ -351,14 +348,7 @@ fn wrong(random: &mut Random, row: &mut Row) {
         settings: settings(random),
         sigmas: &sigmas,
     };
-    let number = pass.number(rows, [source.len(), before.len()]);
-    let mut ours = before.clone();
-    let given = pass.ours(rows, &source, &mut ours);
-    let mut due = before;
-    if number == 0 {
-        picture::store(&pass.place, &pass.rust(&source), rows, &mut due);
-    }
-    judge(&pass, rows, (given, &ours), (number, &due), row);
+    one_call(&pass, rows, &source, before, row);
 }
 
 /// The default settings of a header.

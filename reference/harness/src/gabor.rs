@@ -3,7 +3,8 @@
 
 use crate::{
     expected::gabor::number,
-    picture::{self, Rows, judge, plain, region, samples, special, wide},
+    pass::{self, by_bands, one_call},
+    picture::{self, Rows, plain, region, samples, special, wide},
     random::Random,
     report::{Amount, Report, Row},
 };
@@ -31,7 +32,11 @@ struct Pass {
     weights: oracle::Weights,
 }
 
-impl Pass {
+impl pass::Pass for Pass {
+    fn place(&self) -> &oracle::Place {
+        &self.place
+    }
+
     fn ours(&self, (from, to): Rows, source: &[f32], target: &mut [f32]) -> u32 {
         let place = self.place;
         let (image, filter) = (region(place.image), region(place.filter));
@@ -43,9 +48,18 @@ impl Pass {
         loupe::gabor_pass(image, filter, outside, settings, from, to, source, target)
     }
 
-    /// The result's planes by the original.
     fn rust(&self, source: &[f32]) -> oracle::Planes {
         oracle::gabor(self.place, self.weights, picture::planes(source))
+    }
+
+    fn number(&self, rows: Rows, sets: [usize; 2]) -> u32 {
+        number(
+            wide(self.place.image),
+            wide(self.place.filter),
+            self.place.preserve_outside,
+            (rows.0.into(), rows.1.into()),
+            sets,
+        )
     }
 }
 
@@ -109,7 +123,7 @@ fn all_bands(
                 },
                 weights: weights(random),
             };
-            by_bands(&pass, band, random, row);
+            any_picture(&pass, band, random, row);
         }
     }
 }
@@ -142,28 +156,13 @@ fn random_picture(random: &mut Random, row: &mut Row) {
         },
         weights: weights(random),
     };
-    by_bands(&pass, band, random, row);
+    any_picture(&pass, band, random, row);
 }
 
-/// All bands of a pass, each into a target of its own, and all into one.
-fn by_bands(pass: &Pass, band: u32, random: &mut Random, row: &mut Row) {
-    row.by_bands();
+/// Any picture by bands.
+fn any_picture(pass: &Pass, band: u32, random: &mut Random, row: &mut Row) {
     let source = samples(picture::set_len(&pass.place), random);
-    let before = samples(picture::set_len(&pass.place), random);
-    let result = pass.rust(&source);
-    let height = picture::result(&pass.place).height;
-    let mut all = before.clone();
-    for from in (0..height).step_by(band as usize) {
-        let rows = (from, height.min(from + band));
-        let (mut ours, mut due) = (before.clone(), before.clone());
-        let number = pass.ours(rows, &source, &mut ours);
-        picture::store(&pass.place, &result, rows, &mut due);
-        judge(pass, rows, (number, &ours), (0, &due), row);
-        pass.ours(rows, &source, &mut all);
-    }
-    let mut due = before.clone();
-    picture::store(&pass.place, &result, (0, height), &mut due);
-    judge(pass, (0, height), (0, &all), (0, &due), row);
+    by_bands(pass, band, &source, random, row);
 }
 
 /// Each number at its limits; a refusal writes nothing.
@@ -195,20 +194,7 @@ fn wrong(random: &mut Random, row: &mut Row) {
     let rows = (picture::any_row(random), picture::any_row(random));
     let source = samples(picture::any_set_len(image, random), random);
     let before = samples(picture::any_set_len(image, random), random);
-    let number = number(
-        wide(image),
-        wide(filter),
-        pass.place.preserve_outside,
-        (rows.0.into(), rows.1.into()),
-        [source.len(), before.len()],
-    );
-    let mut ours = before.clone();
-    let given = pass.ours(rows, &source, &mut ours);
-    let mut due = before;
-    if number == 0 {
-        picture::store(&pass.place, &pass.rust(&source), rows, &mut due);
-    }
-    judge(&pass, rows, (given, &ours), (number, &due), row);
+    one_call(&pass, rows, &source, before, row);
 }
 
 /// The default weights, plain ones, or any float.

@@ -14,6 +14,7 @@ mod gabor;
 mod header;
 mod kinds;
 mod mirror;
+mod pass;
 mod picture;
 mod random;
 mod record;

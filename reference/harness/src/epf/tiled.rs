@@ -2,7 +2,7 @@
 //! that has samples of the filter region on every side reads the planes themselves, every other
 //! tile goes through a window; narrower pictures have no such tile.
 
-use super::{Pass, around, by_bands, settings, textured};
+use super::{around, block_count, with_sigmas};
 use crate::{
     picture,
     random::Random,
@@ -78,15 +78,8 @@ fn before((width, height): (u32, u32), random: &mut Random) -> (oracle::Region, 
 fn one(step: u32, sides: (u32, u32), random: &mut Random, row: &mut Row) {
     let place = placed(sides, random);
     let sigmas = sigmas(place.filter, random);
-    let pass = Pass {
-        place,
-        step,
-        settings: settings(random),
-        sigmas: &sigmas,
-    };
-    let source = textured(picture::set_len(&place), random);
-    let band = band_height(pass.height(), random);
-    by_bands(&pass, band, &source, random, row);
+    let band = band_height(picture::result(&place).height, random);
+    with_sigmas(place, step, band, &sigmas, random, row);
 }
 
 /// Any height up to so many rows that is no multiple of 8.
@@ -102,10 +95,9 @@ fn band_height(rows: u32, random: &mut Random) -> u32 {
 /// A sigma for each block, often that of the block before, so that all blocks of a tile are copied,
 /// none, or some.
 fn sigmas(filter: oracle::Region, random: &mut Random) -> Vec<f32> {
-    let blocks = filter.width.div_ceil(BLOCK) * filter.height.div_ceil(BLOCK);
     let apart = random.one_of(&[1, 2, 8]);
     let mut last = sigma(random);
-    (0..blocks)
+    (0..block_count(filter))
         .map(|_| {
             if random.once_in(apart) {
                 last = sigma(random);

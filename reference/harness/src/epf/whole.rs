@@ -5,6 +5,7 @@ use super::{
     BANDS, DEFAULTS, Pass, SIDES, around, placements, settings, textured, two_samples, whole_images,
 };
 use crate::{
+    pass::Pass as _,
     picture::{self, judge, samples},
     random::Random,
     report::{Amount, Report, Row},

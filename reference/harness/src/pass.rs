@@ -1,0 +1,60 @@
+//! A pass over rows of its result, by the proved library and by the original: what the Gabor-like pass
+//! and the steps are compared by.
+
+use std::fmt::Debug;
+
+use crate::{
+    picture::{self, Rows, judge, samples},
+    random::Random,
+    report::Row,
+};
+
+/// What a pass is handed but the sets.
+pub trait Pass: Debug {
+    fn place(&self) -> &oracle::Place;
+
+    /// The proved library's number, and what it leaves in the target.
+    fn ours(&self, rows: Rows, source: &[f32], target: &mut [f32]) -> u32;
+
+    /// The result's planes by the original.
+    fn rust(&self, source: &[f32]) -> oracle::Planes;
+
+    /// The number that is due, with sets so long.
+    fn number(&self, rows: Rows, sets: [usize; 2]) -> u32;
+
+    fn height(&self) -> u32 {
+        picture::result(self.place()).height
+    }
+}
+
+/// All bands of a pass, each into a target of its own, and all into one.
+pub fn by_bands(pass: &impl Pass, band: u32, source: &[f32], random: &mut Random, row: &mut Row) {
+    row.by_bands();
+    let before = samples(source.len(), random);
+    let result = pass.rust(source);
+    let height = pass.height();
+    let mut all = before.clone();
+    for from in (0..height).step_by(band as usize) {
+        let rows = (from, height.min(from + band));
+        let (mut ours, mut due) = (before.clone(), before.clone());
+        let number = pass.ours(rows, source, &mut ours);
+        picture::store(pass.place(), &result, rows, &mut due);
+        judge(pass, rows, (number, &ours), (0, &due), row);
+        pass.ours(rows, source, &mut all);
+    }
+    let mut due = before;
+    picture::store(pass.place(), &result, (0, height), &mut due);
+    judge(pass, (0, height), (0, &all), (0, &due), row);
+}
+
+/// One call, which may be refused; a refusal writes nothing.
+pub fn one_call(pass: &impl Pass, rows: Rows, source: &[f32], before: Vec<f32>, row: &mut Row) {
+    let number = pass.number(rows, [source.len(), before.len()]);
+    let mut ours = before.clone();
+    let given = pass.ours(rows, source, &mut ours);
+    let mut due = before;
+    if number == 0 {
+        picture::store(pass.place(), &pass.rust(source), rows, &mut due);
+    }
+    judge(pass, rows, (given, &ours), (number, &due), row);
+}
