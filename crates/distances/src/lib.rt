@@ -40,7 +40,7 @@ pub struct Tap {
     pub start: usize,
 }
 
-// How many fields it has.
+// How many fields a step has.
 fn half(step: usize) -> usize
     ensures { λ r. ⌜ r ≡ halfOf step ⌝ }
 {

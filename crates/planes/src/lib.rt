@@ -1,6 +1,6 @@
 // Planes row after row without gaps, one after the other: where a filter region lies in them, and which sets and rows there are.
 ghost use mathlib.Core.Path.{_≡_};
-ghost use Prim.Native.Nat.{ℕ, _+_, _≤_};
+ghost use Prim.Native.Nat.{ℕ, _+_, _≤_, min};
 ghost use lib.Dec.{leb};
 ghost use lib.ListN.{length, getD};
 ghost use lib.Ieee.{nan};
@@ -28,6 +28,16 @@ pub struct Layout {
     pub width: usize,
     pub height: usize,
     pub full: bool,
+}
+
+// The lesser of two.
+pub fn at_most(x: usize, k: usize) -> usize
+    ensures { λ r. ⌜ r ≡ min x k ⌝ }
+{
+    if x < k {
+        return x;
+    }
+    k
 }
 
 // Whether n from `at` on end at `end` or before it.

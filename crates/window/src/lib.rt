@@ -7,7 +7,7 @@ use mirror::mirrored;
 use planes::Layout;
 use planes::set_fits;
 ghost use mathlib.Core.Path.{_≡_};
-ghost use Prim.Native.Nat.{ℕ, _+_, _-_, _*_, _<_, _≤_, min};
+ghost use Prim.Native.Nat.{ℕ, _+_, _-_, _*_, _<_, _≤_};
 ghost use lib.ListN.{length};
 ghost use Rattle.planes.specs.Rect.{rowsFill, planesFill};
 ghost use Rattle.window.specs.Window.{planeSample, windowSample, loaded, WindowFits, PlaneFits};
@@ -24,15 +24,6 @@ const ROWS: usize = 14;
 
 // The samples of three planes' windows.
 const WINDOWS: usize = 2688;
-
-pub fn at_most(x: usize, k: usize) -> usize
-    ensures { λ r. ⌜ r ≡ min x k ⌝ }
-{
-    if x < k {
-        return x;
-    }
-    k
-}
 
 // Rows `top` to top + rows of a window's plane, from a region of w columns and h rows that starts at `start`.
 fn load_plane(

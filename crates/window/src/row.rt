@@ -1,8 +1,8 @@
 // A row of a window, from the row of a plane that it shows.
 use crate::LEFT;
 use crate::WINDOWS;
-use crate::at_most;
 use mirror::mirrored;
+use planes::at_most;
 use planes::copy_run;
 ghost use mathlib.Core.Path.{_≡_};
 ghost use Prim.Native.Nat.{ℕ, _+_, _-_, _<_, _≤_};
