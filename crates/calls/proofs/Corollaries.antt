@@ -23,10 +23,10 @@ use Rattle.planes.specs.SetLaws.{length-setOf, sets-ext}
 use Rattle.planes.specs.Rect.{Between, between}
 use Rattle.planes.specs.Picture.{inRect}
 use Rattle.planes.specs.Band.{inFilter}
-use Rattle.record.specs.declared.Setup.{Setup}
-use Rattle.record.specs.Setup.{layout, epfOn, resultRegion, resultLength}
+use Rattle.setup.specs.declared.Setup.{Setup}
+use Rattle.setup.specs.Setup.{layout, epfOn, resultRegion, resultLength}
 use Rattle.record.specs.Record.{started}
-use Rattle.record.specs.Laws.{SetupFits, setup-fits}
+use Rattle.setup.specs.Laws.{SetupFits, setup-fits}
 use Rattle.runs.specs.Start.{Handed, startNumber, sigmasFilled}
 use Rattle.runs.specs.Band.{State, source}
 use Rattle.runs.specs.Result.{resultOf}

@@ -11,12 +11,13 @@ use lib.Dec.{T, eqb, eqb→eq}
 use lib.ListN.{length, getD, set, replicate}
 use lib.Seq.{getD-set-same, getD-set-other}
 use lib.Ieee.{Float}
-use Rattle.record.specs.declared.Setup.{Setup}
+use Rattle.setup.specs.declared.Setup.{Setup}
 use Rattle.record.specs.declared.Run.{Run}
-use Rattle.record.specs.Setup.{bandCount}
+use Rattle.setup.specs.Setup.{bandCount}
 use Rattle.record.specs.Record.{passCount, isDone, started, marked, advanced, finished}
-use Rattle.record.specs.Tables.{is-true}
-use Rattle.record.specs.Laws.{RunFits, setup-fits, none-done}
+use Rattle.numbers.specs.Tables.{is-true}
+use Rattle.setup.specs.Laws.{setup-fits}
+use Rattle.record.specs.Laws.{RunFits, none-done}
 use Rattle.runs.specs.Band.{State}
 use Rattle.runs.specs.Laws.{picture-fits, band-fits, advance-fits}
 use Rattle.calls.specs.Calls.{startState, Effect, oneBand, oneAdvance, nothing, Calls, next, end, Unaltered, bandsIn, advancesIn, documentCalls}

@@ -13,10 +13,10 @@ use Rattle.passes.specs.Pass.{Area, passes}
 use Rattle.passes.specs.Cut.{Fits, SameBlocks, SomeStep, cut-same, plan-sound, plan-some-step}
 use Rattle.passes.specs.Plan.{plan, margin}
 use Rattle.passes.specs.PlanLaws.{plan-reach}
-use Rattle.record.specs.declared.Setup.{Setup}
-use Rattle.record.specs.Setup.{epfOn, area}
+use Rattle.setup.specs.declared.Setup.{Setup}
+use Rattle.setup.specs.Setup.{epfOn, area}
 use Rattle.record.specs.Record.{started}
-use Rattle.record.specs.Laws.{setup-fits}
+use Rattle.setup.specs.Laws.{setup-fits}
 use Rattle.runs.specs.Start.{Handed, sigmasFilled}
 use Rattle.runs.specs.Band.{State, source}
 use Rattle.runs.specs.Laws.{PictureFits, picture-fits}

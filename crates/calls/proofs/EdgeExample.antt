@@ -20,7 +20,7 @@ use Rattle.planes.specs.Sets.{setOf, tab}
 use Rattle.planes.specs.SetLaws.{of-setOf}
 use Rattle.planes.specs.Band.{inner}
 use Rattle.passes.specs.Plan.{plan, steps, stepOf, scaleOf, stepMargin}
-use Rattle.record.specs.Setup.{bandCount, setupFits, sized}
+use Rattle.setup.specs.Setup.{bandCount, setupFits, sized}
 use Rattle.record.specs.Record.{isDone, started, marked, advanced, bandMissing, strayDone, runFits}
 use Rattle.runs.specs.Start.{pictureChecks, startNumber, sigmasFilled}
 use Rattle.runs.specs.Band.{bandChecks, advanceChecks}

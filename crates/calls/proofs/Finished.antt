@@ -16,10 +16,10 @@ use Rattle.region.specs.Regions.{Holds}
 use Rattle.layout.specs.Outcome.{layoutOf}
 use Rattle.passes.specs.Pass.{passes}
 use Rattle.passes.specs.Plan.{plan}
-use Rattle.record.specs.declared.Setup.{Setup}
-use Rattle.record.specs.Setup.{layout, area, resultRegion, resultLength}
+use Rattle.setup.specs.declared.Setup.{Setup}
+use Rattle.setup.specs.Setup.{layout, area, resultRegion, resultLength}
 use Rattle.record.specs.Record.{passCount, started, finished}
-use Rattle.record.specs.Laws.{SetupFits}
+use Rattle.setup.specs.Laws.{SetupFits}
 use Rattle.runs.specs.Start.{Handed, startNumber}
 use Rattle.runs.specs.Band.{State, source}
 use Rattle.runs.specs.Result.{resultNumber, resultOf, resultOutcome}

@@ -11,11 +11,12 @@ use borrow.Author.Tests.{eq-eqb, ne-eqb}
 use lib.Dec.{T, eqb, eqb-refl}
 use lib.ListN.{length, getD, set, replicate, length-set, length-replicate, getD-replicate}
 use lib.Seq.{getD-set-same, getD-set-other, ext-getD}
-use Rattle.record.specs.declared.Setup.{Setup}
+use Rattle.setup.specs.declared.Setup.{Setup}
 use Rattle.record.specs.declared.Run.{Run}
-use Rattle.record.specs.Setup.{bandCount, setupFits}
+use Rattle.setup.specs.Setup.{bandCount, setupFits}
 use Rattle.record.specs.Record.{passCount, isDone, started, marked, advanced, finished, Reached, atStart, byBand, byAdvance}
-use Rattle.record.specs.Laws.{SetupFits, setup-fits, RunFits, run-fits, fits-run, none-done, started-fits, marked-fits, advanced-fits, Open, band-open, open-band, Over, pass-over, over-pass}
+use Rattle.setup.specs.Laws.{SetupFits, setup-fits}
+use Rattle.record.specs.Laws.{RunFits, run-fits, fits-run, none-done, started-fits, marked-fits, advanced-fits, Open, band-open, open-band, Over, pass-over, over-pass}
 use Rattle.runs.specs.Start.{Handed, startNumber}
 use Rattle.runs.specs.Band.{State}
 use Rattle.runs.specs.Laws.{picture-fits, band-accepted, advance-accepted}

@@ -20,10 +20,11 @@ use Rattle.passes.specs.Pass.{Area, Pass, gaborLike, pass, passes}
 use Rattle.passes.specs.Cut.{AllSound, passes-cong, plan-sound}
 use Rattle.passes.specs.Plan.{plan}
 use Rattle.passes.specs.PlanLaws.{plan-length}
-use Rattle.record.specs.declared.Setup.{Setup}
-use Rattle.record.specs.Setup.{layout, area, bandFrom, bandTo, setLength, sigmaLength}
+use Rattle.setup.specs.declared.Setup.{Setup}
+use Rattle.setup.specs.Setup.{layout, area, bandFrom, bandTo, setLength, sigmaLength}
 use Rattle.record.specs.Record.{passCount, isDone, started, marked, advanced}
-use Rattle.record.specs.Laws.{SetupFits, setup-fits, setup-layout, band-of, RunFits, Open, Over, none-done, pass-left, started-fits, marked-fits, advanced-fits}
+use Rattle.setup.specs.Laws.{SetupFits, setup-fits, setup-layout, band-of}
+use Rattle.record.specs.Laws.{RunFits, Open, Over, none-done, pass-left, started-fits, marked-fits, advanced-fits}
 use Rattle.runs.specs.Start.{Handed}
 use Rattle.runs.specs.Band.{State, readsFirst, source, target, nextPass, banded, bandAccepted}
 use Rattle.runs.specs.Laws.{PictureFits, sigmas-length}

@@ -9,7 +9,7 @@ use lib.Ieee.{Float}
 use Rattle.region.specs.Regions.{Holds}
 use Rattle.planes.specs.Sets.{of}
 use Rattle.passes.specs.Plan.{margin}
-use Rattle.record.specs.Setup.{resultRegion, resultLength}
+use Rattle.setup.specs.Setup.{resultRegion, resultLength}
 use Rattle.record.specs.Record.{finished}
 use Rattle.runs.specs.Start.{Handed, startNumber, startLeaves}
 use Rattle.runs.specs.Result.{ResultOutcome}

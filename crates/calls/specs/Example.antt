@@ -12,8 +12,8 @@ use Rattle.planes.specs.Samples.{b0}
 use Rattle.planes.specs.Picture.{Picture}
 use Rattle.planes.specs.Sets.{setOf}
 use Rattle.passes.specs.Plan.{margin}
-use Rattle.record.specs.declared.Setup.{Setup}
-use Rattle.record.specs.Setup.{resultLength}
+use Rattle.setup.specs.declared.Setup.{Setup}
+use Rattle.setup.specs.Setup.{resultLength}
 use Rattle.record.specs.declared.Run.{Run}
 use Rattle.record.specs.Record.{marked, finished}
 use Rattle.runs.specs.Start.{Handed, startNumber, noSetup}

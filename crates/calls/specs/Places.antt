@@ -13,8 +13,8 @@ use Rattle.planes.specs.Sets.{of}
 use Rattle.planes.specs.Band.{inner}
 use Rattle.passes.specs.Pass.{passes}
 use Rattle.passes.specs.Plan.{plan}
-use Rattle.record.specs.declared.Setup.{Setup}
-use Rattle.record.specs.Setup.{layout, area, resultRegion}
+use Rattle.setup.specs.declared.Setup.{Setup}
+use Rattle.setup.specs.Setup.{layout, area, resultRegion}
 use Rattle.runs.specs.Start.{Handed, startLeaves, sigmasFilled}
 
 -- the sample of a picture whose first column and row are the region's

@@ -10,9 +10,9 @@ use lib.Ieee.{Float}
 use Rattle.numbers.specs.Checks.{firstOf}
 use Rattle.region.specs.Regions.{inside, Holds}
 use Rattle.passes.specs.Plan.{plan, margin}
-use Rattle.record.specs.declared.Setup.{Setup}
+use Rattle.setup.specs.declared.Setup.{Setup}
 use Rattle.record.specs.declared.Run.{Run}
-use Rattle.record.specs.Setup.{epfOn, bandCount, setupFits, resultLength}
+use Rattle.setup.specs.Setup.{epfOn, bandCount, setupFits, resultLength}
 use Rattle.record.specs.Record.{passCount, finished, runFits, Reached}
 use Rattle.runs.specs.Start.{Handed, pictureChecks, startNumber}
 use Rattle.runs.specs.Result.{ResultOutcome, resultOutcome}

@@ -15,12 +15,12 @@ use header::RestorationFilter;
 use mirror::MirrorAnswer;
 use passes::Settings;
 use record::Run;
-use record::Setup;
 use region::BoolAnswer;
 use region::EdgeAnswer;
 use region::Region;
 use region_arithmetic::RegionAnswer;
 use runs::RunAnswer;
+use setup::Setup;
 ghost use mathlib.Core.Path.{_≡_};
 ghost use Rattle.epf.specs.Outcome.{epfOutcome};
 ghost use Rattle.epf_header.specs.EdgeFilter.{epfAt, epfAnswer};
@@ -261,7 +261,7 @@ pub extern "C" fn loupe_band(
 pub extern "C" fn loupe_advance(run: Run) -> RunAnswer
     ensures { λ r. ⌜ r ≡ advanceOutcome run ⌝ }
 {
-    run_band::advance(run)
+    run_advance::advance(run)
 }
 
 #[no_mangle]

@@ -28,7 +28,7 @@ use Rattle.sigma.specs.Sigma.{sigmaIn, sigmaOf, aboveAt, sigmaAt, blockSigmas}
 use Rattle.layout.specs.Outcome.{layoutOf}
 use Rattle.passes.specs.Pass.{pass}
 use Rattle.passes.specs.Plan.{scaleOf, stepOf, steps, plan}
-use Rattle.record.specs.Setup.{bandCount, sized, setupFits}
+use Rattle.setup.specs.Setup.{bandCount, sized, setupFits}
 use Rattle.record.specs.Record.{isDone, started, marked, bandMissing, strayDone, runFits}
 use Rattle.runs.specs.Band.{readsFirst, bandChecks, banded, bandOutcome, advanceChecks, advanceOutcome}
 use Rattle.instances.specs.Instances.{bytesOf, Table}

@@ -22,7 +22,7 @@ use Rattle.planes.specs.Sets.{of, setOf, tab}
 use Rattle.gabor_kernel.specs.Gabor.{gaborPass}
 use Rattle.weights.specs.Steps.{kernel, dists, scaled, copied, standardLimit, epf, multiplier, EpfPass, epfPass}
 use Rattle.sigma.specs.Sigma.{blockSigmas}
-use Rattle.record.specs.declared.Setup.{Setup}
+use Rattle.setup.specs.declared.Setup.{Setup}
 use Rattle.record.specs.Record.{started}
 use Rattle.runs.specs.Band.{State, bandOutcome, advanceOutcome}
 

@@ -9,9 +9,9 @@ use Rattle.numbers.specs.Numbers.{outOfRange, bandNotOpen, passNotDone}
 use Rattle.numbers.specs.Checks.{Check, always}
 use Rattle.grids.specs.Table.{someBelow}
 use Rattle.passes.specs.Plan.{plan}
-use Rattle.record.specs.declared.Setup.{Setup}
+use Rattle.setup.specs.declared.Setup.{Setup}
 use Rattle.record.specs.declared.Run.{Run}
-use Rattle.record.specs.Setup.{bandCount, setupFits}
+use Rattle.setup.specs.Setup.{bandCount, setupFits}
 
 -- how many passes the settings ask for
 abbrev pub passCount : Setup → ℕ

@@ -1,4 +1,4 @@
--- What an accepted band or advance was lent, and the outcomes as the code's tests give them. Assumes nothing.
+-- What an accepted band was lent, and the outcomes as the code's tests give them. Assumes nothing.
 use mathlib.Core.Path.{_≡_, sym, ap, _∙_}
 use mathlib.Core.Bool.{Bool, true, false, cond, not, _&&_, _||_}
 use mathlib.Core.List.{List, _∷_}
@@ -13,26 +13,16 @@ use lib.Ieee.Fits.{and-l, and-r}
 use Rattle.numbers.specs.Checks.{firstOf}
 use Rattle.region.specs.Laws.{pictured-measured, measured-height}
 use Rattle.layout.specs.Outcome.{layoutOf}
-use Rattle.passes.specs.Plan.{oneIf}
-use Rattle.passes.specs.PlanLaws.{plan-length}
-use Rattle.record.specs.declared.Setup.{Setup}
+use Rattle.setup.specs.declared.Setup.{Setup}
 use Rattle.record.specs.declared.Run.{Run}
-use Rattle.record.specs.Setup.{epfOn, rowCount, bandCount, bandFrom, bandTo, sized, itersFit, setLength, sigmaLength}
-use Rattle.record.specs.Record.{passCount, marked, advanced, openChecks, overChecks}
-use Rattle.record.specs.Tables.{of-true, met-given, row-passed}
-use Rattle.record.specs.Laws.{SetupFits, setup-fits, image-sized, filter-sized, pass-left}
-use Rattle.runs.specs.declared.RunAnswer.{RunAnswer}
-use Rattle.runs.specs.Band.{State, Outcome, setCheck, sigmaCheck, readsFirst, source, target, bandChecks, bandNumber, banded, bandOutcome, advanceChecks, advanceNumber, advanceOutcome}
-use Rattle.runs.specs.Laws.{BandFits, band-fits, advance-fits}
+use Rattle.setup.specs.Setup.{epfOn, rowCount, bandCount, bandFrom, bandTo, sized, itersFit, setLength, sigmaLength}
+use Rattle.record.specs.Record.{marked, openChecks}
+use Rattle.numbers.specs.Tables.{of-true, met-given, row-passed}
+use Rattle.setup.specs.Laws.{SetupFits, setup-fits, image-sized, filter-sized}
+use Rattle.record.specs.Laws.{pass-left}
+use Rattle.runs.specs.Band.{State, Outcome, setCheck, sigmaCheck, readsFirst, source, target, bandChecks, bandNumber, banded, bandOutcome}
+use Rattle.runs.specs.Laws.{BandFits, band-fits}
 use Rattle.run_band.specs.Rows.{RowsFit, passedRows, bandWritten}
-
--- at most four passes
-few-passes : (s : Setup) → passCount s ≤ 4
-few-passes s = omega (arith, plan-length 3 (s .settings), one (s .settings .gabor .enabled))
-  where
-    one : (b : Bool) → oneIf b ≤ 1
-    one true = omega arith
-    one false = omega arith
 
 -- ---- an accepted band
 
@@ -150,27 +140,3 @@ module _ (t : State) (k : ℕ) where
         let f : a ≡ cond (readsFirst (t .run)) (t .first) (banded 3 t k) = ap (λ (u : State). u .first) w in
         let g : b ≡ cond (readsFirst (t .run)) (banded 3 t k) (t .second) = ap (λ (u : State). u .second) w in
         rw (z, p, f, g)
-
--- ---- an advance
-
-module _ (r : Run) (n : ℕ) (e : n ≡ firstOf (overChecks r)) where
-  over-is : n ≡ advanceNumber r
-  unfolding advanceChecks
-  over-is = e
-
-  pub advance-refused : (n ≡ 0 → ⊥) → _≡_ {A = RunAnswer} (record { number = n; run = r }) (advanceOutcome r)
-  unfolding advanceOutcome
-  advance-refused h =
-      let z : eqb (advanceNumber r) 0 ≡ false = ne-eqb (advanceNumber r) 0 (λ q. h (over-is ∙ q)) in
-      rw (z, over-is)
-
-  pub advance-few : n ≡ 0 → r .pass < 4
-  advance-few h =
-      let f = advance-fits r (sym over-is ∙ h) in
-      omega (arith, pass-left r (f .run) (f .pass .unfinished), few-passes (r .setup))
-
-  pub advance-done : n ≡ 0 → (a : Run) → a ≡ advanced r → _≡_ {A = RunAnswer} (record { number = 0; run = a }) (advanceOutcome r)
-  unfolding advanceOutcome
-  advance-done h a p =
-      let z : advanceNumber r ≡ 0 = sym over-is ∙ h in
-      rw (z, p)

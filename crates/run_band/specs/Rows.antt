@@ -24,12 +24,13 @@ use Rattle.passes.specs.declared.Settings.{Settings}
 use Rattle.passes.specs.Pass.{gaborLike, pass}
 use Rattle.passes.specs.Plan.{stepOf, oneIf, gaborAt, stepIndex}
 use Rattle.passes.specs.PlanLaws.{plan-length, plan-gabor, plan-step}
-use Rattle.record.specs.declared.Setup.{Setup}
+use Rattle.setup.specs.declared.Setup.{Setup}
 use Rattle.record.specs.declared.Run.{Run}
-use Rattle.record.specs.Setup.{layout, epfOn, area, rowCount, setLength, sigmaLength}
+use Rattle.setup.specs.Setup.{layout, epfOn, area, rowCount, setLength, sigmaLength}
 use Rattle.record.specs.Record.{passCount}
-use Rattle.record.specs.Tables.{is-true}
-use Rattle.record.specs.Laws.{SetupFits, setup-fits, RunFits}
+use Rattle.numbers.specs.Tables.{is-true}
+use Rattle.setup.specs.Laws.{SetupFits, setup-fits}
+use Rattle.record.specs.Laws.{RunFits}
 use Rattle.runs.specs.Band.{State, source, target, readsFirst, nextPass, banded}
 
 -- rows from `from` up to `to` of the result, of n planes: what the next pass over them leaves in dst

@@ -1,4 +1,4 @@
-// Band and advance of a run.
+// The band call of a run.
 use epf::epf_pass;
 use gabor::gabor_pass;
 use gabor_header::weights;
@@ -7,19 +7,18 @@ use numbers::WRONG_LENGTH;
 use passes::gabor_at;
 use passes::step_at;
 use record::Run;
-use record::advance_number;
 use record::band_number;
-use record::row_count;
 use runs::RunAnswer;
 use runs::sets_wrong;
 use runs::sigmas_wrong;
+use setup::row_count;
 ghost use mathlib.Core.Path.{_≡_};
 ghost use mathlib.Core.List.{_∷_};
 ghost use Prim.Native.Nat.{_<_, min};
 ghost use lib.ListN.{length};
 ghost use Rattle.numbers.specs.Checks.{firstOf};
-ghost use Rattle.record.specs.Record.{marked, advanced, openChecks};
-ghost use Rattle.runs.specs.Band.{State, Outcome, setCheck, sigmaCheck, bandNumber, bandOutcome, advanceOutcome};
+ghost use Rattle.record.specs.Record.{marked, openChecks};
+ghost use Rattle.runs.specs.Band.{State, Outcome, setCheck, sigmaCheck, bandNumber, bandOutcome};
 ghost use Rattle.run_band.specs.Rows.{RowsFit, passedRows, bandWritten};
 
 // Which number a band gets: 7 for the sets and the block sigmas, then what the record gives it.
@@ -100,34 +99,6 @@ pub fn band(run: Run, sigmas: &[f32], first: &mut [f32], second: &mut [f32], k: 
     }
     filter_band(run, sigmas, first, second, k);
     let run = marked(run, k as usize);
-    RunAnswer {
-        number: ACCEPTED,
-        run,
-    }
-}
-
-fn advanced(run: Run) -> Run
-    requires { ⌜ run .pass < 4 ⌝ }
-    ensures { λ r. ⌜ r ≡ advanced run ⌝ }
-{
-    let setup = run.setup;
-    let done = [false; 256];
-    Run {
-        setup,
-        pass: run.pass + 1,
-        done,
-    }
-}
-
-// The next pass, or the finish.
-pub fn advance(run: Run) -> RunAnswer
-    ensures { λ r. ⌜ r ≡ advanceOutcome run ⌝ }
-{
-    let number = advance_number(run);
-    if number != ACCEPTED {
-        return RunAnswer { number, run };
-    }
-    let run = advanced(run);
     RunAnswer {
         number: ACCEPTED,
         run,

@@ -19,9 +19,9 @@ use Rattle.planes.specs.Fill.{fill}
 use Rattle.planes.specs.Rect.{rowsFill, planesFill, rows-turn, rows-cong, planes-turn, planes-at, length-planesFill}
 use Rattle.planes.specs.Stored.{LayoutFits}
 use Rattle.planes.specs.Band.{resultLeft, resultTop, resultWidth, resultHeight, inner}
-use Rattle.record.specs.declared.Setup.{Setup}
-use Rattle.record.specs.Setup.{layout, setLength, resultLength}
-use Rattle.record.specs.Laws.{SetupFits, placed-accepted, setup-layout}
+use Rattle.setup.specs.declared.Setup.{Setup}
+use Rattle.setup.specs.Setup.{layout, setLength, resultLength}
+use Rattle.setup.specs.Laws.{SetupFits, placed-accepted, setup-layout}
 use Rattle.runs.specs.Result.{resultOf}
 
 -- the result as the filter region of a layout

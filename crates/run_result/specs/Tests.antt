@@ -11,11 +11,12 @@ use lib.Ieee.{Float}
 use Rattle.numbers.specs.Numbers.{wrongLength, outOfRange, passNotDone}
 use Rattle.numbers.specs.Checks.{applies, firstOf}
 use Rattle.planes.specs.Stored.{and-first, and-second}
-use Rattle.record.specs.declared.Setup.{Setup}
+use Rattle.setup.specs.declared.Setup.{Setup}
 use Rattle.record.specs.declared.Run.{Run}
-use Rattle.record.specs.Setup.{layout, setLength, resultLength}
+use Rattle.setup.specs.Setup.{layout, setLength, resultLength}
 use Rattle.record.specs.Record.{runFits, finished, finishedChecks}
-use Rattle.record.specs.Laws.{SetupFits, fits-setup-of, image-sized, result-sized}
+use Rattle.setup.specs.Laws.{SetupFits, image-sized, result-sized}
+use Rattle.record.specs.Laws.{fits-setup-of}
 use Rattle.runs.specs.Band.{readsFirst, setCheck}
 use Rattle.runs.specs.Result.{ResultOutcome, sliceCheck, resultChecks, resultNumber, resultOf, resultOutcome}
 

@@ -15,8 +15,8 @@ use Rattle.grids.specs.Table.{badGrid, cells, gridStart, lacks, someBelow}
 use Rattle.groups.specs.Held.{notHeld, someNotHeld}
 use Rattle.frame.specs.Outcome.{badSides, badSettings}
 use Rattle.groups.specs.Outcome.{tableFits, gridsFit}
-use Rattle.record.specs.declared.Setup.{Setup}
-use Rattle.record.specs.Setup.{bandCount}
+use Rattle.setup.specs.declared.Setup.{Setup}
+use Rattle.setup.specs.Setup.{bandCount}
 use Rattle.runs.specs.Start.{Handed, noSetup, pictureChecks, startNumber}
 
 -- an image of 8 by 8 samples whose filter region has the given left and width

@@ -28,11 +28,11 @@ use Rattle.groups.specs.Outcome.{frameFits, tableFits, tableRead, someGroup, gr
 use Rattle.sigma.specs.Outcome.{SigmasOutcome, leftIn, sigmasOutcome}
 use Rattle.placement.specs.Blocks.{ahead, onBlocks}
 use Rattle.placement.specs.BlockLaws.{ahead-small}
-use Rattle.record.specs.declared.Setup.{Setup}
+use Rattle.setup.specs.declared.Setup.{Setup}
 use Rattle.record.specs.declared.Run.{Run}
-use Rattle.record.specs.Setup.{layout, epfOn, itersFit, sized, setLength, sigmaLength}
+use Rattle.setup.specs.Setup.{layout, epfOn, itersFit, sized, setLength, sigmaLength}
 use Rattle.record.specs.Record.{started}
-use Rattle.record.specs.Tests.{sized-by-area}
+use Rattle.setup.specs.Tests.{sized-by-area}
 use Rattle.runs.specs.Tests.{blocks-same}
 use Rattle.runs.specs.Band.{setCheck}
 use Rattle.runs.specs.Start.{Handed, StartOutcome, blocksOf, pictureChecks, startNumber, sigmasFilled, noRun, startOutcome}

@@ -9,8 +9,8 @@ use Rattle.placement.specs.Placed.{placedChecks}
 use Rattle.frame.specs.declared.Frame.{Frame}
 use Rattle.groups.specs.Outcome.{sigmaNumber}
 use Rattle.placement.specs.Blocks.{onBlocks}
-use Rattle.record.specs.declared.Setup.{Setup}
-use Rattle.record.specs.Setup.{epfOn, itersFit, heightFits, countFits}
+use Rattle.setup.specs.declared.Setup.{Setup}
+use Rattle.setup.specs.Setup.{epfOn, itersFit, heightFits, countFits}
 use Rattle.runs.specs.Band.{setCheck}
 use Rattle.runs.specs.Start.{blocksOf}
 use Rattle.run_start.specs.Lowest.{lowest}

@@ -12,7 +12,7 @@ use Rattle.blocks.specs.declared.Blocks.{Blocks}
 use Rattle.groups.specs.Outcome.{sigmaNumber}
 use Rattle.sigma.specs.Outcome.{sigmasOutcome}
 use Rattle.placement.specs.Blocks.{ahead}
-use Rattle.record.specs.declared.Setup.{Setup}
+use Rattle.setup.specs.declared.Setup.{Setup}
 use Rattle.runs.specs.Start.{Handed, blocksOf}
 use Rattle.run_start.specs.Pieces.{runsEpf, sigmasAsked}
 

@@ -10,9 +10,9 @@ use Rattle.numbers.specs.Checks.{Check, given, firstOf}
 use Rattle.planes.specs.Band.{inner, passed}
 use Rattle.passes.specs.Pass.{Pass, gaborLike, pass}
 use Rattle.passes.specs.Plan.{plan}
-use Rattle.record.specs.declared.Setup.{Setup}
+use Rattle.setup.specs.declared.Setup.{Setup}
 use Rattle.record.specs.declared.Run.{Run}
-use Rattle.record.specs.Setup.{layout, epfOn, area, bandFrom, bandTo, sized, itersFit, setLength, sigmaLength}
+use Rattle.setup.specs.Setup.{layout, epfOn, area, bandFrom, bandTo, sized, itersFit, setLength, sigmaLength}
 use Rattle.record.specs.Record.{openChecks, overChecks, marked, advanced}
 use Rattle.runs.specs.declared.RunAnswer.{RunAnswer}
 

@@ -17,10 +17,11 @@ use Rattle.sigma.specs.Sigma.{blockSigmas}
 use Rattle.sigma.specs.Laws.{length-sigmas}
 use Rattle.placement.specs.Blocks.{onBlocks}
 use Rattle.record.specs.declared.Run.{Run}
-use Rattle.record.specs.Setup.{layout, epfOn, itersFit, heightFits, countFits, bandCount, setupFits, sized, setLength, sigmaLength, resultRegion, resultLength}
+use Rattle.setup.specs.Setup.{layout, epfOn, itersFit, heightFits, countFits, bandCount, setupFits, sized, setLength, sigmaLength, resultRegion, resultLength}
 use Rattle.record.specs.Record.{finished, runFits}
-use Rattle.record.specs.Tables.{is-true, met, met-given, none-zero, row-passed}
-use Rattle.record.specs.Laws.{fits-setup, RunFits, run-fits, fits-run, Open, band-open, open-band, Over, pass-over, over-pass}
+use Rattle.numbers.specs.Tables.{is-true, met, met-given, none-zero, row-passed}
+use Rattle.setup.specs.Laws.{fits-setup}
+use Rattle.record.specs.Laws.{RunFits, run-fits, fits-run, Open, band-open, open-band, Over, pass-over, over-pass}
 use Rattle.runs.specs.Start.{Handed, blocksOf, pictureChecks, sigmasFilled}
 use Rattle.runs.specs.Band.{State, bandChecks, bandNumber, advanceChecks, advanceNumber}
 use Rattle.runs.specs.Result.{resultChecks, resultNumber}

@@ -10,9 +10,9 @@ use Rattle.numbers.specs.Checks.{Check, given, firstOf}
 use Rattle.planes.specs.declared.Layout.{Layout}
 use Rattle.planes.specs.Sets.{of, setOf}
 use Rattle.planes.specs.Band.{resultLeft, resultTop, resultWidth, resultHeight}
-use Rattle.record.specs.declared.Setup.{Setup}
+use Rattle.setup.specs.declared.Setup.{Setup}
 use Rattle.record.specs.declared.Run.{Run}
-use Rattle.record.specs.Setup.{layout, sized, resultRegion, resultLength}
+use Rattle.setup.specs.Setup.{layout, sized, resultRegion, resultLength}
 use Rattle.record.specs.Record.{finishedChecks}
 use Rattle.runs.specs.Band.{readsFirst, setCheck}
 

@@ -16,9 +16,9 @@ use Rattle.groups.specs.Held.{someNotHeld}
 use Rattle.groups.specs.Outcome.{tableRead, frameSides, gridSides, tableLength, gridsLength, frameSettings, presences}
 use Rattle.sigma.specs.Sigma.{blockSigmas}
 use Rattle.placement.specs.Blocks.{ahead, onBlocks}
-use Rattle.record.specs.declared.Setup.{Setup}
+use Rattle.setup.specs.declared.Setup.{Setup}
 use Rattle.record.specs.declared.Run.{Run}
-use Rattle.record.specs.Setup.{epfOn, itersFit, heightFits, countFits, setLength, sigmaLength}
+use Rattle.setup.specs.Setup.{epfOn, itersFit, heightFits, countFits, setLength, sigmaLength}
 use Rattle.record.specs.Record.{started}
 use Rattle.runs.specs.declared.RunAnswer.{RunAnswer}
 

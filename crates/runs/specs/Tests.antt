@@ -10,8 +10,8 @@ use Rattle.region.specs.declared.Region.{Region}
 use Rattle.layout.specs.Outcome.{layoutOf}
 use Rattle.planes.specs.Stored.{and-first, and-second}
 use Rattle.frame.specs.Sizes.{dividedUp}
-use Rattle.record.specs.declared.Setup.{Setup}
-use Rattle.record.specs.Setup.{sized, resultRegion, setLength, resultLength}
+use Rattle.setup.specs.declared.Setup.{Setup}
+use Rattle.setup.specs.Setup.{sized, resultRegion, setLength, resultLength}
 use Rattle.runs.specs.Band.{setCheck, sigmaCheck}
 use Rattle.runs.specs.Result.{sliceCheck}
 

@@ -1,15 +1,15 @@
 // Runs: what calls answer, and the lengths of what they are lent. The outcomes of start, band, advance and result are defined in specs/.
 use blocks::blocks_along;
-use record::MAX_ITERS;
 use record::Run;
-use record::Setup;
-use record::sized;
 use region::Region;
+use setup::MAX_ITERS;
+use setup::Setup;
+use setup::sized;
 ghost use mathlib.Core.Path.{_≡_};
 ghost use mathlib.Core.Bool.{true};
 ghost use Prim.Native.Nat.{_*_};
 ghost use Rattle.numbers.specs.Checks.{applies};
-ghost use Rattle.record.specs.Setup.{sized, resultRegion};
+ghost use Rattle.setup.specs.Setup.{sized, resultRegion};
 ghost use Rattle.runs.specs.Band.{setCheck, sigmaCheck};
 ghost use Rattle.runs.specs.Result.{sliceCheck};
 

@@ -4,7 +4,7 @@ use Prim.Native.Nat.{_+_, _*_, min}
 use native.Mathlib.Omega.{arith}
 use borrow.Author.Needs.{needs}
 use denote.Ref.{now}
-use Rattle.record.specs.Setup.{bandTo}
+use Rattle.setup.specs.Setup.{bandTo}
 use Rattle.runs.specs.Band.{State}
 use Rattle.run_band.specs.Accepted.{Room, room, first-rows, second-rows, second-written, first-written}
 use Rattle.run_band.proofs.filter_band.Statement.{statement}

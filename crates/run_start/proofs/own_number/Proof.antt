@@ -5,7 +5,7 @@ use borrow.Author.Needs.{needs}
 use Rattle.numbers.specs.Checks.{applies}
 use Rattle.numbers.specs.Numbers.{outOfRange}
 use Rattle.placement.specs.Blocks.{onBlocks}
-use Rattle.record.specs.Setup.{itersFit, heightFits, countFits}
+use Rattle.setup.specs.Setup.{itersFit, heightFits, countFits}
 use Rattle.runs.specs.Band.{setCheck}
 use Rattle.run_start.specs.Pieces.{runsEpf}
 use Rattle.run_start.specs.Tests.{told-row}

@@ -4,7 +4,7 @@ use native.Mathlib.Omega.{arith}
 use lib.Dec.{ltb}
 use borrow.Author.Needs.{needs}
 use borrow.Author.Tests.{lt-leb, le-leb}
-use Rattle.record.specs.Setup.{bandCount}
+use Rattle.setup.specs.Setup.{bandCount}
 use Rattle.run_start.specs.Tests.{more-than}
 use Rattle.run_start.proofs.told_wrong.Statement.{statement}
 use Rattle.run_start.proofs.told_wrong.Tie as tie

@@ -1,10 +1,10 @@
--- `record::sized` meets its contract. Assumes nothing.
+-- `setup::sized` meets its contract. Assumes nothing.
 use Prim.Native.Nat.{_*_, _≤_}
 use native.Mathlib.Nat.{mul-le-mul}
 use native.Mathlib.Omega.{arith}
-use Rattle.record.specs.Tests.{too-wide, too-high, no-width, no-height, sized-by-area}
-use Rattle.record.proofs.sized.Statement.{statement}
-use Rattle.record.proofs.sized.Tie as tie
+use Rattle.setup.specs.Tests.{too-wide, too-high, no-width, no-height, sized-by-area}
+use Rattle.setup.proofs.sized.Statement.{statement}
+use Rattle.setup.proofs.sized.Tie as tie
 
 mul-result : tie.Need-mul-result
 mul-result c =

@@ -1,13 +1,13 @@
--- `record::setup_fits` meets its contract. Assumes nothing.
+-- `setup::setup_fits` meets its contract. Assumes nothing.
 use mathlib.Core.Path.{sym, ap, _∙_}
 use Prim.Native.Nat.{ℕ}
 use lib.Dec.{leb}
 use borrow.Author.Tests.{not-true, not-false}
 use borrow.Author.Needs.{needs}
 use native.Mathlib.Omega.{arith}
-use Rattle.record.specs.Tests.{not-placed, not-on-blocks, too-many-iters, no-height-fits, fits-by-count}
-use Rattle.record.proofs.setup_fits.Statement.{statement}
-use Rattle.record.proofs.setup_fits.Tie as tie
+use Rattle.setup.specs.Tests.{not-placed, not-on-blocks, too-many-iters, no-height-fits, fits-by-count}
+use Rattle.setup.proofs.setup_fits.Statement.{statement}
+use Rattle.setup.proofs.setup_fits.Tie as tie
 
 pub setup-fits-spec : {M : Type 1} → statement M
 setup-fits-spec =

@@ -1,8 +1,8 @@
--- `run_band::advance` meets its contract. Assumes nothing.
+-- `run_advance::advance` meets its contract. Assumes nothing.
 use borrow.Author.Needs.{needs}
-use Rattle.run_band.specs.Accepted.{advance-refused, advance-few, advance-done}
-use Rattle.run_band.proofs.advance.Statement.{statement}
-use Rattle.run_band.proofs.advance.Tie as tie
+use Rattle.run_advance.specs.Accepted.{advance-refused, advance-few, advance-done}
+use Rattle.run_advance.proofs.advance.Statement.{statement}
+use Rattle.run_advance.proofs.advance.Tie as tie
 
 pub advance-spec : {M : Type 1} → statement M
 advance-spec =

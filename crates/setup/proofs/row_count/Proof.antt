@@ -1,9 +1,9 @@
--- `record::row_count` meets its contract. Assumes nothing.
+-- `setup::row_count` meets its contract. Assumes nothing.
 use borrow.Author.Needs.{needs}
 use native.Mathlib.Omega.{arith}
-use Rattle.record.specs.Tests.{full-rows, part-rows}
-use Rattle.record.proofs.row_count.Statement.{statement}
-use Rattle.record.proofs.row_count.Tie as tie
+use Rattle.setup.specs.Tests.{full-rows, part-rows}
+use Rattle.setup.proofs.row_count.Statement.{statement}
+use Rattle.setup.proofs.row_count.Tie as tie
 
 pub row-count-spec : {M : Type 1} → statement M
 row-count-spec =

@@ -1,9 +1,9 @@
--- `run_band::advanced` meets its contract. Assumes nothing.
+-- `run_advance::advanced` meets its contract. Assumes nothing.
 use native.Mathlib.Numerals.{add-one}
 use borrow.Author.Needs.{needs}
 use Rattle.record.specs.Record.{advanced}
-use Rattle.run_band.proofs.advanced.Statement.{statement}
-use Rattle.run_band.proofs.advanced.Tie as tie
+use Rattle.run_advance.proofs.advanced.Statement.{statement}
+use Rattle.run_advance.proofs.advanced.Tie as tie
 
 returns : tie.Need-returns
 unfolding advanced

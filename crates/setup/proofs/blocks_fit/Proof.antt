@@ -1,10 +1,10 @@
--- `record::blocks_fit` meets its contract. Assumes nothing.
+-- `setup::blocks_fit` meets its contract. Assumes nothing.
 use mathlib.Core.Path.{_∙_}
 use borrow.Author.Needs.{needs}
 use native.Mathlib.Omega.{arith}
-use Rattle.record.specs.Tests.{filter-off, filter-on}
-use Rattle.record.proofs.blocks_fit.Statement.{statement}
-use Rattle.record.proofs.blocks_fit.Tie as tie
+use Rattle.setup.specs.Tests.{filter-off, filter-on}
+use Rattle.setup.proofs.blocks_fit.Statement.{statement}
+use Rattle.setup.proofs.blocks_fit.Tie as tie
 
 pub blocks-fit-spec : {M : Type 1} → statement M
 blocks-fit-spec =

@@ -1,8 +1,8 @@
--- `record::height_fits` meets its contract. Assumes nothing.
+-- `setup::height_fits` meets its contract. Assumes nothing.
 use native.Mathlib.Omega.{arith}
-use Rattle.record.specs.Tests.{no-band-height, height-by-most}
-use Rattle.record.proofs.height_fits.Statement.{statement}
-use Rattle.record.proofs.height_fits.Tie as tie
+use Rattle.setup.specs.Tests.{no-band-height, height-by-most}
+use Rattle.setup.proofs.height_fits.Statement.{statement}
+use Rattle.setup.proofs.height_fits.Tie as tie
 
 pub height-fits-spec : {M : Type 1} → statement M
 height-fits-spec =

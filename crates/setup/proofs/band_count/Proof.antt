@@ -1,10 +1,10 @@
--- `record::band_count` meets its contract. Assumes nothing.
+-- `setup::band_count` meets its contract. Assumes nothing.
 use borrow.Author.Needs.{needs}
 use native.Mathlib.Omega.{arith}
-use Rattle.record.specs.Setup.{bandCount}
-use Rattle.record.specs.Tests.{no-bands}
-use Rattle.record.proofs.band_count.Statement.{statement}
-use Rattle.record.proofs.band_count.Tie as tie
+use Rattle.setup.specs.Setup.{bandCount}
+use Rattle.setup.specs.Tests.{no-bands}
+use Rattle.setup.proofs.band_count.Statement.{statement}
+use Rattle.setup.proofs.band_count.Tie as tie
 
 returns-2 : tie.Need-returns-2
 unfolding bandCount

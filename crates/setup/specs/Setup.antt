@@ -13,7 +13,7 @@ use Rattle.layout.specs.Outcome.{layoutOf}
 use Rattle.tiles.specs.Blocks.{across, sigmaOf, down}
 use Rattle.placement.specs.Blocks.{ahead, onBlocks}
 use Rattle.passes.specs.Pass.{Area}
-use Rattle.record.specs.declared.Setup.{Setup}
+use Rattle.setup.specs.declared.Setup.{Setup}
 
 -- where the filter region lies in the planes, and the result
 abbrev pub layout : Setup → Layout

@@ -1,0 +1,37 @@
+// The advance call of a run.
+use numbers::ACCEPTED;
+use record::Run;
+use record::advance_number;
+use runs::RunAnswer;
+ghost use mathlib.Core.Path.{_≡_};
+ghost use Prim.Native.Nat.{_<_};
+ghost use Rattle.record.specs.Record.{advanced};
+ghost use Rattle.runs.specs.Band.{advanceOutcome};
+
+fn advanced(run: Run) -> Run
+    requires { ⌜ run .pass < 4 ⌝ }
+    ensures { λ r. ⌜ r ≡ advanced run ⌝ }
+{
+    let setup = run.setup;
+    let done = [false; 256];
+    Run {
+        setup,
+        pass: run.pass + 1,
+        done,
+    }
+}
+
+// The next pass, or the finish.
+pub fn advance(run: Run) -> RunAnswer
+    ensures { λ r. ⌜ r ≡ advanceOutcome run ⌝ }
+{
+    let number = advance_number(run);
+    if number != ACCEPTED {
+        return RunAnswer { number, run };
+    }
+    let run = advanced(run);
+    RunAnswer {
+        number: ACCEPTED,
+        run,
+    }
+}
