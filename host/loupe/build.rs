@@ -1,5 +1,5 @@
-//! Links the proved library, `libexports.a` in the folder `LOUPE_STATICLIB_DIR` or, where that is
-//! not set, in the repository's `target/staticlib`, where `rt staticlib exports` writes it.
+//! Links the proved library, `libloupe.a` in the folder `LOUPE_STATICLIB_DIR` or, where that is
+//! not set, in the repository's `target/staticlib`, where `tools/library` writes it.
 
 use std::{env, path::PathBuf};
 
@@ -10,11 +10,11 @@ fn main() {
         || PathBuf::from(env!("CARGO_MANIFEST_DIR")).join("../../target/staticlib"),
         PathBuf::from,
     );
-    let library = folder.join("libexports.a");
+    let library = folder.join("libloupe.a");
     if !library.exists() {
-        println!("cargo:warning=no libexports.a: run `rt staticlib exports`");
+        println!("cargo:warning=no libloupe.a: run `tools/library`");
     }
     println!("cargo:rerun-if-changed={}", library.display());
     println!("cargo:rustc-link-search=native={}", folder.display());
-    println!("cargo:rustc-link-lib=static=exports");
+    println!("cargo:rustc-link-lib=static=loupe");
 }

@@ -1,4 +1,4 @@
-//! Safe functions over the proved library, `libexports.a` (crate `exports`).
+//! Safe functions over the proved library, `libloupe.a` (crates `export_*`).
 //!
 //! Each entry point takes and answers what the library's does. The library refuses what it does
 //! not take, so nothing is tested here; `value` of an answer is what was asked for or the
