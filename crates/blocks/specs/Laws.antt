@@ -9,7 +9,7 @@ use lib.Dec.{ltb}
 use Rattle.frame.specs.Outcome.{badSide}
 use Rattle.grids.specs.Laws.{neither, side-range}
 use Rattle.blocks.specs.declared.Blocks.{Blocks}
-use Rattle.blocks.specs.Measures.{across, down, badBlocks}
+use Rattle.blocks.specs.Measures.{blocksAcross, blocksDown, badBlocks}
 
 -- the measures of a filter region that is in measure
 pub record Measured (b : Blocks) : Type 0 where
@@ -41,11 +41,11 @@ measured b h =
     }
 
 -- at most 2,048 blocks each way
-pub across-le : (b : Blocks) → Measured b → across b ≤ 2048
+pub across-le : (b : Blocks) → Measured b → blocksAcross b ≤ 2048
 across-le b m = omega (arith, m .width-le)
 
-pub down-le : (b : Blocks) → Measured b → down b ≤ 2048
+pub down-le : (b : Blocks) → Measured b → blocksDown b ≤ 2048
 down-le b m = omega (arith, m .height-le)
 
-pub count-le : (b : Blocks) → Measured b → down b * across b ≤ 4194304
+pub count-le : (b : Blocks) → Measured b → blocksDown b * blocksAcross b ≤ 4194304
 count-le b m = mul-le-mul (down-le b m) (across-le b m)

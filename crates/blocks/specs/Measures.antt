@@ -7,11 +7,11 @@ use Rattle.frame.specs.Outcome.{badSide}
 use Rattle.blocks.specs.declared.Blocks.{Blocks}
 
 -- blocks across and down the filter region
-abbrev pub across : Blocks → ℕ
-across b = blocksAlong (b .width)
+abbrev pub blocksAcross : Blocks → ℕ
+blocksAcross b = blocksAlong (b .width)
 
-abbrev pub down : Blocks → ℕ
-down b = blocksAlong (b .height)
+abbrev pub blocksDown : Blocks → ℕ
+blocksDown b = blocksAlong (b .height)
 
 -- a filter region with a side outside 1 to 16,384, an area over 16,777,216, or a left or top over 1,048,576, which is 131,072 blocks
 unfoldable pub badBlocks : Blocks → Bool

@@ -20,10 +20,10 @@ use Rattle.setup.specs.Laws.{setup-fits}
 use Rattle.record.specs.Laws.{RunFits, none-done}
 use Rattle.runs.specs.Band.{State}
 use Rattle.runs.specs.Laws.{picture-fits, band-fits, advance-fits}
-use Rattle.calls.specs.Calls.{startState, Effect, oneBand, oneAdvance, nothing, Calls, next, end, Unaltered, bandsIn, advancesIn, documentCalls}
+use Rattle.calls.specs.Calls.{startState, Effect, oneBand, oneAdvance, nothing, Calls, stateAfter, end, Unaltered, bandsIn, advancesIn, documentCalls}
 use Rattle.calls.specs.Theorem.{CountRule, DocumentCountRule}
 use Rattle.calls.proofs.Sound.{Sound, sound-start}
-use Rattle.calls.proofs.Lists.{next-kept, after-start}
+use Rattle.calls.proofs.Lists.{after-kept, after-start}
 
 -- ---- flags
 
@@ -91,8 +91,8 @@ effect-counted {n} {t} nothing l = record { bands = omega arith; advances = omeg
 
 module _ (n : ℕ) (K : Calls n) (first : List Float) where
   next-counted : (t : State) (c : K .Call) → Sound n first t → (K .number c ≡ 0 → K .Lent t c)
-      → Counted (t .run) (next n K t c .run) (cond (eqb (K .number c) 0) (K .bands c) 0) (cond (eqb (K .number c) 0) (K .advances c) 0)
-  unfolding next
+      → Counted (t .run) (stateAfter n K t c .run) (cond (eqb (K .number c) 0) (K .bands c) 0) (cond (eqb (K .number c) 0) (K .advances c) 0)
+  unfolding stateAfter
   next-counted t c i l = go (eqb (K .number c) 0) refl
     where
       go : (b : Bool) → eqb (K .number c) 0 ≡ b → Counted (t .run) (cond b (K .leaves t c) t .run) (cond b (K .bands c) 0) (cond b (K .advances c) 0)
@@ -104,7 +104,7 @@ module _ (n : ℕ) (K : Calls n) (first : List Float) where
   end-counted t [] i u = record { bands = omega arith; advances = omega arith }
   end-counted t (c ∷ cs) i u =
       let s = next-counted t c i (u .0) in
-      let r = end-counted (next n K t c) cs (next-kept n K first t c i (u .0) .sound) (u .1) in
+      let r = end-counted (stateAfter n K t c) cs (after-kept n K first t c i (u .0) .sound) (u .1) in
       record { bands = omega (arith, r .bands, s .bands); advances = omega (arith, r .advances, s .advances) }
 
 -- a finished run has no done band

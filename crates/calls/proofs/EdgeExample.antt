@@ -13,7 +13,7 @@ use Rattle.grids.specs.Table.{badGrid, cells, gridStart, lacks, someBelow}
 use Rattle.groups.specs.Held.{notHeld, someNotHeld}
 use Rattle.frame.specs.Outcome.{badSides, badSettings}
 use Rattle.groups.specs.Outcome.{tableFits, gridsFit}
-use Rattle.sigma.specs.Sigma.{sigmaIn, sigmaOf, aboveAt, sigmaAt as blockSigma, blockSigmas}
+use Rattle.sigma.specs.Sigma.{sigmaIn, frameSigma, aboveAt, blockSigma, blockSigmas}
 use Rattle.layout.specs.Outcome.{layoutOf}
 use Rattle.planes.specs.Picture.{Picture}
 use Rattle.planes.specs.Sets.{setOf, tab}
@@ -23,8 +23,8 @@ use Rattle.passes.specs.Plan.{plan, steps, stepOf, scaleOf, stepMargin}
 use Rattle.setup.specs.Setup.{bandCount, setupFits, sized}
 use Rattle.record.specs.Record.{isDone, started, marked, advanced, bandMissing, strayDone, runFits}
 use Rattle.runs.specs.Start.{pictureChecks, startNumber, sigmasFilled}
-use Rattle.runs.specs.Band.{bandChecks, advanceChecks}
-use Rattle.calls.specs.Calls.{next, end, documentCalls}
+use Rattle.runs.specs.Band.{bandChecks}
+use Rattle.calls.specs.Calls.{stateAfter, end, documentCalls}
 use Rattle.calls.specs.Places.{inputAt, sigmaAt}
 use Rattle.calls.specs.Theorem.{CutFrom, Unrefused}
 use Rattle.calls.specs.Example.{Premises}
@@ -58,7 +58,7 @@ module _ (p : Picture) (scales : List Float) (border sigma : Float) where
         ∙ rw e (sym (of-setOf 3 12 1 p c (0 + natAbs (x -ℤ pos 0)) (0 + natAbs (y -ℤ pos 0)) h (omega (arith, column, further)) (omega (arith, row))))
 
     sigmas : sigmaAt 3 (smaller p scales border sigma) x y ≡ sigmaAt 3 (larger p scales border sigma) x y
-    unfolding layoutOf sigmasFilled blockSigmas tab blockSigma sigmaOf sigmaIn aboveAt sizesOf gridStart cells
+    unfolding layoutOf sigmasFilled blockSigmas tab blockSigma frameSigma sigmaIn aboveAt sizesOf gridStart cells
     sigmas =
         let a : natAbs (x -ℤ pos 8) / 8 ≡ 0 = omega (arith, column) in
         let b : natAbs (x -ℤ pos 0) / 8 ≡ 1 = omega (arith, column, further) in
@@ -70,7 +70,7 @@ module _ (p : Picture) (scales : List Float) (border sigma : Float) where
   from = record { unrefused = unrefused; contained = tt; passes = refl; inputs = λ c x y h held. inputs x y held c h; sigmas = λ on x y held. sigmas x y held }
 
   premises : Premises 3 (documentCalls 3) (smaller p scales border sigma) (larger p scales border sigma) (calls p scales border sigma) (slice p scales border sigma)
-  unfolding sigmasFilled blockSigmas tab next end started marked advanced bandChecks advanceChecks runFits strayDone bandMissing isDone setupFits bandCount sized someBelow pictured measured place side inside layoutOf plan steps setOf
+  unfolding sigmasFilled blockSigmas tab stateAfter end started marked advanced bandChecks runFits strayDone bandMissing isDone setupFits bandCount sized someBelow pictured measured place side inside layoutOf plan steps setOf
   premises = record {
     accepted = accepted;
     from = from;

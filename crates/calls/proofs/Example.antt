@@ -21,8 +21,8 @@ use Rattle.passes.specs.Plan.{plan, steps, stepMargin}
 use Rattle.setup.specs.Setup.{bandCount, setupFits, sized}
 use Rattle.record.specs.Record.{isDone, started, marked, advanced, bandMissing, strayDone, runFits}
 use Rattle.runs.specs.Start.{pictureChecks, startNumber, sigmasFilled}
-use Rattle.runs.specs.Band.{bandChecks, advanceChecks}
-use Rattle.calls.specs.Calls.{next, end, documentCalls}
+use Rattle.runs.specs.Band.{bandChecks}
+use Rattle.calls.specs.Calls.{stateAfter, end, documentCalls}
 use Rattle.calls.specs.Places.{inputAt}
 use Rattle.calls.specs.Theorem.{CutFrom, Unrefused, resultAfter, HandsOver}
 use Rattle.calls.specs.Example.{Premises, larger, smaller, calls, slice, PremisesMet, PlaceClear}
@@ -53,7 +53,7 @@ module _ (p : Picture) (weights : List (List Float)) where
   from = record { unrefused = unrefused; contained = tt; passes = refl; inputs = inputs; sigmas = λ on. absurd on }
 
   premises : Premises 3 (documentCalls 3) (smaller p weights) (larger p weights) (calls p weights) (slice p weights)
-  unfolding sigmasFilled next end started marked advanced bandChecks advanceChecks runFits strayDone bandMissing isDone setupFits bandCount sized someBelow pictured measured place side inside layoutOf plan steps setOf tab
+  unfolding sigmasFilled stateAfter end started marked advanced bandChecks runFits strayDone bandMissing isDone setupFits bandCount sized someBelow pictured measured place side inside layoutOf plan steps setOf tab
   premises = record {
     accepted = accepted;
     from = from;

@@ -11,7 +11,7 @@ use Rattle.record.specs.Laws.{fits-run}
 use Rattle.runs.specs.Start.{Handed, startNumber}
 use Rattle.runs.specs.Band.{State}
 use Rattle.runs.specs.Laws.{picture-fits, band-fits, advance-fits}
-use Rattle.calls.specs.Calls.{startState, Effect, oneBand, oneAdvance, nothing, Calls, next, end, Unaltered}
+use Rattle.calls.specs.Calls.{startState, Effect, oneBand, oneAdvance, nothing, Calls, stateAfter, end, Unaltered}
 use Rattle.calls.specs.Theorem.{EndFits}
 use Rattle.calls.proofs.Sound.{Sound, sound-start, sound-band, sound-advance}
 
@@ -28,9 +28,9 @@ effect-kept {n} {t} first (oneAdvance e) i = record { sound = sound-advance n fi
 effect-kept {n} {t} first nothing i = record { sound = i; setup = refl; sigmas = refl }
 
 module _ (n : ℕ) (K : Calls n) (first : List Float) where
-  pub next-kept : (t : State) (c : K .Call) → Sound n first t → (K .number c ≡ 0 → K .Lent t c) → Kept n first t (next n K t c)
-  unfolding next
-  next-kept t c i l = go (eqb (K .number c) 0) refl
+  pub after-kept : (t : State) (c : K .Call) → Sound n first t → (K .number c ≡ 0 → K .Lent t c) → Kept n first t (stateAfter n K t c)
+  unfolding stateAfter
+  after-kept t c i l = go (eqb (K .number c) 0) refl
     where
       go : (b : Bool) → eqb (K .number c) 0 ≡ b → Kept n first t (cond b (K .leaves t c) t)
       go true e = let z = eqb-true (K .number c) 0 e in effect-kept first (K .effect t c z (l z)) i
@@ -40,8 +40,8 @@ module _ (n : ℕ) (K : Calls n) (first : List Float) where
   unfolding end
   end-kept t [] i u = record { sound = i; setup = refl; sigmas = refl }
   end-kept t (c ∷ cs) i u =
-      let k = next-kept t c i (u .0) in
-      let r = end-kept (next n K t c) cs (k .sound) (u .1) in
+      let k = after-kept t c i (u .0) in
+      let r = end-kept (stateAfter n K t c) cs (k .sound) (u .1) in
       record { sound = r .sound; setup = r .setup ∙ k .setup; sigmas = r .sigmas ∙ k .sigmas }
 
 -- the state that an accepted start leaves, and a list of calls after it

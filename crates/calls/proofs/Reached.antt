@@ -20,7 +20,7 @@ use Rattle.record.specs.Laws.{RunFits, run-fits, fits-run, none-done, started-f
 use Rattle.runs.specs.Start.{Handed, startNumber}
 use Rattle.runs.specs.Band.{State}
 use Rattle.runs.specs.Laws.{picture-fits, band-accepted, advance-accepted}
-use Rattle.calls.specs.Calls.{startState, Calls, next, end, Unaltered, AllAccepted, Call, band, advance, documentCalls}
+use Rattle.calls.specs.Calls.{startState, Calls, stateAfter, end, Unaltered, AllAccepted, Call, band, advance, documentCalls}
 use Rattle.calls.specs.Theorem.{ReachedFits, FitsReached, LeadsTo, EachReached, CanFinish}
 use Rattle.calls.proofs.Sound.{Sound}
 use Rattle.calls.proofs.Lists.{after-start}
@@ -137,19 +137,19 @@ fits-reached r e t = go (finished r) refl
 
 -- one call more
 module _ (n : ℕ) (K : Calls n) (c : K .Call) (ok : K .number c ≡ 0) where
-  next-accepted : (t : State) → next n K t c ≡ K .leaves t c
-  unfolding next
-  next-accepted t = rw (eq-eqb (K .number c) 0 ok)
+  after-accepted : (t : State) → stateAfter n K t c ≡ K .leaves t c
+  unfolding stateAfter
+  after-accepted t = rw (eq-eqb (K .number c) 0 ok)
 
   end-more : (t : State) (cs : List (K .Call)) → end n K t (cs ++ (c ∷ [])) ≡ K .leaves (end n K t cs) c
   unfolding end
-  end-more t [] = next-accepted t
-  end-more t (d ∷ cs) = end-more (next n K t d) cs
+  end-more t [] = after-accepted t
+  end-more t (d ∷ cs) = end-more (stateAfter n K t d) cs
 
   unaltered-more : (t : State) (cs : List (K .Call)) → Unaltered n K t cs → K .Lent (end n K t cs) c → Unaltered n K t (cs ++ (c ∷ []))
   unfolding end
   unaltered-more t [] u l = (λ e. l, tt)
-  unaltered-more t (d ∷ cs) u l = (u .0, unaltered-more (next n K t d) cs (u .1) l)
+  unaltered-more t (d ∷ cs) u l = (u .0, unaltered-more (stateAfter n K t d) cs (u .1) l)
 
   accepted-more : (cs : List (K .Call)) → AllAccepted n K cs → AllAccepted n K (cs ++ (c ∷ []))
   accepted-more [] a = (ok, tt)

@@ -37,18 +37,18 @@ pub record Calls (n : ℕ) : Type 1 where
 
 module _ (n : ℕ) (K : Calls n) where
   -- a refused call changes nothing
-  unfoldable pub next : State → K .Call → State
-  next t c = cond (eqb (K .number c) 0) (K .leaves t c) t
+  unfoldable pub stateAfter : State → K .Call → State
+  stateAfter t c = cond (eqb (K .number c) 0) (K .leaves t c) t
 
   -- the state after a list of calls
   unfoldable pub end : State → List (K .Call) → State
   end t [] = t
-  end t (c ∷ cs) = end (next t c) cs
+  end t (c ∷ cs) = end (stateAfter t c) cs
 
   -- nobody altered anything (document 01's own term): each accepted call was lent what the accepted calls before it left; a refused one may be lent anything
   abbrev pub Unaltered : State → List (K .Call) → Type 0
   Unaltered t [] = Unit {0}
-  Unaltered t (c ∷ cs) = (K .number c ≡ 0 → K .Lent t c) × Unaltered (next t c) cs
+  Unaltered t (c ∷ cs) = (K .number c ≡ 0 → K .Lent t c) × Unaltered (stateAfter t c) cs
 
   -- each call of a list is accepted
   abbrev pub AllAccepted : List (K .Call) → Type 0

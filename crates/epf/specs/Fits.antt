@@ -23,7 +23,7 @@ use Rattle.planes.specs.Stored.{LayoutFits, BandFits, passed-over, fits-copied,
 use Rattle.layout.specs.declared.LayoutAnswer.{LayoutAnswer}
 use Rattle.layout.specs.Outcome.{layoutOf, layoutOutcome, PassOutcome}
 use Rattle.layout.specs.Fits.{Accepted, layout-accepted, placed-or, then, answer-number, answer-layout, pass-refused, pass-done}
-use Rattle.tiles.specs.Blocks.{across, down}
+use Rattle.tiles.specs.Blocks.{blockColumns, blockRows}
 use Rattle.tiles.specs.Region.{BlocksRoom, blocks-room}
 use Rattle.epf.specs.declared.EpfStep.{EpfStep}
 use Rattle.placement.specs.Blocks.{ahead, onBlocks}
@@ -51,18 +51,18 @@ module _ (n : ℕ) (l : Layout) (filter : Region) (step from to sigmas src dst :
     unfolding stepChecks
     no-target h = simp (a, ne-eqb dst size h, and-false)
 
-    pub no-sigmas : (sigmas ≡ down l * across l → ⊥) → Number wrongLength
+    pub no-sigmas : (sigmas ≡ blockRows l * blockColumns l → ⊥) → Number wrongLength
     unfolding stepChecks
-    no-sigmas h = simp (a, ne-eqb sigmas (down l * across l) h, and-false)
+    no-sigmas h = simp (a, ne-eqb sigmas (blockRows l * blockColumns l) h, and-false)
 
-    module _ (s : src ≡ size) (t : dst ≡ size) (u : sigmas ≡ down l * across l) where
+    module _ (s : src ≡ size) (t : dst ≡ size) (u : sigmas ≡ blockRows l * blockColumns l) where
       pub no-step : 2 < step → Number outOfRange
       unfolding stepChecks
-      no-step h = rw (a, eq-eqb src size s, eq-eqb dst size t, eq-eqb sigmas (down l * across l) u, lt-ltb 2 step h)
+      no-step h = rw (a, eq-eqb src size s, eq-eqb dst size t, eq-eqb sigmas (blockRows l * blockColumns l) u, lt-ltb 2 step h)
 
       pub no-rows : rowsFit l from to ≡ false → Number outOfRange
       unfolding stepChecks
-      no-rows h = rw (a, eq-eqb src size s, eq-eqb dst size t, eq-eqb sigmas (down l * across l) u, h) (go (ltb 2 step))
+      no-rows h = rw (a, eq-eqb src size s, eq-eqb dst size t, eq-eqb sigmas (blockRows l * blockColumns l) u, h) (go (ltb 2 step))
         where
           go : (k : Bool) → outOfRange ≡ cond (true && k) outOfRange outOfRange
           go true = refl
@@ -70,7 +70,7 @@ module _ (n : ℕ) (l : Layout) (filter : Region) (step from to sigmas src dst :
 
       pub all-held : step ≤ 2 → rowsFit l from to ≡ true → Number 0
       unfolding stepChecks
-      all-held h r = rw (a, eq-eqb src size s, eq-eqb dst size t, eq-eqb sigmas (down l * across l) u, le-ltb 2 step h, r)
+      all-held h r = rw (a, eq-eqb src size s, eq-eqb dst size t, eq-eqb sigmas (blockRows l * blockColumns l) u, le-ltb 2 step h, r)
 
 -- what the number 0 says
 zero-is : (a b c d : Bool) → cond (true && not a) notOnBlocks (cond (true && not b) wrongLength (cond (true && c) outOfRange (cond (true && not d) outOfRange 0))) ≡ 0 → (a ≡ true) × (b ≡ true) × (c ≡ false) × (d ≡ true)
@@ -83,7 +83,7 @@ zero-is false b c d e = absurd (omega arith)
 pub record StepFits (n : ℕ) (l : Layout) (step from to sigmas src dst : ℕ) : Type 0 where
   pub source : src ≡ n * l .image .height * l .image .width
   pub target : dst ≡ n * l .image .height * l .image .width
-  pub blocks : sigmas ≡ down l * across l
+  pub blocks : sigmas ≡ blockRows l * blockColumns l
   pub low : step ≤ 2
   pub order : from ≤ to
   pub rows : to ≤ resultHeight l
@@ -94,7 +94,7 @@ step-fits n l filter step from to sigmas src dst e =
     let size = n * l .image .height * l .image .width in
     let p = eqb src size in
     let q = eqb dst size in
-    let r = eqb sigmas (down l * across l) in
+    let r = eqb sigmas (blockRows l * blockColumns l) in
     let z = zero-is (onBlocks filter) (p && (q && r)) (ltb 2 step) (rowsFit l from to) e in
     let qr = and-second p (q && r) (z .1) in
     record {

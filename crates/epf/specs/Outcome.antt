@@ -14,7 +14,7 @@ use Rattle.planes.specs.Picture.{Picture}
 use Rattle.planes.specs.Band.{inner, passed, rowsFit}
 use Rattle.layout.specs.Outcome.{layoutOf, PassOutcome, passOutcome}
 use Rattle.weights.specs.Steps.{scaled, standardLimit, EpfPass, epfPass}
-use Rattle.tiles.specs.Blocks.{across, sigmaOf, down}
+use Rattle.tiles.specs.Blocks.{blockColumns, sigmaOf, blockRows}
 use Rattle.epf.specs.declared.EpfStep.{EpfStep}
 use Rattle.placement.specs.Blocks.{ahead, onBlocks}
 
@@ -24,13 +24,13 @@ settingsOf n s = record { step = s .step; limit = standardLimit; scales = scaled
 
 -- The step over the filter region. Row 0 of it is row `top` of the image, counted as left and top are; sigmas stand row of blocks after row of blocks.
 abbrev pub epfOver : ℕ → Layout → EpfStep → ℕ → List Float → List Float → Picture
-epfOver n l s top sigmas src = epfPass (settingsOf n s) (l .width) (l .height) top (sigmaOf (across l) sigmas) (inner l src)
+epfOver n l s top sigmas src = epfPass (settingsOf n s) (l .width) (l .height) top (sigmaOf (blockColumns l) sigmas) (inner l src)
 
 -- Which number a placed filter region gives (document 01): 6 for its corner, 7 for the two sets and the sigmas, 9 for the step and the rows.
 unfoldable pub stepChecks : ℕ → Layout → Region → ℕ → ℕ → ℕ → ℕ → ℕ → ℕ → List Check
 stepChecks n l filter step from to sigmas src dst =
     always notOnBlocks (not (onBlocks filter))
-    ∷ always wrongLength (not (eqb src (n * l .image .height * l .image .width) && (eqb dst (n * l .image .height * l .image .width) && eqb sigmas (down l * across l))))
+    ∷ always wrongLength (not (eqb src (n * l .image .height * l .image .width) && (eqb dst (n * l .image .height * l .image .width) && eqb sigmas (blockRows l * blockColumns l))))
     ∷ always outOfRange (ltb 2 step)
     ∷ always outOfRange (not (rowsFit l from to)) ∷ []
 

@@ -6,7 +6,7 @@ use lib.Ieee.{Float, ofBits, binary32}
 use Rattle.bits.specs.Outcome.{Outcome, number, value, next}
 use Rattle.fields.specs.Fields.{Fields, bits, half, halves, bundle, read, yes, none}
 use Rattle.epf_sigma.specs.declared.EpfSigma.{EpfSigma}
-use Rattle.epf_sigma.specs.Settings.{quantMul, pass0SigmaScale, pass2SigmaScale, borderSadMul, sigmaOf}
+use Rattle.epf_sigma.specs.Settings.{quantMul, pass0SigmaScale, pass2SigmaScale, borderSadMul, epfSigma}
 use Rattle.epf_header.specs.declared.Encoding.{Encoding}
 use Rattle.epf_header.specs.declared.Encoding.the-variants.{VarDct, Modular}
 use Rattle.epf_header.specs.declared.EdgePreservingFilter.{EdgePreservingFilter}
@@ -49,7 +49,7 @@ epfOff =
       iters = 0;
       «sharp_lut» = none ∷ none ∷ none ∷ none ∷ none ∷ none ∷ none ∷ none ∷ [];
       «channel_scale» = none ∷ none ∷ none ∷ [];
-      sigma = sigmaOf none none none none;
+      sigma = epfSigma none none none none;
       «sigma_for_modular» = none;
     }
 
@@ -71,7 +71,7 @@ parameterFields e iters =
     half (yes sigma-custom) pass2SigmaScale λ pass2-sigma-scale.
     half (yes sigma-custom) borderSadMul λ border-sad-mul.
     half (modular e) sigmaForModular λ sigma-for-modular.
-    bundle (epfWith iters sharp-lut channel-scale (sigmaOf quant-mul pass0-sigma-scale pass2-sigma-scale border-sad-mul) sigma-for-modular)
+    bundle (epfWith iters sharp-lut channel-scale (epfSigma quant-mul pass0-sigma-scale pass2-sigma-scale border-sad-mul) sigma-for-modular)
 
 unfoldable pub epfFields : Encoding → Fields EdgePreservingFilter
 epfFields e =

@@ -8,7 +8,7 @@ use Rattle.bits.specs.Outcome.{accepted, refused}
 use Rattle.bits.specs.Bits.{u}
 use Rattle.half.specs.Half.{f16}
 use Rattle.fields.specs.Fields.{read, ifThere}
-use Rattle.epf_sigma.specs.Settings.{quantMul, pass0SigmaScale, pass2SigmaScale, borderSadMul, sigmaOf, customSigmaFields, sigmaFields}
+use Rattle.epf_sigma.specs.Settings.{quantMul, pass0SigmaScale, pass2SigmaScale, borderSadMul, epfSigma, customSigmaFields, sigmaFields}
 use Rattle.fields.proofs.Rows.{is-yes, is-no}
 
 module _ (s : List ℕ) (p : ℕ) where
@@ -33,7 +33,7 @@ module _ (s : List ℕ) (p : ℕ) where
           unfolding read customSigmaFields
           border-refused k = rw (h, i, j, k)
 
-          pub own-sigma : {m : Float} {v : ℕ} → f16 s t ≡ accepted m v → accepted (sigmaOf a c d m) v ≡ read (customSigmaFields b true) s p
+          pub own-sigma : {m : Float} {v : ℕ} → f16 s t ≡ accepted m v → accepted (epfSigma a c d m) v ≡ read (customSigmaFields b true) s p
           unfolding read customSigmaFields
           own-sigma k = rw (h, i, j, k)
 
@@ -42,7 +42,7 @@ module _ (s : List ℕ) (p : ℕ) where
     unfolding read sigmaFields
     sigma-refused h = rw h
 
-    pub sigma-off : {v q : ℕ} → u 1 s p ≡ accepted v q → v ≡ 0 → accepted (sigmaOf quantMul pass0SigmaScale pass2SigmaScale borderSadMul) q ≡ read (sigmaFields b) s p
+    pub sigma-off : {v q : ℕ} → u 1 s p ≡ accepted v q → v ≡ 0 → accepted (epfSigma quantMul pass0SigmaScale pass2SigmaScale borderSadMul) q ≡ read (sigmaFields b) s p
     unfolding read customSigmaFields sigmaFields
     sigma-off {v} {q} h z = rw h (ap (λ (c : Bool). read (customSigmaFields b c) s q) (is-no v z))
 

@@ -20,8 +20,8 @@ pass2SigmaScale = ofBits binary32 0x40d0_0000
 abbrev pub borderSadMul : Float
 borderSadMul = ofBits binary32 0x3f2a_aaab
 
-abbrev pub sigmaOf : Float → Float → Float → Float → EpfSigma
-sigmaOf q a b m = record { «quant_mul» = q; «pass0_sigma_scale» = a; «pass2_sigma_scale» = b; «border_sad_mul» = m }
+abbrev pub epfSigma : Float → Float → Float → Float → EpfSigma
+epfSigma q a b m = record { «quant_mul» = q; «pass0_sigma_scale» = a; «pass2_sigma_scale» = b; «border_sad_mul» = m }
 
 abbrev pub sigmaOutcome : Sigma → Outcome EpfSigma
 sigmaOutcome (sigma.Value v next) = accepted v next
@@ -33,7 +33,7 @@ customSigmaFields var-dct custom =
     half custom pass0SigmaScale λ pass0-sigma-scale.
     half custom pass2SigmaScale λ pass2-sigma-scale.
     half custom borderSadMul λ border-sad-mul.
-    bundle (sigmaOf quant-mul pass0-sigma-scale pass2-sigma-scale border-sad-mul)
+    bundle (epfSigma quant-mul pass0-sigma-scale pass2-sigma-scale border-sad-mul)
 
 unfoldable pub sigmaFields : Bool → Fields EpfSigma
 sigmaFields var-dct =

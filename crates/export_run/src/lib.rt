@@ -7,7 +7,7 @@ use setup::Setup;
 ghost use mathlib.Core.Path.{_≡_};
 ghost use Rattle.passes.specs.Plan.{margin};
 ghost use Rattle.runs.specs.Start.{StartOutcome, startOutcome};
-ghost use Rattle.runs.specs.Band.{Outcome, bandOutcome, advanceOutcome};
+ghost use Rattle.runs.specs.Band.{BandOutcome, bandOutcome, advanceOutcome};
 ghost use Rattle.runs.specs.Result.{ResultOutcome, resultOutcome};
 
 #[no_mangle]
@@ -40,7 +40,7 @@ pub extern "C" fn loupe_band(
     second: &mut [f32],
     k: u32,
 ) -> RunAnswer
-    ensures { λ r. ⌜ _≡_ {A = Outcome} (record { number = r .number; state = record { run = r .run; sigmas = now (sigmas .entry); first = now (first .exit); second = now (second .exit) } }) (bandOutcome 3 (record { run = run; sigmas = now (sigmas .entry); first = now (first .entry); second = now (second .entry) }) k) ⌝ }
+    ensures { λ r. ⌜ _≡_ {A = BandOutcome} (record { number = r .number; state = record { run = r .run; sigmas = now (sigmas .entry); first = now (first .exit); second = now (second .exit) } }) (bandOutcome 3 (record { run = run; sigmas = now (sigmas .entry); first = now (first .entry); second = now (second .entry) }) k) ⌝ }
 {
     run_band::band(run, sigmas, first, second, k)
 }

@@ -36,12 +36,12 @@ noSizes =
     record { «sample_width» = 0; «sample_height» = 0; «group_dim» = 0; «group_shift» = 0; «groups_per_row» = 0; «groups_per_column» = 0; «num_groups» = 0 }
 
 -- a refusal has no sizes
-abbrev pub answered : ℕ → GroupSizes → FrameAnswer
-answered number sizes = record { number = number; sizes = cond (eqb number 0) sizes noSizes }
+abbrev pub sizesAnswered : ℕ → GroupSizes → FrameAnswer
+sizesAnswered number sizes = record { number = number; sizes = cond (eqb number 0) sizes noSizes }
 
 -- the number of the first check that applies, and the frame's sizes where none does
 abbrev pub frameOutcome : Frame → FrameAnswer
-frameOutcome f = answered (firstOf (frameChecks f)) (sizesOf f)
+frameOutcome f = sizesAnswered (firstOf (frameChecks f)) (sizesOf f)
 
 -- Document 01, "Block sigmas": group size shift 0 to 3, else 9.
 abbrev pub splitChecks : ℕ → List Check

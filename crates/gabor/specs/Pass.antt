@@ -17,7 +17,7 @@ use Rattle.planes.specs.Stored.{LayoutFits, BandFits, passed-over, fits-copied}
 use Rattle.planes.specs.Room.{regionStart, region-index, PlaneRoom}
 use Rattle.gabor_kernel.specs.Ends.{stands}
 use Rattle.gabor_kernel.specs.Gabor.{total, gabor, sideWeight, diagonalWeight, gaborPass}
-use Rattle.gabor_kernel.specs.Local.{scaled-same}
+use Rattle.gabor_kernel.specs.Local.{gaborBy-same}
 use Rattle.gabor_plane.specs.Rows.{region, regionSample, RegionFits, row-above}
 use Rattle.gabor_plane.specs.Plane.{regionRows, planeOutcome, region-true, plane-rows}
 
@@ -31,7 +31,7 @@ module _ (l : Layout) (s : List Float) (c : ℕ) where
       → regionSample s (regionStart l c) (l .image .width) (l .width) (l .height) w0 w1 (total w0 w1) y x
       ≡ gabor w0 w1 (around (l .width) (l .height) (inner l s) x y c) (stands (l .width) x) (stands (l .height) y)
   unfolding regionSample region around inner of
-  region-sample w0 w1 y x = scaled-same w0 w1 _ _
+  region-sample w0 w1 y x = gaborBy-same w0 w1 _ _
       (λ dx dy p q. ap (λ (i : ℕ). getD s i nan) (region-index l c (mirror (pos x +ℤ dx) (l .width)) (mirror (pos y +ℤ dy) (l .height)))) (total w0 w1) (stands (l .width) x) (stands (l .height) y)
 
 -- a turn of the loop over planes

@@ -10,11 +10,11 @@ use Rattle.gabor_channel.specs.declared.Channel.{Channel}
 use Rattle.gabor_channel.specs.declared.Channel.the-variants.{Weights, Refused}
 
 -- 0.115169525 and 0.061248592
-abbrev pub sideWeight : Float
-sideWeight = ofBits binary32 0x3deb_de00
+abbrev pub sideDefault : Float
+sideDefault = ofBits binary32 0x3deb_de00
 
-abbrev pub cornerWeight : Float
-cornerWeight = ofBits binary32 0x3d7a_dfce
+abbrev pub cornerDefault : Float
+cornerDefault = ofBits binary32 0x3d7a_dfce
 
 -- |1 + (w0 + w1) × 4| is under 2^-23, each operation rounded once
 unfoldable pub nearZero : Float → Float → Bool
@@ -26,8 +26,8 @@ nearZero w0 w1 =
 -- the two weights of a channel
 unfoldable pub channelFields : Bool → Fields (List Float)
 channelFields custom =
-    half custom sideWeight λ w0.
-    half custom cornerWeight λ w1.
+    half custom sideDefault λ w0.
+    half custom cornerDefault λ w1.
     refuse (custom && nearZero w0 w1) kernelNearZero
     (bundle (w0 ∷ w1 ∷ []))
 

@@ -7,12 +7,12 @@ use lib.Ieee.{Float}
 use Rattle.bits.specs.Outcome.{accepted, refused}
 use Rattle.bits.specs.Bits.{u}
 use Rattle.fields.specs.Fields.{bundle, nested, read}
-use Rattle.gabor_channel.specs.Channel.{channelFields, sideWeight, cornerWeight}
+use Rattle.gabor_channel.specs.Channel.{channelFields, sideDefault, cornerDefault}
 use Rattle.gabor_header.specs.Gabor.{channelsFields, weightFields, gaborFields, gaborOff, gaborWith}
 use Rattle.fields.proofs.Rows.{is-yes, is-no}
 
 abbrev default : List Float
-default = sideWeight ∷ cornerWeight ∷ []
+default = sideDefault ∷ cornerDefault ∷ []
 
 module _ (s : List ℕ) (p : ℕ) where
   pub gabor-refused : {n : ℕ} → u 1 s p ≡ refused n → refused n ≡ read gaborFields s p

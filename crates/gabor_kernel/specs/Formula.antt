@@ -15,15 +15,15 @@ pub data Formula : Type 0 where
   _⊞_ _⊠_ : Formula → Formula → Formula
 
 -- the value in binary32: each node is rounded once, in the tree's order
-unfoldable pub value : Float → Float → (ℤ → ℤ → Float) → Formula → Float
-value a b v one = b1
-value a b v two = b2
-value a b v three = b3
-value a b v w0 = a
-value a b v w1 = b
-value a b v (sample dx dy) = v dx dy
-value a b v (f ⊞ g) = value a b v f ⊕ value a b v g
-value a b v (f ⊠ g) = value a b v f ⊗ value a b v g
+unfoldable pub evaluate : Float → Float → (ℤ → ℤ → Float) → Formula → Float
+evaluate a b v one = b1
+evaluate a b v two = b2
+evaluate a b v three = b3
+evaluate a b v w0 = a
+evaluate a b v w1 = b
+evaluate a b v (sample dx dy) = v dx dy
+evaluate a b v (f ⊞ g) = evaluate a b v f ⊕ evaluate a b v g
+evaluate a b v (f ⊠ g) = evaluate a b v f ⊗ evaluate a b v g
 
 abbrev pub centre : Formula
 centre = sample (pos 0) (pos 0)

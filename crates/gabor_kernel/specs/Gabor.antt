@@ -8,7 +8,7 @@ use lib.Ieee.{Float, nan}
 use Rattle.planes.specs.Samples.{_⊕_, _⊗_, _⊘_, b1, b4}
 use Rattle.planes.specs.Picture.{Picture, around}
 use Rattle.gabor_kernel.specs.Ends.{End, only, first, last, inner, stands}
-use Rattle.gabor_kernel.specs.Formula.{value, formula}
+use Rattle.gabor_kernel.specs.Formula.{evaluate, formula}
 
 -- the reciprocal of the kernel's sum, (1 + w0 × 4) + w1 × 4
 abbrev pub total : Float → Float → Float
@@ -25,12 +25,12 @@ alone last row = false
 alone inner row = false
 
 -- the sample by its column's place and its row's, times g; one sample alone is copied
-unfoldable pub scaled : Float → Float → Float → (ℤ → ℤ → Float) → End → End → Float
-scaled g w0 w1 v col row = cond (alone col row) (v (pos 0) (pos 0)) (value w0 w1 v (formula col row) ⊗ g)
+unfoldable pub gaborBy : Float → Float → Float → (ℤ → ℤ → Float) → End → End → Float
+gaborBy g w0 w1 v col row = cond (alone col row) (v (pos 0) (pos 0)) (evaluate w0 w1 v (formula col row) ⊗ g)
 
 -- v has the sample so many columns to the right and so many rows down
 abbrev pub gabor : Float → Float → (ℤ → ℤ → Float) → End → End → Float
-gabor w0 w1 v col row = scaled (total w0 w1) w0 w1 v col row
+gabor w0 w1 v col row = gaborBy (total w0 w1) w0 w1 v col row
 
 -- channel c's weights: of the side neighbours, and of the diagonal ones
 abbrev pub sideWeight : List (List Float) → ℕ → Float

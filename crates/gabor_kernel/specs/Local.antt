@@ -8,8 +8,8 @@ use lib.IntN.{ℤ, pos, natAbs}
 use lib.Ieee.{Float}
 use lib.Ieee.Fits.{and-l, and-r}
 use Rattle.gabor_kernel.specs.Ends.{End, only, first, last, inner}
-use Rattle.gabor_kernel.specs.Formula.{Formula, one, two, three, w0, w1, sample, _⊞_, _⊠_, value, formula}
-use Rattle.gabor_kernel.specs.Gabor.{scaled}
+use Rattle.gabor_kernel.specs.Formula.{Formula, one, two, three, w0, w1, sample, _⊞_, _⊠_, evaluate, formula}
+use Rattle.gabor_kernel.specs.Gabor.{gaborBy}
 
 -- two samples that see the same within one column and one row
 abbrev pub Alike : (ℤ → ℤ → Float) → (ℤ → ℤ → Float) → Type 0
@@ -46,18 +46,18 @@ formulas-near inner last = tt
 formulas-near inner inner = tt
 
 module _ (a b : Float) (u v : ℤ → ℤ → Float) (alike : Alike u v) where
-  value-same : (f : Formula) → T (near f) → value a b u f ≡ value a b v f
-  unfolding near value
-  value-same one t = refl
-  value-same two t = refl
-  value-same three t = refl
-  value-same w0 t = refl
-  value-same w1 t = refl
-  value-same (sample dx dy) t =
+  evaluate-same : (f : Formula) → T (near f) → evaluate a b u f ≡ evaluate a b v f
+  unfolding near evaluate
+  evaluate-same one t = refl
+  evaluate-same two t = refl
+  evaluate-same three t = refl
+  evaluate-same w0 t = refl
+  evaluate-same w1 t = refl
+  evaluate-same (sample dx dy) t =
       alike dx dy (leb→le (natAbs dx) 1 (and-l (leb (natAbs dx) 1) (leb (natAbs dy) 1) t)) (leb→le (natAbs dy) 1 (and-r (leb (natAbs dx) 1) (leb (natAbs dy) 1) t))
-  value-same (f ⊞ g) t = rw (value-same f (and-l (near f) (near g) t), value-same g (and-r (near f) (near g) t))
-  value-same (f ⊠ g) t = rw (value-same f (and-l (near f) (near g) t), value-same g (and-r (near f) (near g) t))
+  evaluate-same (f ⊞ g) t = rw (evaluate-same f (and-l (near f) (near g) t), evaluate-same g (and-r (near f) (near g) t))
+  evaluate-same (f ⊠ g) t = rw (evaluate-same f (and-l (near f) (near g) t), evaluate-same g (and-r (near f) (near g) t))
 
-  pub scaled-same : (g : Float) (col row : End) → scaled g a b u col row ≡ scaled g a b v col row
-  unfolding scaled
-  scaled-same g col row = rw (alike (pos 0) (pos 0) (omega arith) (omega arith), value-same (formula col row) (formulas-near col row))
+  pub gaborBy-same : (g : Float) (col row : End) → gaborBy g a b u col row ≡ gaborBy g a b v col row
+  unfolding gaborBy
+  gaborBy-same g col row = rw (alike (pos 0) (pos 0) (omega arith) (omega arith), evaluate-same (formula col row) (formulas-near col row))

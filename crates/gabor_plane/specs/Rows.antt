@@ -12,10 +12,10 @@ use Rattle.planes.specs.Picture.{Picture, around}
 use Rattle.planes.specs.Fill.{fill, row-of-one, row-of-more}
 use Rattle.gabor_kernel.specs.Ends.{End, only, first, last, inner, stands}
 use Rattle.gabor_kernel.specs.EndLaws.{stands-only, stands-first, stands-last, stands-inner, before-first, before-other, after-last, after-other, itself}
-use Rattle.gabor_kernel.specs.Formula.{value, formula}
-use Rattle.gabor_kernel.specs.Gabor.{alone, scaled}
+use Rattle.gabor_kernel.specs.Formula.{evaluate, formula}
+use Rattle.gabor_kernel.specs.Gabor.{alone, gaborBy}
 use Rattle.gabor_kernel.specs.Nine.{pick, nine}
-use Rattle.gabor_kernel.specs.Local.{scaled-same}
+use Rattle.gabor_kernel.specs.Local.{gaborBy-same}
 
 -- ---- readers over indices
 
@@ -33,20 +33,20 @@ column s t c b =
 
 -- column j + 1, which has neighbours on both sides; row is the row's place among the rows
 unfoldable pub innerSample : List Float → ℕ → ℕ → ℕ → Float → Float → Float → End → ℕ → Float
-innerSample s t c b w0 w1 g row j = scaled g w0 w1 (taps s t c b j (j + 1) (j + 2)) inner row
+innerSample s t c b w0 w1 g row j = gaborBy g w0 w1 (taps s t c b j (j + 1) (j + 2)) inner row
 
 -- ---- a row of w columns: column x, mirrored at the row's ends
 unfoldable pub rowSample : List Float → ℕ → ℕ → ℕ → ℕ → Float → Float → Float → End → ℕ → Float
-rowSample s t c b w w0 w1 g row x = scaled g w0 w1 (taps s t c b (mirror (pos x +ℤ negsuc 0) w) x (mirror (pos x +ℤ pos 1) w)) (stands w x) row
+rowSample s t c b w w0 w1 g row x = gaborBy g w0 w1 (taps s t c b (mirror (pos x +ℤ negsuc 0) w) x (mirror (pos x +ℤ pos 1) w)) (stands w x) row
 
 module _ (s : List Float) (t c b w : ℕ) (w0 w1 g : Float) (row : End) where
-  pub at-only : w ≡ 1 → rowSample s t c b w w0 w1 g row 0 ≡ scaled g w0 w1 (column s t c b) only row
+  pub at-only : w ≡ 1 → rowSample s t c b w w0 w1 g row 0 ≡ gaborBy g w0 w1 (column s t c b) only row
   unfolding rowSample
   at-only p =
       let z : (i : ℕ) → i + 0 ≡ i = λ i. omega arith in
       rw (stands-only w 0 p, before-first w (omega arith), after-last w 0 (omega arith), z t, z c, z b)
 
-  pub at-first : 2 ≤ w → rowSample s t c b w w0 w1 g row 0 ≡ scaled g w0 w1 (taps s t c b 0 0 1) first row
+  pub at-first : 2 ≤ w → rowSample s t c b w w0 w1 g row 0 ≡ gaborBy g w0 w1 (taps s t c b 0 0 1) first row
   unfolding rowSample
   at-first p = rw (stands-first w p, before-first w (omega arith), after-other w 0 (omega arith))
 
@@ -57,18 +57,18 @@ module _ (s : List Float) (t c b w : ℕ) (w0 w1 g : Float) (row : End) where
       let e : j + 1 + 1 ≡ j + 2 = omega arith in
       rw (stands-inner w (j + 1) (omega arith) (omega arith), before-other w (j + 1) (omega arith) (omega arith), after-other w (j + 1) (omega arith), d, e)
 
-  pub at-last : 2 ≤ w → rowSample s t c b w w0 w1 g row (w - 1) ≡ scaled g w0 w1 (taps s t c b (w - 2) (w - 1) (w - 1)) last row
+  pub at-last : 2 ≤ w → rowSample s t c b w w0 w1 g row (w - 1) ≡ gaborBy g w0 w1 (taps s t c b (w - 2) (w - 1) (w - 1)) last row
   unfolding rowSample
   at-last p =
       let d : w - 1 - 1 ≡ w - 2 = omega arith in
       rw (stands-last w (w - 1) p (omega arith), before-other w (w - 1) (omega arith) (omega arith), after-last w (w - 1) (omega arith), d)
 
   -- a row's samples, its ends written apart
-  pub row-one : (d : List Float) (o : ℕ) (v : Float) → w ≡ 1 → v ≡ scaled g w0 w1 (column s t c b) only row → set d o v ≡ fill d o w (rowSample s t c b w w0 w1 g row)
+  pub row-one : (d : List Float) (o : ℕ) (v : Float) → w ≡ 1 → v ≡ gaborBy g w0 w1 (column s t c b) only row → set d o v ≡ fill d o w (rowSample s t c b w w0 w1 g row)
   row-one d o v p e = row-of-one d o w (rowSample s t c b w w0 w1 g row) v p (e ∙ sym (at-only p))
 
-  pub row-more : (d : List Float) (o : ℕ) (v u : Float) (n : List Float) → 2 ≤ w → v ≡ scaled g w0 w1 (taps s t c b 0 0 1) first row
-      → n ≡ fill (set d o v) (o + 1) (w - 2) (innerSample s t c b w0 w1 g row) → u ≡ scaled g w0 w1 (taps s t c b (w - 2) (w - 1) (w - 1)) last row
+  pub row-more : (d : List Float) (o : ℕ) (v u : Float) (n : List Float) → 2 ≤ w → v ≡ gaborBy g w0 w1 (taps s t c b 0 0 1) first row
+      → n ≡ fill (set d o v) (o + 1) (w - 2) (innerSample s t c b w0 w1 g row) → u ≡ gaborBy g w0 w1 (taps s t c b (w - 2) (w - 1) (w - 1)) last row
       → set n (o + (w - 1)) u ≡ fill d o w (rowSample s t c b w w0 w1 g row)
   row-more d o v u n p e f h =
       row-of-more d o w (rowSample s t c b w w0 w1 g row) (innerSample s t c b w0 w1 g row) v u n p (e ∙ sym (at-first p)) f (λ j l. sym (at-inner j l)) (h ∙ sym (at-last p))
@@ -77,25 +77,25 @@ module _ (s : List Float) (t c b w : ℕ) (w0 w1 g : Float) (row : End) where
 
 module _ (s : List Float) (w : ℕ) (w0 w1 g : Float) (d : List Float) (o : ℕ) (v u : Float) (n : List Float) (p : 2 ≤ w) where
   -- rows on both sides: an end is an inner column whose missing neighbour is itself, the other one standing first
-  pub inner-more : (t c b : ℕ) → v ≡ scaled g w0 w1 (taps s t c b 1 0 0) inner inner → n ≡ fill (set d o v) (o + 1) (w - 2) (innerSample s t c b w0 w1 g inner)
-      → u ≡ scaled g w0 w1 (taps s t c b (w - 2) (w - 1) (w - 1)) inner inner → set n (o + (w - 1)) u ≡ fill d o w (rowSample s t c b w w0 w1 g inner)
-  unfolding scaled alone value formula nine pick
+  pub inner-more : (t c b : ℕ) → v ≡ gaborBy g w0 w1 (taps s t c b 1 0 0) inner inner → n ≡ fill (set d o v) (o + 1) (w - 2) (innerSample s t c b w0 w1 g inner)
+      → u ≡ gaborBy g w0 w1 (taps s t c b (w - 2) (w - 1) (w - 1)) inner inner → set n (o + (w - 1)) u ≡ fill d o w (rowSample s t c b w w0 w1 g inner)
+  unfolding gaborBy alone evaluate formula nine pick
   inner-more t c b e f h = row-more s t c b w w0 w1 g inner d o v u n p e f h
 
   -- the first, the last or the only row: the first column is the last one of the row turned round
-  pub edge-more : (c a : ℕ) → v ≡ scaled g w0 w1 (taps s a c a 1 0 0) last first → n ≡ fill (set d o v) (o + 1) (w - 2) (innerSample s a c a w0 w1 g first)
-      → u ≡ scaled g w0 w1 (taps s a c a (w - 2) (w - 1) (w - 1)) last first → set n (o + (w - 1)) u ≡ fill d o w (rowSample s a c a w w0 w1 g first)
-  unfolding scaled alone value formula nine pick
+  pub edge-more : (c a : ℕ) → v ≡ gaborBy g w0 w1 (taps s a c a 1 0 0) last first → n ≡ fill (set d o v) (o + 1) (w - 2) (innerSample s a c a w0 w1 g first)
+      → u ≡ gaborBy g w0 w1 (taps s a c a (w - 2) (w - 1) (w - 1)) last first → set n (o + (w - 1)) u ≡ fill d o w (rowSample s a c a w w0 w1 g first)
+  unfolding gaborBy alone evaluate formula nine pick
   edge-more c a e f h = row-more s a c a w w0 w1 g first d o v u n p e f h
 
-  pub solo-more : (c : ℕ) → v ≡ scaled g w0 w1 (taps s c c c 1 0 0) last only → n ≡ fill (set d o v) (o + 1) (w - 2) (innerSample s c c c w0 w1 g only)
-      → u ≡ scaled g w0 w1 (taps s c c c (w - 2) (w - 1) (w - 1)) last only → set n (o + (w - 1)) u ≡ fill d o w (rowSample s c c c w w0 w1 g only)
-  unfolding scaled alone value formula nine pick
+  pub solo-more : (c : ℕ) → v ≡ gaborBy g w0 w1 (taps s c c c 1 0 0) last only → n ≡ fill (set d o v) (o + 1) (w - 2) (innerSample s c c c w0 w1 g only)
+      → u ≡ gaborBy g w0 w1 (taps s c c c (w - 2) (w - 1) (w - 1)) last only → set n (o + (w - 1)) u ≡ fill d o w (rowSample s c c c w w0 w1 g only)
+  unfolding gaborBy alone evaluate formula nine pick
   solo-more c e f h = row-more s c c c w w0 w1 g only d o v u n p e f h
 
 -- one sample alone
 pub solo-one : (s : List Float) (c w : ℕ) (w0 w1 g : Float) (d : List Float) (o : ℕ) → w ≡ 1 → set d o (getD s c nan) ≡ fill d o w (rowSample s c c c w w0 w1 g only)
-unfolding scaled alone nine pick
+unfolding gaborBy alone nine pick
 solo-one s c w w0 w1 g d o p = row-one s c c c w w0 w1 g only d o (getD s c nan) p refl
 
 -- ---- a region of a list: its first row starts at index at, each next one a stride later
@@ -104,14 +104,14 @@ region s at stride = λ c x y. getD s (at + y * stride + x) nan
 
 -- the sample at column x and row y of a region of w columns and h rows
 unfoldable pub regionSample : List Float → ℕ → ℕ → ℕ → ℕ → Float → Float → Float → ℕ → ℕ → Float
-regionSample s at stride w h w0 w1 g y x = scaled g w0 w1 (around w h (region s at stride) x y 0) (stands w x) (stands h y)
+regionSample s at stride w h w0 w1 g y x = gaborBy g w0 w1 (around w h (region s at stride) x y 0) (stands w x) (stands h y)
 
 -- the rows on either side are the mirrored ones
 pub region-row : (s : List Float) (at stride w h : ℕ) (w0 w1 g : Float) (y x : ℕ) → x < w → y < h
     → rowSample s (at + mirror (pos y +ℤ negsuc 0) h * stride) (at + y * stride) (at + mirror (pos y +ℤ pos 1) h * stride) w w0 w1 g (stands h y) x
     ≡ regionSample s at stride w h w0 w1 g y x
 unfolding rowSample regionSample nine region around pick
-region-row s at stride w h w0 w1 g y x p q = scaled-same w0 w1 _ _ each g (stands w x) (stands h y)
+region-row s at stride w h w0 w1 g y x p q = gaborBy-same w0 w1 _ _ each g (stands w x) (stands h y)
   where
     reads : ℤ → ℤ → Float
     reads = taps s (at + mirror (pos y +ℤ negsuc 0) h * stride) (at + y * stride) (at + mirror (pos y +ℤ pos 1) h * stride) (mirror (pos x +ℤ negsuc 0) w) x (mirror (pos x +ℤ pos 1) w)
@@ -140,11 +140,11 @@ region-row s at stride w h w0 w1 g y x p q = scaled-same w0 w1 _ _ each g (stand
 module _ (s : List Float) (t u c b w : ℕ) (w0 w1 g : Float) (x : ℕ) where
   -- the last row reads the row above it as the first row reads the one below it
   last-reads : rowSample s t c b w w0 w1 g first x ≡ rowSample s b c u w w0 w1 g last x
-  unfolding rowSample scaled alone value formula nine pick
+  unfolding rowSample gaborBy alone evaluate formula nine pick
   last-reads = go (stands w x)
     where
-      go : (col : End) → scaled g w0 w1 (taps s t c b (mirror (pos x +ℤ negsuc 0) w) x (mirror (pos x +ℤ pos 1) w)) col first
-          ≡ scaled g w0 w1 (taps s b c u (mirror (pos x +ℤ negsuc 0) w) x (mirror (pos x +ℤ pos 1) w)) col last
+      go : (col : End) → gaborBy g w0 w1 (taps s t c b (mirror (pos x +ℤ negsuc 0) w) x (mirror (pos x +ℤ pos 1) w)) col first
+          ≡ gaborBy g w0 w1 (taps s b c u (mirror (pos x +ℤ negsuc 0) w) x (mirror (pos x +ℤ pos 1) w)) col last
       go only = refl
       go first = refl
       go last = refl

@@ -11,7 +11,7 @@ ghost use mathlib.Core.Path.{_≡_};
 ghost use Prim.Native.Nat.{_+_, _<_};
 ghost use lib.ListN.{length};
 ghost use Rattle.gabor_kernel.specs.Ends.{only, first, last, inner};
-ghost use Rattle.gabor_kernel.specs.Gabor.{scaled};
+ghost use Rattle.gabor_kernel.specs.Gabor.{gaborBy};
 ghost use Rattle.gabor_plane.specs.Rows.{taps, column};
 
 // A row with rows on both sides.
@@ -30,7 +30,7 @@ pub(crate) fn tap_at(
     requires { ⌜ (t + l < length (now src)) × (t + m < length (now src)) × (t + r < length (now src)) ⌝ }
     requires { ⌜ (c + l < length (now src)) × (c + m < length (now src)) × (c + r < length (now src)) ⌝ }
     requires { ⌜ (b + l < length (now src)) × (b + m < length (now src)) × (b + r < length (now src)) ⌝ }
-    ensures { λ v. ⌜ v ≡ scaled g w0 w1 (taps (now (src .entry)) t c b l m r) inner inner ⌝ }
+    ensures { λ v. ⌜ v ≡ gaborBy g w0 w1 (taps (now (src .entry)) t c b l m r) inner inner ⌝ }
 {
     tap9(
         src[t + l],
@@ -51,7 +51,7 @@ pub(crate) fn tap_at(
 // The same where the row has one column.
 pub(crate) fn lone_at(src: &[f32], t: usize, c: usize, b: usize, w0: f32, w1: f32, g: f32) -> f32
     requires { ⌜ (t < length (now src)) × (c < length (now src)) × (b < length (now src)) ⌝ }
-    ensures { λ v. ⌜ v ≡ scaled g w0 w1 (column (now (src .entry)) t c b) only inner ⌝ }
+    ensures { λ v. ⌜ v ≡ gaborBy g w0 w1 (column (now (src .entry)) t c b) only inner ⌝ }
 {
     lone3(src[t], src[c], src[b], w0, w1, g)
 }
@@ -70,7 +70,7 @@ pub(crate) fn edge_at(
 ) -> f32
     requires { ⌜ (c + l < length (now src)) × (c + m < length (now src)) × (c + r < length (now src)) ⌝ }
     requires { ⌜ (a + l < length (now src)) × (a + m < length (now src)) × (a + r < length (now src)) ⌝ }
-    ensures { λ v. ⌜ v ≡ scaled g w0 w1 (taps (now (src .entry)) a c a l m r) inner first ⌝ }
+    ensures { λ v. ⌜ v ≡ gaborBy g w0 w1 (taps (now (src .entry)) a c a l m r) inner first ⌝ }
 {
     edge6(
         src[a + l],
@@ -97,7 +97,7 @@ pub(crate) fn edge_end(
     g: f32,
 ) -> f32
     requires { ⌜ (c + l < length (now src)) × (c + m < length (now src)) × (a + l < length (now src)) × (a + m < length (now src)) ⌝ }
-    ensures { λ v. ⌜ v ≡ scaled g w0 w1 (taps (now (src .entry)) a c a l m m) last first ⌝ }
+    ensures { λ v. ⌜ v ≡ gaborBy g w0 w1 (taps (now (src .entry)) a c a l m m) last first ⌝ }
 {
     edge4(src[a + l], src[a + m], src[c + l], src[c + m], w0, w1, g)
 }
@@ -105,7 +105,7 @@ pub(crate) fn edge_end(
 // The same where the row has one column.
 pub(crate) fn edge_lone(src: &[f32], c: usize, a: usize, w0: f32, w1: f32, g: f32) -> f32
     requires { ⌜ (c < length (now src)) × (a < length (now src)) ⌝ }
-    ensures { λ v. ⌜ v ≡ scaled g w0 w1 (column (now (src .entry)) a c a) only first ⌝ }
+    ensures { λ v. ⌜ v ≡ gaborBy g w0 w1 (column (now (src .entry)) a c a) only first ⌝ }
 {
     edge2(src[a], src[c], w0, w1, g)
 }
@@ -122,7 +122,7 @@ pub(crate) fn solo_at(
     g: f32,
 ) -> f32
     requires { ⌜ (c + l < length (now src)) × (c + m < length (now src)) × (c + r < length (now src)) ⌝ }
-    ensures { λ v. ⌜ v ≡ scaled g w0 w1 (taps (now (src .entry)) c c c l m r) inner only ⌝ }
+    ensures { λ v. ⌜ v ≡ gaborBy g w0 w1 (taps (now (src .entry)) c c c l m r) inner only ⌝ }
 {
     solo3(src[c + l], src[c + m], src[c + r], w0, w1, g)
 }
@@ -130,7 +130,7 @@ pub(crate) fn solo_at(
 // The same at an end of the row, m, whose one neighbour is l.
 pub(crate) fn solo_end(src: &[f32], c: usize, l: usize, m: usize, w0: f32, w1: f32, g: f32) -> f32
     requires { ⌜ (c + l < length (now src)) × (c + m < length (now src)) ⌝ }
-    ensures { λ v. ⌜ v ≡ scaled g w0 w1 (taps (now (src .entry)) c c c l m m) last only ⌝ }
+    ensures { λ v. ⌜ v ≡ gaborBy g w0 w1 (taps (now (src .entry)) c c c l m m) last only ⌝ }
 {
     solo2(src[c + l], src[c + m], w0, w1, g)
 }

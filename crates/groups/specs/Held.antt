@@ -6,7 +6,7 @@ use lib.Dec.{leb}
 use Rattle.frame.specs.declared.Frame.{Frame}
 use Rattle.frame.specs.Sizes.{groupOf, innerOf, sizesOf}
 use Rattle.blocks.specs.declared.Blocks.{Blocks}
-use Rattle.blocks.specs.Measures.{across, down}
+use Rattle.blocks.specs.Measures.{blocksAcross, blocksDown}
 use Rattle.grids.specs.Table.{lacks, someBelow}
 
 -- the number of the group that block (bx, by) lies in, groups being counted row after row
@@ -22,4 +22,4 @@ notHeld f t bx by =
 
 -- some block of the filter region is not held
 unfoldable pub someNotHeld : Frame → Blocks → List ℕ → Bool
-someNotHeld f b t = someBelow (down b) (λ y. someBelow (across b) (λ x. notHeld f t (b .left + x) (b .top + y)))
+someNotHeld f b t = someBelow (blocksDown b) (λ y. someBelow (blocksAcross b) (λ x. notHeld f t (b .left + x) (b .top + y)))

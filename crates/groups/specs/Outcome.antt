@@ -12,7 +12,7 @@ use Rattle.frame.specs.Sizes.{sizesOf}
 use Rattle.frame.specs.Outcome.{badSides, badSettings}
 use Rattle.blocks.specs.declared.Blocks.{Blocks}
 use Rattle.grids.specs.Table.{gridStart, badPresence, badGrid, someBelow}
-use Rattle.blocks.specs.Measures.{across, down, badBlocks}
+use Rattle.blocks.specs.Measures.{blocksAcross, blocksDown, badBlocks}
 use Rattle.groups.specs.Held.{someNotHeld}
 
 -- ---- the numbers that checks need
@@ -39,7 +39,7 @@ gridsFit f t grids = eqb (length grids) (gridStart t (sizesOf f .«num_groups»)
 
 -- one sigma a block with the edge filter on, none with it off
 abbrev pub sigmaCount : Bool → Blocks → ℕ
-sigmaCount on b = cond on (down b * across b) 0
+sigmaCount on b = cond on (blocksDown b * blocksAcross b) 0
 
 -- ---- checks of a frame with its group table and grids, each with what it needs
 

@@ -18,23 +18,23 @@ use Rattle.planes.specs.Picture.{around, inRect}
 use Rattle.planes.specs.Sets.{of, setOf, tab}
 use Rattle.planes.specs.Band.{inFilter, written, inner, passed}
 use Rattle.gabor_kernel.specs.Ends.{stands}
-use Rattle.gabor_kernel.specs.Formula.{value, formula}
-use Rattle.gabor_kernel.specs.Gabor.{alone, scaled, gaborPass}
+use Rattle.gabor_kernel.specs.Formula.{evaluate, formula}
+use Rattle.gabor_kernel.specs.Gabor.{alone, gaborBy, gaborPass}
 use Rattle.rounding.specs.Magnitude.{magnitude}
 use Rattle.weights.specs.Steps.{kernel, dists, along, scaledFrom, apart, distance, positive, weightBy, copied, weightAt, blend, divisor, epf, border, multiplier, epfPass}
 use Rattle.frame.specs.Sizes.{sizesOf}
 use Rattle.grids.specs.Table.{cells, gridStart, someBelow}
-use Rattle.sigma.specs.Sigma.{sigmaIn, sigmaOf, aboveAt, sigmaAt, blockSigmas}
+use Rattle.sigma.specs.Sigma.{sigmaIn, frameSigma, aboveAt, blockSigma, blockSigmas}
 use Rattle.layout.specs.Outcome.{layoutOf}
 use Rattle.passes.specs.Pass.{pass}
 use Rattle.passes.specs.Plan.{scaleOf, stepOf, steps, plan}
 use Rattle.setup.specs.Setup.{bandCount, sized, setupFits}
 use Rattle.record.specs.Record.{isDone, started, marked, bandMissing, strayDone, runFits}
-use Rattle.runs.specs.Band.{readsFirst, bandChecks, banded, bandOutcome, advanceChecks, advanceOutcome}
+use Rattle.runs.specs.Band.{readsFirst, bandChecks, banded, bandOutcome, advanceOutcome}
 use Rattle.instances.specs.Instances.{bytesOf, Table}
 
 pub table : Table
-unfolding ofBits lt add sub mul div mirror powerBelow place side regionOf shrunkBy alignedTo inside measured pictured regionAnswer u field valueOf halfOf f16 nested read nearZero channelFields channelsFields weightFields gaborFields bytesOf around of setOf tab inRect inFilter written inner passed stands value formula alone scaled gaborPass magnitude kernel dists along scaledFrom apart distance positive weightBy copied weightAt blend divisor epf border multiplier epfPass sizesOf cells gridStart someBelow sigmaIn sigmaOf aboveAt sigmaAt blockSigmas layoutOf pass scaleOf stepOf steps plan bandCount sized setupFits isDone started marked bandMissing strayDone runFits readsFirst bandChecks banded bandOutcome advanceChecks advanceOutcome
+unfolding ofBits lt add sub mul div mirror powerBelow place side regionOf shrunkBy alignedTo inside measured pictured regionAnswer u field valueOf halfOf f16 nested read nearZero channelFields channelsFields weightFields gaborFields bytesOf around of setOf tab inRect inFilter written inner passed stands evaluate formula alone gaborBy gaborPass magnitude kernel dists along scaledFrom apart distance positive weightBy copied weightAt blend divisor epf border multiplier epfPass sizesOf cells gridStart someBelow sigmaIn frameSigma aboveAt blockSigma blockSigmas layoutOf pass scaleOf stepOf steps plan bandCount sized setupFits isDone started marked bandMissing strayDone runFits readsFirst bandChecks banded bandOutcome advanceOutcome
 table = record {
   mirrorOfOne = refl;
   mirrorOfTwo = refl;

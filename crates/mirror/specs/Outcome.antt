@@ -20,9 +20,9 @@ mirrorChecks offset len =
     ∷ []
 
 -- a refusal has 0 as its place
-abbrev pub answered : ℕ → ℕ → MirrorAnswer
-answered number place = record { number = number; place = cond (eqb number 0) place 0 }
+abbrev pub mirrorAnswered : ℕ → ℕ → MirrorAnswer
+mirrorAnswered number place = record { number = number; place = cond (eqb number 0) place 0 }
 
 -- the number of the first check that applies, and the offset's place where none does
 abbrev pub mirrorOutcome : ℤ → ℕ → MirrorAnswer
-mirrorOutcome offset len = answered (firstOf (mirrorChecks offset len)) (mirror offset len)
+mirrorOutcome offset len = mirrorAnswered (firstOf (mirrorChecks offset len)) (mirror offset len)

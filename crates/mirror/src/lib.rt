@@ -4,7 +4,7 @@ ghost use lib.Signed.{mag};
 ghost use lib.IntN.{pos, subℕ};
 ghost use Rattle.numbers.specs.Numbers.{outOfRange};
 ghost use Rattle.mirror.specs.Mirror.{mirror};
-ghost use Rattle.mirror.specs.Outcome.{answered, mirrorOutcome};
+ghost use Rattle.mirror.specs.Outcome.{mirrorAnswered, mirrorOutcome};
 
 const MAX_LENGTH: usize = 16_384;
 
@@ -54,7 +54,7 @@ fn unsigned(offset: isize) -> usize
 }
 
 fn refused() -> MirrorAnswer
-    ensures { λ r. ⌜ r ≡ answered outOfRange 0 ⌝ }
+    ensures { λ r. ⌜ r ≡ mirrorAnswered outOfRange 0 ⌝ }
 {
     MirrorAnswer {
         number: numbers::OUT_OF_RANGE,

@@ -15,7 +15,7 @@ use Rattle.mirror.specs.Cut.{Deep, mirror-cut}
 use Rattle.planes.specs.Picture.{Picture, around}
 use Rattle.gabor_kernel.specs.Ends.{stands}
 use Rattle.gabor_kernel.specs.Gabor.{gaborPass, total, sideWeight, diagonalWeight}
-use Rattle.gabor_kernel.specs.Local.{scaled-same}
+use Rattle.gabor_kernel.specs.Local.{gaborBy-same}
 use Rattle.weights.specs.Steps.{kernel, dists, border, multiplier, epfPass, reach as stepReach}
 use Rattle.weights.specs.Local.{Alike, channelsBelow, scaled-below, steps-near, epf-same}
 use Rattle.passes.specs.declared.Settings.{Settings}
@@ -102,7 +102,7 @@ module _ (n : ℕ) (a b : Area) (lx ly : ℕ) (fits : Fits a b lx ly) (k : ℕ) 
   unfolding pass reach sound isStep gaborPass epfPass
   pass-same (gaborLike ws) u blocks c x y h i j =
       rw (stands-same k lx (a .width) (b .width) x (fits .columns) i, stands-same k ly (a .height) (b .height) y (fits .rows) j)
-      (scaled-same (sideWeight ws c) (diagonalWeight ws c) _ _ (λ dx dy s t. around-same 1 x y i j c dx dy h s t) (total (sideWeight ws c) (diagonalWeight ws c)) _ _)
+      (gaborBy-same (sideWeight ws c) (diagonalWeight ws c) _ _ (λ dx dy s t. around-same 1 x y i j c dx dy h s t) (total (sideWeight ws c) (diagonalWeight ws c)) _ _)
   pass-same (edgePreserving e) u blocks c x y h i j =
       let k8 : SameBlocks a b lx ly = blocks tt in
       let xin : x < a .width = i .inside in

@@ -20,8 +20,8 @@ regionAnswer n r = record { number = n; region = cond (eqb n 0) r zeroRegion }
 
 -- ---- tables: the region that is given, and then the one that results
 
-abbrev pub resultChecks : Region → Region → List Check
-resultChecks r made = always outOfMeasure (not (measured r)) ∷ always outOfMeasure (not (measured made)) ∷ []
+abbrev pub madeChecks : Region → Region → List Check
+madeChecks r made = always outOfMeasure (not (measured r)) ∷ always outOfMeasure (not (measured made)) ∷ []
 
 -- a result is judged only where the setting that it needs is in range
 abbrev pub settingChecks : Region → Bool → Region → List Check
@@ -43,13 +43,13 @@ judgedNumber r = firstOf (givenChecks r)
 -- ---- the outcome of each public function, for every input
 
 abbrev pub translateOutcome : Region → ℤ → ℤ → RegionAnswer
-translateOutcome r x y = regionAnswer (firstOf (resultChecks r (translated x y r))) (translated x y r)
+translateOutcome r x y = regionAnswer (firstOf (madeChecks r (translated x y r))) (translated x y r)
 
 abbrev pub intersectionOutcome : Region → Region → RegionAnswer
 intersectionOutcome a b = regionAnswer (firstOf (pairChecks a b)) (intersected a b)
 
 abbrev pub padOutcome : Region → ℕ → RegionAnswer
-padOutcome r size = regionAnswer (firstOf (resultChecks r (paddedBy size r))) (paddedBy size r)
+padOutcome r size = regionAnswer (firstOf (madeChecks r (paddedBy size r))) (paddedBy size r)
 
 abbrev pub downsampleOutcome : Region → ℕ → RegionAnswer
 downsampleOutcome r factor = regionAnswer (firstOf (settingChecks r (isFactor factor) (downsampled factor r))) (downsampled factor r)
@@ -60,10 +60,10 @@ alignedOutcome r dim = regionAnswer (firstOf (settingChecks r (isAlignment dim) 
 -- ---- laws: the number given, by which test failed first
 
 module _ (r made : Region) where
-  pub result-fails : measured r ≡ false → firstOf (resultChecks r made) ≡ outOfMeasure
+  pub result-fails : measured r ≡ false → firstOf (madeChecks r made) ≡ outOfMeasure
   result-fails e = rw e
 
-  pub result-judged : measured r ≡ true → firstOf (resultChecks r made) ≡ judgedNumber made
+  pub result-judged : measured r ≡ true → firstOf (madeChecks r made) ≡ judgedNumber made
   unfolding judgedNumber
   result-judged e = rw e
 

@@ -13,7 +13,7 @@ use Rattle.record.specs.declared.Run.{Run}
 use Rattle.record.specs.Record.{passCount, advanced, overChecks}
 use Rattle.record.specs.Laws.{pass-left}
 use Rattle.runs.specs.declared.RunAnswer.{RunAnswer}
-use Rattle.runs.specs.Band.{advanceChecks, advanceNumber, advanceOutcome}
+use Rattle.runs.specs.Band.{advanceNumber, advanceOutcome}
 use Rattle.runs.specs.Laws.{advance-fits}
 
 -- at most four passes
@@ -25,23 +25,19 @@ few-passes s = omega (arith, plan-length 3 (s .settings), one (s .settings .gabo
     one false = omega arith
 
 module _ (r : Run) (n : ℕ) (e : n ≡ firstOf (overChecks r)) where
-  over-is : n ≡ advanceNumber r
-  unfolding advanceChecks
-  over-is = e
-
   pub advance-refused : (n ≡ 0 → ⊥) → _≡_ {A = RunAnswer} (record { number = n; run = r }) (advanceOutcome r)
   unfolding advanceOutcome
   advance-refused h =
-      let z : eqb (advanceNumber r) 0 ≡ false = ne-eqb (advanceNumber r) 0 (λ q. h (over-is ∙ q)) in
-      rw (z, over-is)
+      let z : eqb (advanceNumber r) 0 ≡ false = ne-eqb (advanceNumber r) 0 (λ q. h (e ∙ q)) in
+      rw (z, e)
 
   pub advance-few : n ≡ 0 → r .pass < 4
   advance-few h =
-      let f = advance-fits r (sym over-is ∙ h) in
+      let f = advance-fits r (sym e ∙ h) in
       omega (arith, pass-left r (f .run) (f .pass .unfinished), few-passes (r .setup))
 
   pub advance-done : n ≡ 0 → (a : Run) → a ≡ advanced r → _≡_ {A = RunAnswer} (record { number = 0; run = a }) (advanceOutcome r)
   unfolding advanceOutcome
   advance-done h a p =
-      let z : advanceNumber r ≡ 0 = sym over-is ∙ h in
+      let z : advanceNumber r ≡ 0 = sym e ∙ h in
       rw (z, p)

@@ -20,7 +20,7 @@ use Rattle.record.specs.Record.{marked, openChecks}
 use Rattle.numbers.specs.Tables.{of-true, met-given, row-passed}
 use Rattle.setup.specs.Laws.{SetupFits, setup-fits, image-sized, filter-sized}
 use Rattle.record.specs.Laws.{pass-left}
-use Rattle.runs.specs.Band.{State, Outcome, setCheck, sigmaCheck, readsFirst, source, target, bandChecks, bandNumber, banded, bandOutcome}
+use Rattle.runs.specs.Band.{State, BandOutcome, setCheck, sigmaCheck, readsFirst, source, target, bandChecks, bandNumber, banded, bandOutcome}
 use Rattle.runs.specs.Laws.{BandFits, band-fits}
 use Rattle.run_band.specs.Rows.{RowsFit, passedRows, bandWritten}
 
@@ -126,14 +126,14 @@ module _ (t : State) (k : ℕ) where
     unfolding bandChecks
     number-is = e
 
-    pub band-refused : (n ≡ 0 → ⊥) → _≡_ {A = Outcome} (record { number = n; state = t }) (bandOutcome 3 t k)
+    pub band-refused : (n ≡ 0 → ⊥) → _≡_ {A = BandOutcome} (record { number = n; state = t }) (bandOutcome 3 t k)
     unfolding bandOutcome
     band-refused h =
         let z : eqb (bandNumber 3 t k) 0 ≡ false = ne-eqb (bandNumber 3 t k) 0 (λ q. h (number-is ∙ q)) in
         rw (z, number-is)
 
     pub band-done : n ≡ 0 → (r : Run) → r ≡ marked (t .run) k → (a b : List Float) → Written a b
-        → _≡_ {A = Outcome} (record { number = 0; state = record { run = r; sigmas = t .sigmas; first = a; second = b } }) (bandOutcome 3 t k)
+        → _≡_ {A = BandOutcome} (record { number = 0; state = record { run = r; sigmas = t .sigmas; first = a; second = b } }) (bandOutcome 3 t k)
     unfolding bandOutcome
     band-done h r p a b w =
         let z : bandNumber 3 t k ≡ 0 = sym number-is ∙ h in

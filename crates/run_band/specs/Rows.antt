@@ -16,7 +16,7 @@ use Rattle.planes.specs.Band.{inner, passed, rowsFit}
 use Rattle.planes.specs.Stored.{and-first, and-second}
 use Rattle.layout.specs.Outcome.{layoutOf, passChecks, PassOutcome, passOutcome}
 use Rattle.gabor.specs.Outcome.{gaborOutcome}
-use Rattle.tiles.specs.Blocks.{across, down}
+use Rattle.tiles.specs.Blocks.{blockColumns, blockRows}
 use Rattle.placement.specs.Blocks.{onBlock, onBlocks}
 use Rattle.epf.specs.declared.EpfStep.{EpfStep}
 use Rattle.epf.specs.Outcome.{stepChecks, epfChecks, epfOutcome}
@@ -105,7 +105,7 @@ module _ (r : Run) (sigmas src dst : List Float) (from to : ℕ) (fits : RowsFit
     on : epfOn s ≡ true
     on = lt-ltb 0 (s .settings .epf .iters) some-iters
 
-    sigma-count : length sigmas ≡ down (layout s) * across (layout s)
+    sigma-count : length sigmas ≡ blockRows (layout s) * blockColumns (layout s)
     sigma-count = fits .sigma ∙ rw on
 
     corner : onBlocks (s .filter) ≡ true
@@ -121,7 +121,7 @@ module _ (r : Run) (sigmas src dst : List Float) (from to : ℕ) (fits : RowsFit
       and-second (onBlock (s .filter .left)) (onBlock (s .filter .top)) corner,
       eq-eqb (length src) (setLength 3 s) (fits .source),
       eq-eqb (length dst) (setLength 3 s) (fits .target),
-      eq-eqb (length sigmas) (down (layout s) * across (layout s)) sigma-count,
+      eq-eqb (length sigmas) (blockRows (layout s) * blockColumns (layout s)) sigma-count,
       le-ltb 2 (stepIndex (s .settings) (r .pass)) (index-most (s .settings) (r .pass)),
       rows-true,
     )

@@ -18,7 +18,7 @@ ghost use Prim.Native.Nat.{_<_, min};
 ghost use lib.ListN.{length};
 ghost use Rattle.numbers.specs.Checks.{firstOf};
 ghost use Rattle.record.specs.Record.{marked, openChecks};
-ghost use Rattle.runs.specs.Band.{State, Outcome, setCheck, sigmaCheck, bandNumber, bandOutcome};
+ghost use Rattle.runs.specs.Band.{State, BandOutcome, setCheck, sigmaCheck, bandNumber, bandOutcome};
 ghost use Rattle.run_band.specs.Rows.{RowsFit, passedRows, bandWritten};
 
 // Which number a band gets: 7 for the sets and the block sigmas, then what the record gives it.
@@ -91,7 +91,7 @@ fn marked(run: Run, k: usize) -> Run
 
 // Band k of the pass: filters or copies its rows of the result from the set that is read into the other, and marks it done.
 pub fn band(run: Run, sigmas: &[f32], first: &mut [f32], second: &mut [f32], k: u32) -> RunAnswer
-    ensures { λ r. ⌜ _≡_ {A = Outcome} (record { number = r .number; state = record { run = r .run; sigmas = now (sigmas .entry); first = now (first .exit); second = now (second .exit) } }) (bandOutcome 3 (record { run = run; sigmas = now (sigmas .entry); first = now (first .entry); second = now (second .entry) }) k) ⌝ }
+    ensures { λ r. ⌜ _≡_ {A = BandOutcome} (record { number = r .number; state = record { run = r .run; sigmas = now (sigmas .entry); first = now (first .exit); second = now (second .exit) } }) (bandOutcome 3 (record { run = run; sigmas = now (sigmas .entry); first = now (first .entry); second = now (second .entry) }) k) ⌝ }
 {
     let number = refusal(run, sigmas.len(), first.len(), second.len(), k);
     if number != ACCEPTED {

@@ -18,10 +18,10 @@ use Rattle.region.specs.Laws.{pictured-measured, pictured-width, pictured-heigh
 use Rattle.placement.specs.Placed.{placedChecks}
 use Rattle.planes.specs.Stored.{and-first, and-second}
 use Rattle.layout.specs.Outcome.{layoutOf}
-use Rattle.tiles.specs.Blocks.{across as layoutAcross, down as layoutDown}
+use Rattle.tiles.specs.Blocks.{blockColumns, blockRows}
 use Rattle.frame.specs.declared.Frame.{Frame}
 use Rattle.grids.specs.Table.{badPresence, badGrid}
-use Rattle.blocks.specs.Measures.{across, down, badBlocks}
+use Rattle.blocks.specs.Measures.{blocksAcross, blocksDown, badBlocks}
 use Rattle.groups.specs.Held.{someNotHeld}
 use Rattle.frame.specs.Outcome.{badSides, badSettings}
 use Rattle.groups.specs.Outcome.{frameFits, tableFits, tableRead, someGroup, gridsFit, frameSides, gridSides, tableLength, gridsLength, frameSettings, presences, sigmaChecks, sigmaNumber}
@@ -70,7 +70,7 @@ blocks-good s e =
 
 -- ---- rows, by their tests
 
-count-same : (s : Setup) → down (blocksOf s) * across (blocksOf s) ≡ layoutDown (layout s) * layoutAcross (layout s)
+count-same : (s : Setup) → blocksDown (blocksOf s) * blocksAcross (blocksOf s) ≡ blockRows (layout s) * blockColumns (layout s)
 unfolding layoutOf
 count-same s = rw (blocks-same (s .filter .height), blocks-same (s .filter .width))
 

@@ -24,7 +24,7 @@ pub record State : Type 0 where
   pub second : List Float
 
 -- a call's number, and the state after it
-pub record Outcome : Type 0 where
+pub record BandOutcome : Type 0 where
   pub number : ℕ
   pub state : State
 
@@ -79,16 +79,13 @@ module _ (n : ℕ) where
   }
 
   -- a refused band leaves all as it was
-  unfoldable pub bandOutcome : State → ℕ → Outcome
+  unfoldable pub bandOutcome : State → ℕ → BandOutcome
   bandOutcome t k = record { number = bandNumber t k; state = cond (eqb (bandNumber t k) 0) (bandAccepted t k) t }
 
 -- ---- an advance
 
-unfoldable pub advanceChecks : Run → List Check
-advanceChecks r = overChecks r
-
 abbrev pub advanceNumber : Run → ℕ
-advanceNumber r = firstOf (advanceChecks r)
+advanceNumber r = firstOf (overChecks r)
 
 unfoldable pub advanceOutcome : Run → RunAnswer
 advanceOutcome r = record { number = advanceNumber r; run = cond (eqb (advanceNumber r) 0) (advanced r) r }

@@ -12,18 +12,18 @@ use Rattle.numbers.specs.Checks.{firstOf}
 use Rattle.region.specs.Regions.{inside}
 use Rattle.region.specs.Measures.{pictured}
 use Rattle.layout.specs.Outcome.{layoutOf}
-use Rattle.tiles.specs.Blocks.{across, down}
+use Rattle.tiles.specs.Blocks.{blockColumns, blockRows}
 use Rattle.sigma.specs.Sigma.{blockSigmas}
 use Rattle.sigma.specs.Laws.{length-sigmas}
 use Rattle.placement.specs.Blocks.{onBlocks}
 use Rattle.record.specs.declared.Run.{Run}
 use Rattle.setup.specs.Setup.{layout, epfOn, itersFit, heightFits, countFits, bandCount, setupFits, sized, setLength, sigmaLength, resultRegion, resultLength}
-use Rattle.record.specs.Record.{finished, runFits}
+use Rattle.record.specs.Record.{finished, runFits, overChecks}
 use Rattle.numbers.specs.Tables.{is-true, met, met-given, none-zero, row-passed}
 use Rattle.setup.specs.Laws.{fits-setup}
 use Rattle.record.specs.Laws.{RunFits, run-fits, fits-run, Open, band-open, open-band, Over, pass-over, over-pass}
 use Rattle.runs.specs.Start.{Handed, blocksOf, pictureChecks, sigmasFilled}
-use Rattle.runs.specs.Band.{State, bandChecks, bandNumber, advanceChecks, advanceNumber}
+use Rattle.runs.specs.Band.{State, bandChecks, bandNumber, advanceNumber}
 use Rattle.runs.specs.Result.{resultChecks, resultNumber}
 
 -- ---- start
@@ -66,9 +66,9 @@ pub sigmas-length : (n : ℕ) (h : Handed) → PictureFits n h → length (sigma
 unfolding sigmasFilled layoutOf
 sigmas-length n h f = go (epfOn (h .setup)) (f .sigmas)
   where
-    go : (on : Bool) → length (h .sigmas) ≡ cond on (down (layout (h .setup)) * across (layout (h .setup))) 0
+    go : (on : Bool) → length (h .sigmas) ≡ cond on (blockRows (layout (h .setup)) * blockColumns (layout (h .setup))) 0
         → length (cond on (blockSigmas (h .frame) (blocksOf (h .setup)) (h .table) (h .grids) (h .setup .settings .epf .«sigma_for_modular»)) (h .sigmas))
-        ≡ cond on (down (layout (h .setup)) * across (layout (h .setup))) 0
+        ≡ cond on (blockRows (layout (h .setup)) * blockColumns (layout (h .setup))) 0
     go true e = length-sigmas (h .frame) (blocksOf (h .setup)) (h .table) (h .grids) (h .setup .settings .epf .«sigma_for_modular»)
     go false e = e
 
@@ -91,9 +91,8 @@ pub record AdvanceFits (r : Run) : Type 0 where
   pub pass : Over r
 
 pub advance-fits : (r : Run) → advanceNumber r ≡ 0 → AdvanceFits r
-unfolding advanceChecks
 advance-fits r e =
-    let passed = row-passed (advanceChecks r) tt e in
+    let passed = row-passed (overChecks r) tt e in
     record { run = run-fits r (met (runFits r) (passed 0)); pass = pass-over r (passed 1) }
 
 and-none : (needs b : Bool) → T b → (needs && not b) ≡ false
@@ -120,8 +119,7 @@ band-accepted n t k p q r fits o =
     )
 
 pub advance-accepted : (r : Run) → RunFits r → Over r → advanceNumber r ≡ 0
-unfolding advanceChecks
-advance-accepted r fits o = none-zero (advanceChecks r) (and-none true (runFits r) (fits-run r fits), (over-pass r o, tt))
+advance-accepted r fits o = none-zero (overChecks r) (and-none true (runFits r) (fits-run r fits), (over-pass r o, tt))
 
 pub result-accepted : (n : ℕ) (r : Run) (first second out : List Float) → length first ≡ setLength n (r .setup) → length second ≡ setLength n (r .setup)
     → length out ≡ resultLength n (r .setup) → RunFits r → T (finished r) → resultNumber n r first second out ≡ 0

@@ -10,7 +10,7 @@ use Rattle.region.specs.Measures.{areaFits, pictured}
 use Rattle.planes.specs.declared.Layout.{Layout}
 use Rattle.planes.specs.Band.{resultHeight}
 use Rattle.layout.specs.Outcome.{layoutOf}
-use Rattle.tiles.specs.Blocks.{across, sigmaOf, down}
+use Rattle.tiles.specs.Blocks.{blockColumns, sigmaOf, blockRows}
 use Rattle.placement.specs.Blocks.{ahead, onBlocks}
 use Rattle.passes.specs.Pass.{Area}
 use Rattle.setup.specs.declared.Setup.{Setup}
@@ -25,7 +25,7 @@ epfOn s = ltb 0 (s .settings .epf .iters)
 
 -- the filter region with its block sigmas, row of blocks after row of blocks
 abbrev pub area : Setup → List Float → Area
-area s sigmas = record { width = s .filter .width; height = s .filter .height; top = ahead (s .filter .top); sigma = sigmaOf (across (layout s)) sigmas }
+area s sigmas = record { width = s .filter .width; height = s .filter .height; top = ahead (s .filter .top); sigma = sigmaOf (blockColumns (layout s)) sigmas }
 
 -- ---- bands, a term of document 01's own: rows of the result, the last band perhaps shorter
 
@@ -72,7 +72,7 @@ setLength n s = n * s .image .height * s .image .width
 
 -- one sigma a block of the filter region, none with the edge filter off
 abbrev pub sigmaLength : Setup → ℕ
-sigmaLength s = cond (epfOn s) (down (layout s) * across (layout s)) 0
+sigmaLength s = cond (epfOn s) (blockRows (layout s) * blockColumns (layout s)) 0
 
 -- the result's own region
 abbrev pub resultRegion : Setup → Region

@@ -14,7 +14,7 @@ use Rattle.groups.specs.Held.{notHeld, someNotHeld}
 use Rattle.frame.specs.Outcome.{badSides, badSettings}
 use Rattle.groups.specs.Outcome.{tableFits, gridsFit, sigmaNumber}
 use Rattle.blocks.specs.Measures.{badBlocks}
-use Rattle.sigma.specs.Sigma.{sigmaIn, sigmaOf, aboveAt, sigmaAt, blockSigmas}
+use Rattle.sigma.specs.Sigma.{sigmaIn, frameSigma, aboveAt, blockSigma, blockSigmas}
 
 -- one group across and two down, of 128 blocks a side; the upper one has a grid of one column, the lower none
 abbrev frame : Frame
@@ -27,18 +27,18 @@ abbrev blocks : ℕ → ℕ → Blocks
 blocks top height = record { left = 0; top = top; width = 8; height = height }
 
 -- document 01: group row 0 has grids, row 1 none, and block row 128 repeats row 127
-repeated : (grids : List Float) (modular : Float) → (sigmaAt frame (blocks 0 1040) table grids modular 0 127 ≡ getD grids 127 nan) × (sigmaAt frame (blocks 0 1040) table grids modular 0 128 ≡ getD grids 127 nan) × (sigmaAt frame (blocks 0 1040) table grids modular 0 129 ≡ getD grids 127 nan)
-unfolding sizesOf gridStart cells sigmaIn sigmaOf aboveAt sigmaAt
+repeated : (grids : List Float) (modular : Float) → (blockSigma frame (blocks 0 1040) table grids modular 0 127 ≡ getD grids 127 nan) × (blockSigma frame (blocks 0 1040) table grids modular 0 128 ≡ getD grids 127 nan) × (blockSigma frame (blocks 0 1040) table grids modular 0 129 ≡ getD grids 127 nan)
+unfolding sizesOf gridStart cells sigmaIn frameSigma aboveAt blockSigma
 repeated grids modular = (refl, refl, refl)
 
 -- the list for the filter region of block rows 127 to 129
 listed : (grids : List Float) (modular : Float) → blockSigmas frame (blocks 127 24) table grids modular ≡ getD grids 127 nan ∷ getD grids 127 nan ∷ getD grids 127 nan ∷ []
-unfolding sizesOf gridStart cells sigmaIn sigmaOf aboveAt sigmaAt blockSigmas tab
+unfolding sizesOf gridStart cells sigmaIn frameSigma aboveAt blockSigma blockSigmas tab
 listed grids modular = refl
 
 -- a filter region that starts at block row 128 has no block above, and starts from `sigma_for_modular`
 started : (grids : List Float) (modular : Float) → blockSigmas frame (blocks 128 16) table grids modular ≡ modular ∷ modular ∷ []
-unfolding sizesOf gridStart cells sigmaIn sigmaOf aboveAt sigmaAt blockSigmas tab
+unfolding sizesOf gridStart cells sigmaIn frameSigma aboveAt blockSigma blockSigmas tab
 started grids modular = refl
 
 -- these inputs are accepted
@@ -54,5 +54,5 @@ corner : (grids : List Float) (modular : Float)
     grids
     modular
     ≡ getD grids 16383 nan ∷ getD grids 32640 nan ∷ getD grids 32895 nan ∷ getD grids 49152 nan ∷ []
-unfolding sizesOf gridStart cells sigmaIn sigmaOf aboveAt sigmaAt blockSigmas tab
+unfolding sizesOf gridStart cells sigmaIn frameSigma aboveAt blockSigma blockSigmas tab
 corner grids modular = refl

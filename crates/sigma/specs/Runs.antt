@@ -24,10 +24,10 @@ use Rattle.frame.specs.Outcome.{frameOutcome}
 use Rattle.blocks.specs.declared.Blocks.{Blocks}
 use Rattle.sigma.specs.declared.Run.{Run}
 use Rattle.grids.specs.Table.{presence, gridWidth, gridHeight, gridStart, badGrid, someBelow}
-use Rattle.blocks.specs.Measures.{across, down}
+use Rattle.blocks.specs.Measures.{blocksAcross, blocksDown}
 use Rattle.blocks.specs.Laws.{Measured, across-le}
 use Rattle.groups.specs.Held.{groupAt, notHeld, someNotHeld}
-use Rattle.sigma.specs.Sigma.{missing, sigmaIn, sigmaOf, aboveAt, sigmaAt, blockSigmas}
+use Rattle.sigma.specs.Sigma.{missing, sigmaIn, frameSigma, aboveAt, blockSigma, blockSigmas}
 use Rattle.groups.specs.Laws.{TableOf, entry-lt, entries-le, Held, held, Accepted}
 use Rattle.grids.specs.Laws.{some-fewer, none-below, grid-sides, lacks-not, cells-present, start-ends}
 
@@ -169,12 +169,12 @@ module _ (f : Frame) (sizes : GroupSizes) (t : List ℕ) (grids : List Float) (h
 -- a row's next run
 module _ (f : Frame) (t : List ℕ) (grids : List Float) (modular : Float) (s₀ : List Float) (n o left by : ℕ) where
   unfoldable pub rowSigma : ℕ → Float
-  rowSigma x = sigmaOf f t grids modular (aboveIn s₀ n modular (o + x)) (left + x) by
+  rowSigma x = frameSigma f t grids modular (aboveIn s₀ n modular (o + x)) (left + x) by
 
   pub row-turn : (s s' : List Float) (x limit : ℕ) (r : Run) → s ≡ fill s₀ o x rowSigma → RunOf f (left + x) by limit r → x + limit ≤ n
       → s' ≡ fill s (o + x) (r .n) (λ i. sigmaIn t grids modular (aboveIn s n modular (o + x + i)) (r .group) (r .column + i) (r .row))
       → s' ≡ fill s₀ o (x + r .n) rowSigma
-  unfolding rowSigma sigmaOf
+  unfolding rowSigma frameSigma
   row-turn s s' x limit r e is l e' = e' ∙ rw e (fill-then s₀ o x (r .n) rowSigma _ rowSigma (λ i l. refl) each)
     where
       each : (i : ℕ) → i < r .n → sigmaIn t grids modular (aboveIn (fill s₀ o x rowSigma) n modular (o + x + i)) (r .group) (r .column + i) (r .row) ≡ rowSigma (x + i)
@@ -197,42 +197,42 @@ pub record RowFits (f : Frame) (sizes : GroupSizes) (t : List ℕ) (grids : List
 
 -- the sigma at an index: so many blocks of a row, so many rows
 unfoldable pub flatSigma : Frame → Blocks → List ℕ → List Float → Float → ℕ → Float
-flatSigma f b t grids modular i = sigmaAt f b t grids modular (i % across b) (i / across b)
+flatSigma f b t grids modular i = blockSigma f b t grids modular (i % blocksAcross b) (i / blocksAcross b)
 
 module _ (f : Frame) (b : Blocks) (t : List ℕ) (grids : List Float) (modular : Float) (s₀ : List Float) where
   abbrev flat : ℕ → Float
   flat = flatSigma f b t grids modular
 
-  flat-is : (x y o : ℕ) → x < across b → o ≡ y * across b → flat (o + x) ≡ sigmaAt f b t grids modular x y
+  flat-is : (x y o : ℕ) → x < blocksAcross b → o ≡ y * blocksAcross b → flat (o + x) ≡ blockSigma f b t grids modular x y
   unfolding flatSigma
   flat-is x y o p e = rw (e, digits-mod y p, digits-div y p)
 
   -- the sigma above a block is the one before it by a row
-  above-is : (x y o : ℕ) → x < across b → o ≡ y * across b → o ≤ length s₀ → aboveIn (fill s₀ 0 o flat) (across b) modular (o + x) ≡ aboveAt f b t grids modular x y
-  unfolding aboveIn aboveAt sigmaAt
-  above-is x zero o p e room = rw (lt-ltb (o + x) (across b) (omega (arith, zero-mul (across b))))
+  above-is : (x y o : ℕ) → x < blocksAcross b → o ≡ y * blocksAcross b → o ≤ length s₀ → aboveIn (fill s₀ 0 o flat) (blocksAcross b) modular (o + x) ≡ aboveAt f b t grids modular x y
+  unfolding aboveIn aboveAt blockSigma
+  above-is x zero o p e room = rw (lt-ltb (o + x) (blocksAcross b) (omega (arith, zero-mul (blocksAcross b))))
   above-is x (suc y) o p e room =
-      let k : ℕ = y * across b in
-      let z : o ≡ k + across b = e ∙ suc-mul y (across b) in
-      let i : o + x - across b ≡ 0 + (k + x) = omega arith in
-      rw (le-ltb (o + x) (across b) (omega arith), i) (fill-at s₀ 0 o flat (k + x) (omega arith) (omega arith) ∙ flat-is x y k p refl)
+      let k : ℕ = y * blocksAcross b in
+      let z : o ≡ k + blocksAcross b = e ∙ suc-mul y (blocksAcross b) in
+      let i : o + x - blocksAcross b ≡ 0 + (k + x) = omega arith in
+      rw (le-ltb (o + x) (blocksAcross b) (omega arith), i) (fill-at s₀ 0 o flat (k + x) (omega arith) (omega arith) ∙ flat-is x y k p refl)
 
   -- a row's turn, with n blocks across
-  pub rows-turn : (s s' : List Float) (n y o : ℕ) → n ≡ across b → o ≡ y * n → o ≤ length s₀ → s ≡ fill s₀ 0 o flat
+  pub rows-turn : (s s' : List Float) (n y o : ℕ) → n ≡ blocksAcross b → o ≡ y * n → o ≤ length s₀ → s ≡ fill s₀ 0 o flat
       → s' ≡ fill s o n (rowSigma f t grids modular s n o (b .left) (b .top + y)) → s' ≡ fill s₀ 0 (o + n) flat
-  unfolding rowSigma sigmaAt
+  unfolding rowSigma blockSigma
   rows-turn s s' n y o q e room is is' =
       let z : 0 + o ≡ o = omega arith in
-      is' ∙ rw (is, q) (rw z at (fill-then s₀ 0 o (across b) flat _ flat (λ i l. refl) each))
+      is' ∙ rw (is, q) (rw z at (fill-then s₀ 0 o (blocksAcross b) flat _ flat (λ i l. refl) each))
     where
-      each : (x : ℕ) → x < across b → rowSigma f t grids modular (fill s₀ 0 o flat) (across b) o (b .left) (b .top + y) x ≡ flat (o + x)
-      each x p = let e' : o ≡ y * across b = rw (← q) e in rw (above-is x y o p e' room) (sym (flat-is x y o p e'))
+      each : (x : ℕ) → x < blocksAcross b → rowSigma f t grids modular (fill s₀ 0 o flat) (blocksAcross b) o (b .left) (b .top + y) x ≡ flat (o + x)
+      each x p = let e' : o ≡ y * blocksAcross b = rw (← q) e in rw (above-is x y o p e' room) (sym (flat-is x y o p e'))
 
-  pub rows-end : (s : List Float) (n y o : ℕ) → n ≡ across b → o ≡ y * n → y ≡ down b → length s₀ ≡ down b * across b → s ≡ fill s₀ 0 o flat → s ≡ blockSigmas f b t grids modular
+  pub rows-end : (s : List Float) (n y o : ℕ) → n ≡ blocksAcross b → o ≡ y * n → y ≡ blocksDown b → length s₀ ≡ blocksDown b * blocksAcross b → s ≡ fill s₀ 0 o flat → s ≡ blockSigmas f b t grids modular
   unfolding blockSigmas flatSigma
   rows-end s n y o q e d l is =
-      let z : o ≡ down b * across b = e ∙ rw (d, q) in
-      is ∙ rw z (fill-whole s₀ (down b * across b) _ l)
+      let z : o ≡ blocksDown b * blocksAcross b = e ∙ rw (d, q) in
+      is ∙ rw z (fill-whole s₀ (blocksDown b * blocksAcross b) _ l)
 
 -- all that the rows of a filter region need
 pub record AllFits (f : Frame) (sizes : GroupSizes) (b : Blocks) (t : List ℕ) (grids : List Float) : Type 0 where
@@ -240,7 +240,7 @@ pub record AllFits (f : Frame) (sizes : GroupSizes) (b : Blocks) (t : List ℕ) 
   pub measured-blocks : Measured b
   pub held-all : someNotHeld f b t ≡ false
 
-pub row-fits : (f : Frame) (sizes : GroupSizes) (b : Blocks) (t : List ℕ) (grids : List Float) → AllFits f sizes b t grids → (n y : ℕ) → n ≡ across b → y < down b
+pub row-fits : (f : Frame) (sizes : GroupSizes) (b : Blocks) (t : List ℕ) (grids : List Float) → AllFits f sizes b t grids → (n y : ℕ) → n ≡ blocksAcross b → y < blocksDown b
     → RowFits f sizes t grids (b .left) (b .top + y) n
 unfolding someNotHeld
 row-fits f sizes b t grids h n y q l =
@@ -248,7 +248,7 @@ row-fits f sizes b t grids h n y q l =
       grids-of = h .grids-of;
       left-le = h .measured-blocks .left-le;
       n-le = across-le b (h .measured-blocks);
-      held-all = none-below (down b) y _ (h .held-all) l;
+      held-all = none-below (blocksDown b) y _ (h .held-all) l;
     })
 
 -- an acceptance with the edge filter on, and the sizes that `group_sizes` answers

@@ -9,7 +9,7 @@ use Rattle.frame.specs.declared.Frame.{Frame}
 use Rattle.frame.specs.Sizes.{innerOf}
 use Rattle.blocks.specs.declared.Blocks.{Blocks}
 use Rattle.grids.specs.Table.{present, gridWidth, gridStart}
-use Rattle.blocks.specs.Measures.{across, down}
+use Rattle.blocks.specs.Measures.{blocksAcross, blocksDown}
 use Rattle.groups.specs.Held.{groupAt}
 
 -- What a missing grid gives: the sigma of the block above. Above the top block row that is `sigma_for_modular`.
@@ -22,20 +22,20 @@ sigmaIn t grids modular above group column row =
     cond (present t group) (getD grids (gridStart t group + (row * gridWidth t group + column)) nan) (missing modular above)
 
 -- the sigma of block (bx, by) of the frame
-unfoldable pub sigmaOf : Frame → List ℕ → List Float → Float → Float → ℕ → ℕ → Float
-sigmaOf f t grids modular above bx by =
+unfoldable pub frameSigma : Frame → List ℕ → List Float → Float → Float → ℕ → ℕ → Float
+frameSigma f t grids modular above bx by =
     sigmaIn t grids modular above (groupAt f bx by) (innerOf bx (f .«group_size_shift»)) (innerOf by (f .«group_size_shift»))
 
 module _ (f : Frame) (b : Blocks) (t : List ℕ) (grids : List Float) (modular : Float) where
   -- the sigma above block row y of the filter region, at its block column x
   unfoldable pub aboveAt : ℕ → ℕ → Float
   aboveAt x zero = modular
-  aboveAt x (suc y) = sigmaOf f t grids modular (aboveAt x y) (b .left + x) (b .top + y)
+  aboveAt x (suc y) = frameSigma f t grids modular (aboveAt x y) (b .left + x) (b .top + y)
 
   -- the sigma at block column x and block row y of the filter region
-  unfoldable pub sigmaAt : ℕ → ℕ → Float
-  sigmaAt x y = sigmaOf f t grids modular (aboveAt x y) (b .left + x) (b .top + y)
+  unfoldable pub blockSigma : ℕ → ℕ → Float
+  blockSigma x y = frameSigma f t grids modular (aboveAt x y) (b .left + x) (b .top + y)
 
   -- all sigmas of the filter region, row of blocks after row
   unfoldable pub blockSigmas : List Float
-  blockSigmas = tab (down b * across b) (λ i. sigmaAt (i % across b) (i / across b))
+  blockSigmas = tab (blocksDown b * blocksAcross b) (λ i. blockSigma (i % blocksAcross b) (i / blocksAcross b))

@@ -9,7 +9,7 @@ ghost use lib.ListN.{length};
 ghost use Rattle.planes.specs.Fill.{fill};
 ghost use Rattle.frame.specs.Sizes.{groupOf, sizesOf};
 ghost use Rattle.frame.specs.Laws.{Sound};
-ghost use Rattle.blocks.specs.Measures.{across, down};
+ghost use Rattle.blocks.specs.Measures.{blocksAcross, blocksDown};
 ghost use Rattle.sigma.specs.Sigma.{missing, sigmaIn, blockSigmas};
 ghost use Rattle.sigma.specs.Outcome.{SigmasOutcome, sigmasOutcome};
 ghost use Rattle.sigma.specs.Runs.{aboveIn, rowSigma, RunFits, RunOf, RowFits, AllFits};
@@ -154,7 +154,7 @@ fn fill_rows(
     modular: f32,
     sigmas: &mut [f32],
 )
-    requires { ⌜ AllFits frame sizes blocks (now table) (now grids) × (length (now sigmas) ≡ down blocks * across blocks) ⌝ }
+    requires { ⌜ AllFits frame sizes blocks (now table) (now grids) × (length (now sigmas) ≡ blocksDown blocks * blocksAcross blocks) ⌝ }
     ensures { λ _. ⌜ now (sigmas .exit) ≡ blockSigmas frame blocks (now (table .entry)) (now (grids .entry)) modular ⌝ }
 {
     let across = blocks::blocks_along(blocks.width);

@@ -7,13 +7,13 @@ use Rattle.frame.specs.Sizes.{blocksAlong}
 use Rattle.planes.specs.declared.Layout.{Layout}
 
 -- blocks across the filter region
-abbrev pub across : Layout → ℕ
-across l = blocksAlong (l .width)
+abbrev pub blockColumns : Layout → ℕ
+blockColumns l = blocksAlong (l .width)
 
 -- sigmas row of blocks after row of blocks
 abbrev pub sigmaOf : ℕ → List Float → ℕ → ℕ → Float
 sigmaOf n sigmas = λ bx by. getD sigmas (by * n + bx) nan
 
 -- blocks below each other in the filter region
-abbrev pub down : Layout → ℕ
-down l = blocksAlong (l .height)
+abbrev pub blockRows : Layout → ℕ
+blockRows l = blocksAlong (l .height)

@@ -22,7 +22,7 @@ use Rattle.rects.specs.declared.Rect.{Rect}
 use Rattle.rects.specs.Rects.{RectFits}
 use Rattle.tiles.specs.declared.Step.{Step}
 use Rattle.tiles.specs.Tile.{sigmaStart, TileFits, stepOver}
-use Rattle.tiles.specs.Blocks.{across, down}
+use Rattle.tiles.specs.Blocks.{blockColumns, blockRows}
 
 -- no columns, no rows
 rows-empty : (d : List Float) (at stride m : ℕ) (v : ℕ → ℕ → Float) → d ≡ rowsFill d at stride 0 m v
@@ -48,7 +48,7 @@ pub record RegionFits (l : Layout) (n : ℕ) (s : Step) (top len count : ℕ) : 
   pub layout : LayoutFits l
   pub planes : n ≤ 3
   pub set : len ≡ n * l .image .height * l .image .width
-  pub sigmas : count ≡ down l * across l
+  pub sigmas : count ≡ blockRows l * blockColumns l
   pub low : s .step < 3
   pub place : top ≤ 4294967296
 
@@ -75,13 +75,13 @@ module _ (l : Layout) (n : ℕ) (s : Step) (top len count y rows x cols : ℕ) (
   tile-room h e = record { layout = fits .layout; planes = fits .planes; across = omega arith; down = strip .inside; some = strip .some; set = fits .set }
 
   -- the strip's sigmas
-  pub strip-sigmas : (y / 8 * across l + across l ≤ count) × (y / 8 * across l ≤ 4194304)
+  pub strip-sigmas : (y / 8 * blockColumns l + blockColumns l ≤ count) × (y / 8 * blockColumns l ≤ 4194304)
   strip-sigmas =
-      let a : y / 8 + 1 ≤ down l = omega (arith, strip .inside, strip .some) in
+      let a : y / 8 + 1 ≤ blockRows l = omega (arith, strip .inside, strip .some) in
       let b : y / 8 ≤ 2048 = omega (arith, strip .inside, fits .layout .down, fits .layout .high) in
-      let w : across l ≤ 2048 = omega (arith, fits .layout .across, fits .layout .wide) in
+      let w : blockColumns l ≤ 2048 = omega (arith, fits .layout .across, fits .layout .wide) in
       let z : y / 8 + 1 ≡ suc (y / 8) = omega arith in
-      (omega (arith, fits .sigmas, suc-mul (y / 8) (across l), rw z at (mul-le-mul-right (across l) a)), mul-le-mul b w)
+      (omega (arith, fits .sigmas, suc-mul (y / 8) (blockColumns l), rw z at (mul-le-mul-right (blockColumns l) a)), mul-le-mul b w)
 
   pub tile-sigmas : x < l .width → x % 8 ≡ 0 → cols ≡ min (l .width - x) 56 → sigmaStart l x y + blocksAlong cols ≤ count
   tile-sigmas h m e = omega (arith, strip-sigmas .0)
@@ -118,7 +118,7 @@ region-long e f = rw e f
 -- n planes in sets of those lengths, a sigma for each block, a step, and rows of the filter region
 abbrev pub regionFits : Layout → ℕ → Step → ℕ → ℕ → ℕ → ℕ → ℕ → ℕ → Bool
 regionFits l n s top from to src dst count =
-    setFits l n src && (setFits l n dst && (eqb count (down l * across l) && (ltb (s .step) 3 && (leb top 4294967296 && (leb from to && leb to (l .height))))))
+    setFits l n src && (setFits l n dst && (eqb count (blockRows l * blockColumns l) && (ltb (s .step) 3 && (leb top 4294967296 && (leb from to && leb to (l .height))))))
 
 -- what filtering them leaves: the step's samples in those rows, and nothing where these do not fit
 unfoldable pub regionOf : ℕ → Layout → Step → ℕ → ℕ → ℕ → List Float → List Float → List Float → List Float
@@ -140,8 +140,8 @@ module _ (n : ℕ) (l : Layout) (s : Step) (top from to : ℕ) (sigmas src dst :
   pub no-target : setFits l n (length dst) ≡ false → Kept
   no-target e = kept (simp (e, and-false))
 
-  pub no-sigmas : (length sigmas ≡ down l * across l → ⊥) → Kept
-  no-sigmas h = kept (simp (ne-eqb (length sigmas) (down l * across l) h, and-false))
+  pub no-sigmas : (length sigmas ≡ blockRows l * blockColumns l → ⊥) → Kept
+  no-sigmas h = kept (simp (ne-eqb (length sigmas) (blockRows l * blockColumns l) h, and-false))
 
   pub no-step : 2 < s .step → Kept
   no-step h = kept (simp (le-ltb (s .step) 3 h, and-false))
@@ -155,7 +155,7 @@ module _ (n : ℕ) (l : Layout) (s : Step) (top from to : ℕ) (sigmas src dst :
   pub no-rows : l .height < to → Kept
   no-rows h = kept (simp (lt-leb to (l .height) h, and-false))
 
-  pub region-fits : setFits l n (length src) ≡ true → setFits l n (length dst) ≡ true → length sigmas ≡ down l * across l → s .step ≤ 2 → top ≤ 4294967296
+  pub region-fits : setFits l n (length src) ≡ true → setFits l n (length dst) ≡ true → length sigmas ≡ blockRows l * blockColumns l → s .step ≤ 2 → top ≤ 4294967296
       → RegionFits l n s top (length dst) (length sigmas) × (length src ≡ length dst)
   region-fits a b c d e =
       let u = set-facts l n (length src) a in
@@ -170,7 +170,7 @@ module _ (n : ℕ) (l : Layout) (s : Step) (top from to : ℕ) (sigmas src dst :
       rw (
         set-true l n (length src) (record { layout = f .layout; planes = f .planes; size = e ∙ f .set }),
         set-true l n (length dst) (record { layout = f .layout; planes = f .planes; size = f .set }),
-        eq-eqb (length sigmas) (down l * across l) (f .sigmas),
+        eq-eqb (length sigmas) (blockRows l * blockColumns l) (f .sigmas),
         lt-ltb (s .step) 3 (f .low),
         le-leb top 4294967296 (f .place),
         le-leb from to p,
@@ -181,12 +181,12 @@ module _ (n : ℕ) (l : Layout) (s : Step) (top from to : ℕ) (sigmas src dst :
 pub record BlocksRoom (l : Layout) : Type 0 where
   pub high : l .height ≤ 16384
   pub wide : l .width ≤ 16384
-  pub count : down l * across l ≤ 4198401
+  pub count : blockRows l * blockColumns l ≤ 4198401
 
 pub blocks-room : (l : Layout) → LayoutFits l → BlocksRoom l
 blocks-room l f =
     let h : l .height ≤ 16384 = omega (arith, f .down, f .high) in
     let w : l .width ≤ 16384 = omega (arith, f .across, f .wide) in
-    let a : down l ≤ 2049 = omega arith in
-    let b : across l ≤ 2049 = omega arith in
+    let a : blockRows l ≤ 2049 = omega arith in
+    let b : blockColumns l ≤ 2049 = omega arith in
     record { high = h; wide = w; count = mul-le-mul a b }

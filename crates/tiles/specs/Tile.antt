@@ -35,7 +35,7 @@ use Rattle.lanes.specs.Lanes.{laneOf, lanesOf, lanes-done}
 use Rattle.lanes.specs.Meaning.{lane-means}
 use Rattle.inside.specs.Inside.{liesInside, Inside, inside-facts, insideOf, insideFilled, inside-done, cornerOf, beside, beside-alike, lane-means as inside-means}
 use Rattle.tiles.specs.declared.Step.{Step}
-use Rattle.tiles.specs.Blocks.{across, sigmaOf}
+use Rattle.tiles.specs.Blocks.{blockColumns, sigmaOf}
 
 -- ---- the step over the filter region
 
@@ -45,7 +45,7 @@ passOf n s = record { step = s .step; limit = s .limit; scales = scaled n (s .sc
 
 -- row 0 of the filter region is row `top` of the image
 unfoldable pub stepOver : ℕ → Layout → Step → ℕ → List Float → List Float → Picture
-stepOver n l s top sigmas src = epfPass (passOf n s) (l .width) (l .height) top (sigmaOf (across l) sigmas) (inner l src)
+stepOver n l s top sigmas src = epfPass (passOf n s) (l .width) (l .height) top (sigmaOf (blockColumns l) sigmas) (inner l src)
 
 -- ---- what a lane sees is what the definition sees
 
@@ -92,7 +92,7 @@ pub record TileFits (l : Layout) (n : ℕ) (q : Rect) : Type 0 where
 
 -- the sigma of the block at column x and row y
 abbrev pub sigmaStart : Layout → ℕ → ℕ → ℕ
-sigmaStart l x y = y / 8 * across l + x / 8
+sigmaStart l x y = y / 8 * blockColumns l + x / 8
 
 -- the same of a tile's first block, and of the block of its column i
 abbrev pub sigmaFirst : Layout → Rect → ℕ
@@ -113,18 +113,18 @@ module _ (l : Layout) (n : ℕ) (s : Step) (top : ℕ) (sigmas src : List Float)
   factor r i = multiplier (s .scale) (s .edge) (top + y + r) i
 
   -- the sigma of column i
-  sigma-is : (r i : ℕ) → r < q .rows → i < q .cols → sigmaIn l q sigmas i ≡ sigmaOf (across l) sigmas ((x + i) / 8) ((y + r) / 8)
+  sigma-is : (r i : ℕ) → r < q .rows → i < q .cols → sigmaIn l q sigmas i ≡ sigmaOf (blockColumns l) sigmas ((x + i) / 8) ((y + r) / 8)
   sigma-is r i R I =
       let a : (y + r) / 8 ≡ y / 8 = omega (arith, fits .rows-in) in
       let b : (x + i) / 8 ≡ x / 8 + i / 8 = omega (arith, fits .start) in
-      let c : sigmaStart l x y + i / 8 ≡ y / 8 * across l + (x / 8 + i / 8) = omega arith in
+      let c : sigmaStart l x y + i / 8 ≡ y / 8 * blockColumns l + (x / 8 + i / 8) = omega arith in
       rw (a, b, c)
 
   -- a copied sample
   pub copied-is : (c r i : ℕ) → r < q .rows → i < q .cols → copied (sigmaIn l q sigmas i) (s .limit) ≡ true → inner l src c (x + i) (y + r) ≡ stepOver n l s top sigmas src c (x + i) (y + r)
   unfolding stepOver epfPass epf
   copied-is c r i R I e =
-      let f : copied (sigmaOf (across l) sigmas ((x + i) / 8) ((y + r) / 8)) (s .limit) ≡ true = rw (sigma-is r i R I) at e in
+      let f : copied (sigmaOf (blockColumns l) sigmas ((x + i) / 8) ((y + r) / 8)) (s .limit) ≡ true = rw (sigma-is r i R I) at e in
       rw f (sym (around-inside (l .width) (l .height) (inner l src) (x + i) (y + r) c (pos 0) (pos 0) (x + i) (y + r) (ap pos (omega arith)) (ap pos (omega arith)) (omega (arith, fits .across)) (omega (arith, fits .down))))
 
   -- a filtered one, through a reader that shows what the definition sees

@@ -1,13 +1,13 @@
 -- `gabor_kernel::edge4` meets its contract: the code is the formula of an end of the first or the last row, rounding for rounding. Assumes nothing.
 use mathlib.Core.Path.{refl}
-use Rattle.gabor_kernel.specs.Formula.{value, formula}
-use Rattle.gabor_kernel.specs.Gabor.{alone, scaled}
+use Rattle.gabor_kernel.specs.Formula.{evaluate, formula}
+use Rattle.gabor_kernel.specs.Gabor.{alone, gaborBy}
 use Rattle.gabor_kernel.specs.Nine.{nine, pick}
 use Rattle.gabor_kernel.proofs.edge4.Statement.{statement}
 use Rattle.gabor_kernel.proofs.edge4.Tie as tie
 
 returns : tie.Need-returns
-unfolding scaled alone value formula nine pick
+unfolding gaborBy alone evaluate formula nine pick
 returns c = refl
 
 pub edge4-spec : {M : Type 1} → statement M

@@ -1,13 +1,13 @@
 -- `gabor_kernel::lone3` meets its contract: the code is the formula of a row of one column with rows on both sides, rounding for rounding. Assumes nothing.
 use mathlib.Core.Path.{refl}
-use Rattle.gabor_kernel.specs.Formula.{value, formula}
-use Rattle.gabor_kernel.specs.Gabor.{alone, scaled}
+use Rattle.gabor_kernel.specs.Formula.{evaluate, formula}
+use Rattle.gabor_kernel.specs.Gabor.{alone, gaborBy}
 use Rattle.gabor_kernel.specs.Nine.{nine, pick}
 use Rattle.gabor_kernel.proofs.lone3.Statement.{statement}
 use Rattle.gabor_kernel.proofs.lone3.Tie as tie
 
 returns : tie.Need-returns
-unfolding scaled alone value formula nine pick
+unfolding gaborBy alone evaluate formula nine pick
 returns c = refl
 
 pub lone3-spec : {M : Type 1} → statement M

@@ -1,11 +1,11 @@
 -- `gabor_kernel::solo_centre` meets its contract. Assumes nothing.
 use mathlib.Core.Path.{refl}
-use Rattle.gabor_kernel.specs.Formula.{value}
+use Rattle.gabor_kernel.specs.Formula.{evaluate}
 use Rattle.gabor_kernel.proofs.solo_centre.Statement.{statement}
 use Rattle.gabor_kernel.proofs.solo_centre.Tie as tie
 
 returns : tie.Need-returns
-unfolding value
+unfolding evaluate
 returns c = refl
 
 pub solo-centre-spec : {M : Type 1} → statement M

@@ -5,7 +5,7 @@ use Prim.Native.Nat.{_*_, _≤_}
 use borrow.Author.Tests.{not-true, not-false}
 use borrow.Author.Needs.{needs}
 use native.Mathlib.Omega.{arith}
-use Rattle.blocks.specs.Measures.{across, down}
+use Rattle.blocks.specs.Measures.{blocksAcross, blocksDown}
 use Rattle.blocks.specs.Laws.{count-le}
 use Rattle.groups.proofs.sigma_count.Statement.{statement}
 use Rattle.groups.proofs.sigma_count.Tie as tie
@@ -17,7 +17,7 @@ module _ (c : tie.After-blocks-along2) where
   start : tie.Start
   start = c .before .before .before
 
-  product : c .blocks-along2 .result * c .before .blocks-along .result ≡ down (start .args .blocks) * across (start .args .blocks)
+  product : c .blocks-along2 .result * c .before .blocks-along .result ≡ blocksDown (start .args .blocks) * blocksAcross (start .args .blocks)
   unfolding start
   product = cc
 

@@ -9,7 +9,7 @@ use native.Mathlib.Omega.{arith}
 use mir.Facts.{toZ-ofZ}
 use Rattle.mirror.specs.Mirror.{mirror}
 use Rattle.mirror.specs.Laws.{mirror-mag}
-use Rattle.mirror.specs.Outcome.{answered}
+use Rattle.mirror.specs.Outcome.{mirrorAnswered}
 use Rattle.mirror.proofs.mirror.Statement.{statement}
 use Rattle.mirror.proofs.mirror.Tie as tie
 
@@ -44,7 +44,7 @@ returns-5 c =
     let place : c .place .result ≡ mirror z n = c .place .ensures ∙ ap (λ (k : ℕ). mirror (pos k) n) (c .before .unsigned .ensures ∙ ap mag e) ∙ mirror-mag z n in
     rw
     (le-ltb n 1 (omega arith), le-ltb 16384 n (omega arith), rw e at (c .before .before .before .if3 .left), rw e at (c .before .before .if4 .left))
-    (ap (answered 0) place)
+    (ap (mirrorAnswered 0) place)
 
 pub mirror-spec : {M : Type 1} → statement M
 mirror-spec =

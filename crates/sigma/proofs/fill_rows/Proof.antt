@@ -8,7 +8,7 @@ use native.Mathlib.Omega.{arith}
 use denote.Ref.{now}
 use lib.ListN.{length}
 use Rattle.planes.specs.Fill.{fill}
-use Rattle.blocks.specs.Measures.{across, down}
+use Rattle.blocks.specs.Measures.{blocksAcross, blocksDown}
 use Rattle.blocks.specs.Laws.{down-le}
 use Rattle.sigma.specs.Runs.{flatSigma, row-fits, rows-turn, rows-end}
 use Rattle.sigma.proofs.fill_rows.Statement.{statement}
@@ -39,17 +39,17 @@ module _ (c : tie.In-loop Inv-loop μ-loop) where
   abbrev n : ℕ
   n = ready .before .blocks-along .result
 
-  n-is : n ≡ across (start .args .blocks)
+  n-is : n ≡ blocksAcross (start .args .blocks)
   n-is = ready .before .blocks-along .ensures
 
-  y-lt : c .before .loop .y < down (start .args .blocks)
+  y-lt : c .before .loop .y < blocksDown (start .args .blocks)
   y-lt = omega (arith, c .loop-test .taken, ready .blocks-along2 .ensures)
 
-  length-is : length (now (start .args .sigmas)) ≡ down (start .args .blocks) * n
-  length-is = start .pre .1 ∙ ap (λ (k : ℕ). down (start .args .blocks) * k) (sym n-is)
+  length-is : length (now (start .args .sigmas)) ≡ blocksDown (start .args .blocks) * n
+  length-is = start .pre .1 ∙ ap (λ (k : ℕ). blocksDown (start .args .blocks) * k) (sym n-is)
 
   room : c .before .loop .o + n ≤ length (now (start .args .sigmas))
-  room = omega (arith, row-room (c .before .loop .y) (down (start .args .blocks)) n _ y-lt length-is, c .before .loop .inv .1)
+  room = omega (arith, row-room (c .before .loop .y) (blocksDown (start .args .blocks)) n _ y-lt length-is, c .before .loop .inv .1)
 
 fill-row-requires : tie.Need-fill-row-requires Inv-loop μ-loop
 fill-row-requires c κs =

@@ -9,7 +9,7 @@ use denote.Ref.{now}
 use lib.ListN.{length}
 use Rattle.planes.specs.Band.{setFits}
 use Rattle.planes.specs.Room.{set-facts}
-use Rattle.tiles.specs.Blocks.{across, down}
+use Rattle.tiles.specs.Blocks.{blockColumns, blockRows}
 use Rattle.tiles.specs.Region.{RegionFits, BlocksRoom, blocks-room, no-source, no-target, no-sigmas, no-step, no-top, no-order, no-rows, region-fits, region-done}
 use Rattle.tiles.proofs.region.filter_region.Statement.{statement}
 use Rattle.tiles.proofs.region.filter_region.Tie as tie
@@ -30,7 +30,7 @@ module _ (c : tie.Else2) where
 
 -- the blocks are counted
 module _ (c : tie.After-blocks-of2) where
-  counted : c .before .blocks-of .result * c .blocks-of2 .result ≡ down (start (c .before .before) .args .l) * across (start (c .before .before) .args .l)
+  counted : c .before .blocks-of .result * c .blocks-of2 .result ≡ blockRows (start (c .before .before) .args .l) * blockColumns (start (c .before .before) .args .l)
   counted = rw (c .before .blocks-of .ensures, c .blocks-of2 .ensures)
 
 -- every test held

@@ -3,15 +3,15 @@ use Prim.Native.Nat.{_+_, _*_, _/_, _≤_}
 use native.Mathlib.Nat.{mul-le-mul}
 use native.Mathlib.Omega.{arith}
 use borrow.Author.Needs.{needs}
-use Rattle.tiles.specs.Blocks.{across}
+use Rattle.tiles.specs.Blocks.{blockColumns}
 use Rattle.tiles.proofs.tile.first_sigma.Statement.{statement}
 use Rattle.tiles.proofs.tile.first_sigma.Tie as tie
 
 -- the rows of blocks above, in numbers of the machine
-small : (s : tie.Start) → s .args .rect .y / 8 * across (s .args .l) ≤ 2048 * 2048
+small : (s : tie.Start) → s .args .rect .y / 8 * blockColumns (s .args .l) ≤ 2048 * 2048
 small s =
     let a : s .args .rect .y / 8 ≤ 2048 = omega (arith, s .pre) in
-    let b : across (s .args .l) ≤ 2048 = omega (arith, s .pre) in
+    let b : blockColumns (s .args .l) ≤ 2048 = omega (arith, s .pre) in
     mul-le-mul a b
 
 pub first-sigma-spec : {M : Type 1} → statement M
