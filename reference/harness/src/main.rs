@@ -2,7 +2,7 @@
 //!
 //! `harness [--scale N]` prints a table of what was compared and fails if anything differs;
 //! N multiplies the random cases, and `harness --some` takes of each row a thousand cases or more,
-//! or all that it has.
+//! or all that it has; `harness --some K N` does the K-th of N shares of that, counted from 0.
 //! `harness bench [SECTION...]` prints times beside the original's and the memory of a run, and
 //! `harness record` a sample of the original's answers as text.
 
@@ -37,10 +37,14 @@ fn main() -> ExitCode {
     let arguments: Vec<String> = std::env::args().skip(1).collect();
     let arguments: Vec<&str> = arguments.iter().map(String::as_str).collect();
     match arguments[..] {
-        [] => compare(Amount::All(1)),
-        ["--some"] => compare(Amount::Some),
+        [] => compare(Amount::All(1), &SECTIONS),
+        ["--some"] => compare(Amount::Some, &SECTIONS),
+        ["--some", k, n] => match (k.parse(), n.parse()) {
+            (Ok(k), Ok(n)) if k < n => compare(Amount::Some, &share(k, n)),
+            _ => usage(),
+        },
         ["--scale", scale] => match scale.parse() {
-            Ok(scale) => compare(Amount::All(scale)),
+            Ok(scale) => compare(Amount::All(scale), &SECTIONS),
             Err(_) => usage(),
         },
         ["bench", ref sections @ ..] if bench::print(sections) => ExitCode::SUCCESS,
@@ -53,7 +57,9 @@ fn main() -> ExitCode {
 }
 
 fn usage() -> ExitCode {
-    eprintln!("usage: harness [--scale N | --some] | harness bench [SECTION...] | harness record");
+    eprintln!(
+        "usage: harness [--scale N | --some [K N]] | harness bench [SECTION...] | harness record"
+    );
     ExitCode::from(2)
 }
 
@@ -64,19 +70,37 @@ fn subjects() -> Vec<&'static Subject> {
         .collect()
 }
 
-fn compare(amount: Amount) -> ExitCode {
+/// What is compared, in the table's order.
+const SECTIONS: [Section; 7] = [
+    compare_subjects,
+    header::compare,
+    gabor::compare,
+    sigma::compare,
+    epf::compare,
+    runs::compare,
+    rectangles::compare,
+];
+
+type Section = fn(Amount, &mut Report);
+
+/// Every n-th section from the k-th on.
+fn share(k: usize, n: usize) -> Vec<Section> {
+    SECTIONS.into_iter().skip(k).step_by(n).collect()
+}
+
+fn compare_subjects(amount: Amount, report: &mut Report) {
     let subjects = subjects();
     let random = RANDOM_CASES.div_ceil(subjects.len() as u64);
-    let mut report = Report::new();
     for subject in subjects {
-        subject.compare(random, amount, &mut report);
+        subject.compare(random, amount, report);
     }
-    header::compare(amount, &mut report);
-    gabor::compare(amount, &mut report);
-    sigma::compare(amount, &mut report);
-    epf::compare(amount, &mut report);
-    runs::compare(amount, &mut report);
-    rectangles::compare(amount, &mut report);
+}
+
+fn compare(amount: Amount, sections: &[Section]) -> ExitCode {
+    let mut report = Report::new();
+    for section in sections {
+        section(amount, &mut report);
+    }
     if report.finish() {
         ExitCode::SUCCESS
     } else {
