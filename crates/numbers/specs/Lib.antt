@@ -1,3 +1,4 @@
 pub mod Numbers
 pub mod Checks
 pub mod Tables
+pub mod Flags
