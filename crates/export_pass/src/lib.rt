@@ -21,7 +21,7 @@ pub extern "C" fn loupe_mirror(offset: isize, len: usize) -> MirrorAnswer
 pub extern "C" fn loupe_gabor_pass(
     image: Region,
     filter: Region,
-    preserve_outside: bool,
+    preserve_outside: u32,
     settings: Gabor,
     from: u32,
     to: u32,
@@ -38,7 +38,7 @@ pub extern "C" fn loupe_gabor_pass(
 pub extern "C" fn loupe_epf_pass(
     image: Region,
     filter: Region,
-    preserve_outside: bool,
+    preserve_outside: u32,
     s: EpfStep,
     sigmas: &[f32],
     from: u32,
