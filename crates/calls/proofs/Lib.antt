@@ -1,6 +1,7 @@
 pub mod Rows
 pub mod Sound
 pub mod Lists
+pub mod Refused
 pub mod Count
 pub mod Reached
 pub mod Places
