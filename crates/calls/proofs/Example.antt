@@ -24,10 +24,9 @@ use Rattle.runs.specs.Start.{pictureChecks, startLeaves, sigmasFilled, startOut
 use Rattle.runs.specs.Band.{bandChecks, bandOutcome, advanceOutcome}
 use Rattle.calls.specs.Calls.{StartAccepted, documentCalls, stateAfter, end}
 use Rattle.calls.specs.Places.{inputAt}
-use Rattle.calls.specs.Theorem.{CutFrom, Unrefused, resultAfter, Delivers, Premises}
+use Rattle.calls.specs.Theorem.{CutFrom, Unrefused, Premises}
 use Rattle.calls.specs.Example.{larger, smaller, calls, slice, PremisesMet, PlaceClear}
 use Rattle.calls.proofs.Places.{counted, counted-from}
-use Rattle.calls.proofs.Demand3.{document-demand-3}
 
 module _ (p : Picture) (weights : List (List Float)) where
   accepted : StartAccepted 3 (smaller p weights)
@@ -71,8 +70,3 @@ place-clear p weights = (
   record { column = record { from = tt; before = tt }; row = record { from = tt; before = tt } },
   record { left = λ f. tt; right = λ f. tt; top = λ f. absurd (f refl); bottom = λ f. absurd (f refl) },
 )
-
--- and so does what demand 3 says of them
-pub example-demand-3 : (p : Picture) (weights : List (List Float))
-    → Delivers 3 (smaller p weights) (larger p weights) (resultAfter 3 (documentCalls 3) (smaller p weights) (calls p weights) (slice p weights))
-example-demand-3 p weights = document-demand-3 (smaller p weights) (larger p weights) (calls p weights) (slice p weights) (premises-met p weights)

@@ -10,3 +10,6 @@ pub mod Demand3
 pub mod Corollaries
 pub mod Example
 pub mod EdgeExample
+pub mod FourEdges
+pub mod Needed
+pub mod Promises

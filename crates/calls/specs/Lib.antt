@@ -5,3 +5,6 @@ pub mod Rules
 pub mod Corollaries
 pub mod Example
 pub mod EdgeExample
+pub mod FourEdges
+pub mod Needed
+pub mod Promises

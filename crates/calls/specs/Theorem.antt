@@ -37,12 +37,15 @@ pub record CutFrom (n : ℕ) (small large : Handed) : Type 0 where
 abbrev pub resultOn : ℕ → State → List Float → ResultOutcome
 resultOn n t out = resultOutcome n (t .run) (t .first) (t .second) out
 
--- the result is accepted, and each filtered sample that is clear of the cut edges by the margin is the larger picture's
-pub record Delivers (n : ℕ) (small large : Handed) (result : ResultOutcome) : Type 0 where
+-- the result is accepted, and each filtered sample that is clear of the cut edges by m samples is the larger picture's
+pub record DeliversBeyond (m n : ℕ) (small large : Handed) (result : ResultOutcome) : Type 0 where
   pub accepted : result .number ≡ 0
-  pub samples : (c : ℕ) (x y : ℤ) → c < n → Holds (small .setup .filter) x y
-      → Clear (margin (small .setup .settings)) (small .setup .filter) (large .setup .filter) x y
+  pub samples : (c : ℕ) (x y : ℤ) → c < n → Holds (small .setup .filter) x y → Clear m (small .setup .filter) (large .setup .filter) x y
       → resultAt (small .setup) (result .out) c x y ≡ sampleAt n large c x y
+
+-- by the margin
+abbrev pub Delivers : ℕ → Handed → Handed → ResultOutcome → Type 0
+Delivers n small large result = DeliversBeyond (margin (small .setup .settings)) n small large result
 
 -- n is the number of planes, and K has the kinds of calls: 3 and `documentCalls 3` are document 01's.
 module _ (n : ℕ) (K : Calls n) where
