@@ -21,7 +21,7 @@ use Rattle.planes.specs.Sets.{setOf, tab}
 use Rattle.planes.specs.SetLaws.{of-setOf}
 use Rattle.planes.specs.Band.{inner}
 use Rattle.passes.specs.Plan.{plan, steps, stepOf, scaleOf, stepMargin}
-use Rattle.setup.specs.Setup.{bandCount, setupFits, sized}
+use Rattle.setup.specs.Setup.{bandCount, numbersFit, setupFits, sized}
 use Rattle.record.specs.Record.{isDone, started, marked, advanced, bandMissing, finished, strayDone, runFits}
 use Rattle.runs.specs.Start.{pictureChecks, startLeaves, sigmasFilled, startOutcome}
 use Rattle.runs.specs.Band.{State, bandChecks, bandOutcome, advanceOutcome}
@@ -75,7 +75,7 @@ module _ (p : Picture) (scales : List Float) (border sigma : Float) where
   after t = band t 0 ∷ advance (marked (started (smaller p scales border sigma .setup)) 0) ∷ []
 
   premises : Premises 3 (documentCalls 3) (smaller p scales border sigma) (larger p scales border sigma) (calls p scales border sigma) (slice p scales border sigma)
-  unfolding startLeaves bandOutcome advanceOutcome sigmasFilled blockSigmas tab stateAfter end started marked advanced bandChecks runFits strayDone bandMissing isDone setupFits bandCount sized someBelow pictured measured place side inside layoutOf plan steps setOf
+  unfolding startLeaves bandOutcome advanceOutcome sigmasFilled blockSigmas tab stateAfter end started marked advanced bandChecks runFits strayDone bandMissing isDone numbersFit setupFits bandCount sized someBelow pictured measured place side inside layoutOf plan steps setOf
   premises =
       let begins = sym (start-state 3 (smaller p scales border sigma) accepted) in
       record {

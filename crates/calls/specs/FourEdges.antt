@@ -1,6 +1,5 @@
 -- Demand 3's premises met by a picture with all four edges cut: both filters, two passes of three bands each, sigmas from a grid, image regions that differ and
 -- reach below 0, full planes for the smaller one and the filter region alone for the larger one; and a refused start, a refused other call. Definitions only.
-use mathlib.Core.Bool.{true, false}
 use mathlib.Core.List.{List, [], _∷_}
 use Prim.Native.Nat.{ℕ, _+_}
 use lib.IntN.{pos, negsuc}
@@ -30,7 +29,7 @@ pub record Given : Type 0 where
 module _ (g : Given) where
   abbrev settings : Settings
   settings = record {
-    gabor = record { enabled = true; weights = g .weights };
+    gabor = record { enabled = 1; weights = g .weights };
     epf = record {
       iters = 1;
       «channel_scale» = g .scales;
@@ -49,7 +48,7 @@ module _ (g : Given) where
     setup = record {
       image = record { left = negsuc 0; top = negsuc 0; width = 26; height = 26 };
       filter = record { left = pos 0; top = pos 0; width = 24; height = 24 };
-      «preserve_outside» = false;
+      «preserve_outside» = 0;
       settings = settings;
       «band_height» = 5;
     };
@@ -67,7 +66,7 @@ module _ (g : Given) where
     setup = record {
       image = record { left = pos 7; top = pos 7; width = 10; height = 10 };
       filter = record { left = pos 8; top = pos 8; width = 8; height = 8 };
-      «preserve_outside» = true;
+      «preserve_outside» = 1;
       settings = settings;
       «band_height» = 4;
     };
