@@ -18,13 +18,13 @@ use Rattle.setup.specs.Setup.{bandCount, setupFits}
 use Rattle.record.specs.Record.{passCount, isDone, noneDone, started, marked, advanced, finished, Reached, atStart, byBand, byAdvance}
 use Rattle.setup.specs.Laws.{SetupFits, setup-fits}
 use Rattle.record.specs.Laws.{RunFits, run-fits, fits-run, none-done, started-fits, marked-fits, advanced-fits, Open, band-open, open-band, Over, pass-over, over-pass}
-use Rattle.runs.specs.Start.{Handed, startNumber}
+use Rattle.runs.specs.Start.{Handed, startLeaves}
 use Rattle.runs.specs.Band.{State}
-use Rattle.runs.specs.Laws.{picture-fits, band-accepted, advance-accepted}
-use Rattle.calls.specs.Calls.{startState, Calls, stateAfter, end, Unaltered, AllAccepted, Call, band, advance, documentCalls}
-use Rattle.calls.specs.Theorem.{ReachedFits, FitsReached, LeadsTo, EachReached, CanFinish}
+use Rattle.runs.specs.Laws.{band-number, band-leaves, band-accepted, advance-number, advance-leaves, advance-accepted}
+use Rattle.calls.specs.Calls.{StartAccepted, startState, DocumentCall, band, advance, Calls, documentCalls, stateAfter, end, Unaltered, AllAccepted}
+use Rattle.calls.specs.Rules.{ReachedFits, FitsReached, LeadsTo, EachReached, CanFinish}
 use Rattle.calls.proofs.Sound.{Sound}
-use Rattle.calls.proofs.Lists.{after-start}
+use Rattle.calls.proofs.Lists.{picture-accepted, start-state, after-start}
 
 -- ---- what accepted calls return is sound
 
@@ -167,10 +167,10 @@ module _ (n : ℕ) (K : Calls n) (c : K .Call) (ok : K .number c ≡ 0) where
   accepted-more [] a = (ok, tt)
   accepted-more (d ∷ cs) a = (a .0, accepted-more cs (a .1))
 
-module _ (n : ℕ) (h : Handed) (start : startNumber n h ≡ 0) where
-  more : (cs : List Call) (q : Run) (c : Call) (r : Run) → LeadsTo n h cs q → documentCalls n .number c ≡ 0
+module _ (n : ℕ) (h : Handed) (start : StartAccepted n h) where
+  more : (cs : List DocumentCall) (q : Run) (c : DocumentCall) (r : Run) → LeadsTo n h cs q → documentCalls n .number c ≡ 0
       → documentCalls n .Lent (end n (documentCalls n) (startState n h) cs) c → documentCalls n .leaves (end n (documentCalls n) (startState n h) cs) c .run ≡ r
-      → (ds : List Call) × LeadsTo n h ds r
+      → (ds : List DocumentCall) × LeadsTo n h ds r
   more cs q c r l ok lent ends = (
     cs ++ (c ∷ []),
     record {
@@ -180,23 +180,25 @@ module _ (n : ℕ) (h : Handed) (start : startNumber n h ≡ 0) where
     },
   )
 
-  leads : (r : Run) → Reached (h .setup) r → (cs : List Call) × LeadsTo n h cs r
+  leads : (r : Run) → Reached (h .setup) r → (cs : List DocumentCall) × LeadsTo n h cs r
   unfolding end
-  leads r atStart = ([], record { accepted = tt; unaltered = tt; ends = refl })
+  leads r atStart = ([], record { accepted = tt; unaltered = tt; ends = ap (λ (t : State). t .run) (start-state n h start) })
   leads r (byBand q k w e) =
       let l = leads q w in
       let t : State = end n (documentCalls n) (startState n h) (l .0) in
-      let i : Sound n (h .first) t = after-start n (documentCalls n) h start (l .0) (l .1 .unaltered) .sound in
+      let i : Sound n (startLeaves n h) t = after-start n (documentCalls n) h start (l .0) (l .1 .unaltered) .sound in
       let same : t .run ≡ q = l .1 .ends in
       let o : Open (t .run) k = rw same (band-open q k e) in
-      more (l .0) q (band t k) (marked q k) (l .1) (band-accepted n t k (i .first-length) (i .second-length) (i .sigma-length) (i .run) o) refl (ap (λ (z : Run). marked z k) same)
+      let taken = band-number n t k ∙ band-accepted n t k (i .first-length) (i .second-length) (i .sigma-length) (i .run) o in
+      more (l .0) q (band t k) (marked q k) (l .1) taken refl (ap (λ (u : State). u .run) (band-leaves n t k taken) ∙ ap (λ (z : Run). marked z k) same)
   leads r (byAdvance q w e) =
       let l = leads q w in
       let t : State = end n (documentCalls n) (startState n h) (l .0) in
-      let i : Sound n (h .first) t = after-start n (documentCalls n) h start (l .0) (l .1 .unaltered) .sound in
+      let i : Sound n (startLeaves n h) t = after-start n (documentCalls n) h start (l .0) (l .1 .unaltered) .sound in
       let same : t .run ≡ q = l .1 .ends in
       let o : Over (t .run) = rw same (pass-over q e) in
-      more (l .0) q (advance (t .run)) (advanced q) (l .1) (advance-accepted (t .run) (i .run) o) refl (ap advanced same)
+      let taken = advance-number (t .run) ∙ advance-accepted (t .run) (i .run) o in
+      more (l .0) q (advance (t .run)) (advanced q) (l .1) taken refl (advance-leaves (t .run) taken ∙ ap advanced same)
 
 pub each-reached : EachReached
 each-reached n h start r e t l = leads n h start r (subst (λ (s : Setup). Reached s r) e (fits-reached r l t))
@@ -207,6 +209,6 @@ unfolding isDone
 can-finish n h start =
     let s : Setup = h .setup in
     let r : Run = at s (passCount s) noneDone in
-    let fits : RunFits r = record { setup = picture-fits n h start .setup; pass = omega arith; flag = λ k l. rw (none-done k) (omega arith); stray = λ k l o. rw (none-done k) } in
+    let fits : RunFits r = record { setup = picture-accepted n h start .setup; pass = omega arith; flag = λ k l. rw (none-done k) (omega arith); stray = λ k l o. rw (none-done k) } in
     let w = each-reached n h start r refl (fits-run r fits) (length-replicate {A = ℕ} 256 0) in
     (w .0, w .1 .unaltered, rw (w .1 .ends) (eqb-refl (passCount s)))

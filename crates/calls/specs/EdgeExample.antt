@@ -12,9 +12,9 @@ use Rattle.passes.specs.declared.Settings.{Settings}
 use Rattle.passes.specs.Plan.{margin}
 use Rattle.record.specs.Record.{started, marked}
 use Rattle.runs.specs.Start.{Handed}
-use Rattle.calls.specs.Calls.{startState, Call, band, advance, documentCalls}
+use Rattle.calls.specs.Calls.{startState, DocumentCall, band, advance, documentCalls}
 use Rattle.calls.specs.Places.{Clear}
-use Rattle.calls.specs.Example.{Premises}
+use Rattle.calls.specs.Theorem.{Premises}
 
 module _ (p : Picture) (scales : List Float) (border sigma : Float) where
   -- `unread` stands where one iteration without Gabor reads nothing
@@ -56,7 +56,7 @@ module _ (p : Picture) (scales : List Float) (border sigma : Float) where
     sigmas = b0 ∷ [];
   }
 
-  abbrev pub calls : List Call
+  abbrev pub calls : List DocumentCall
   calls = band (startState 3 smaller) 0 ∷ advance (marked (started (smaller .setup)) 0) ∷ []
 
   abbrev pub slice : List Float

@@ -36,7 +36,7 @@ use Rattle.record.specs.Record.{started}
 use Rattle.setup.specs.Tests.{sized-by-area}
 use Rattle.runs.specs.Tests.{blocks-same}
 use Rattle.runs.specs.Band.{setCheck}
-use Rattle.runs.specs.Start.{Handed, StartOutcome, blocksOf, pictureChecks, startNumber, sigmasFilled, noRun, startOutcome}
+use Rattle.runs.specs.Start.{Handed, StartOutcome, blocksOf, pictureChecks, startNumber, startLeaves, sigmasFilled, noRun, startOutcome}
 use Rattle.run_start.specs.Lowest.{lowest, Parted, none, left, right, first-lowest, lowest-left, lowest-none, ascending-from}
 use Rattle.run_start.specs.Pieces.{runsEpf, epfFlag, sigmasAsked, ownChecks, numberOf, toldChecks}
 
@@ -212,7 +212,7 @@ module _ (n : ℕ) (h : Handed) where
           → _≡_ {A = SigmasOutcome} (record { number = m; sigmas = filled }) (sigmasOutcome (epfFlag s) f (blocksOf s) t (h .grids) (s .settings .epf .«sigma_for_modular») (h .sigmas))
           → (r : Run) → r ≡ started s
           → _≡_ {A = StartOutcome} (record { answer = record { number = m; run = r }; first = h .first; sigmas = filled }) (startOutcome n h)
-      unfolding startOutcome sigmasFilled
+      unfolding startOutcome startLeaves sigmasFilled
       accepted m filled o r q =
           let a : m ≡ 0 = ap (λ (o : SigmasOutcome). o .number) o ∙ sigmas-fit in
           let l = ap (λ (o : SigmasOutcome). o .sigmas) o ∙ left-is _ (flagSet (epfFlag s)) (itersFit s) (epfOn s) _ _ sigmas-fit (flag-set (runsEpf s)) iters in

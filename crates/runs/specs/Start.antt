@@ -75,7 +75,7 @@ module _ (n : ℕ) (h : Handed) where
   startNumber = firstOf startChecks
 
   -- what an accepted start leaves of the first set: the set as lent
-  abbrev pub startLeaves : List Float
+  unfoldable pub startLeaves : List Float
   startLeaves = h .first
 
   -- the block sigmas that an accepted start fills; with the edge filter off there are none
