@@ -4,3 +4,4 @@ pub mod PlanLaws
 pub mod Near
 pub mod Cut
 pub mod Stages
+pub mod Bounds
