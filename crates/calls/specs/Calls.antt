@@ -72,10 +72,10 @@ pub data Call : Type 0 where
   result : Run → List Float → List Float → List Float → Call
 
 module _ (n : ℕ) where
-  abbrev pub number : Call → ℕ
-  number (band t k) = bandNumber n t k
-  number (advance r) = advanceNumber r
-  number (result r first second out) = resultNumber n r first second out
+  abbrev pub callNumber : Call → ℕ
+  callNumber (band t k) = bandNumber n t k
+  callNumber (advance r) = advanceNumber r
+  callNumber (result r first second out) = resultNumber n r first second out
 
   abbrev pub leaves : State → Call → State
   leaves t (band u k) = bandAccepted n u k
@@ -99,10 +99,10 @@ advances (advance r) = 1
 advances (result r first second out) = 0
 
 -- which effect each has
-unfoldable pub effect : (n : ℕ) (t : State) (c : Call) → number n c ≡ 0 → Lent t c → Effect n t (bands c) (advances c) (leaves n t c)
+unfoldable pub effect : (n : ℕ) (t : State) (c : Call) → callNumber n c ≡ 0 → Lent t c → Effect n t (bands c) (advances c) (leaves n t c)
 effect n t (band u k) e l = rw l (oneBand k (rw l at e))
 effect n t (advance r) e l = rw l (oneAdvance (rw l at e))
 effect n t (result r first second out) e l = nothing
 
 abbrev pub documentCalls : (n : ℕ) → Calls n
-documentCalls n = record { Call = Call; number = number n; Lent = Lent; leaves = leaves n; bands = bands; advances = advances; effect = effect n }
+documentCalls n = record { Call = Call; number = callNumber n; Lent = Lent; leaves = leaves n; bands = bands; advances = advances; effect = effect n }
