@@ -27,20 +27,15 @@ use Rattle.passes.specs.Plan.{oneIf}
 use Rattle.setup.specs.declared.Setup.{Setup}
 use Rattle.record.specs.Record.{started}
 use Rattle.runs.specs.Band.{State, bandOutcome, advanceOutcome}
+use Rattle.instances.specs.Any.{oneQuarter, CopiedBelow, NanSigma}
 
 -- ---- numbers that the rows use
 
--- 1/2 and 1/4
+-- 1/2
 abbrev oneHalf : Float
 oneHalf = bits 0x3f00_0000
 
-abbrev oneQuarter : Float
-oneQuarter = bits 0x3e80_0000
-
--- 5.0, 6.0, 12.0, 14.0 and 16.0
-abbrev b5 : Float
-b5 = bits 0x40a0_0000
-
+-- 6.0, 12.0, 14.0 and 16.0
 abbrev b6 : Float
 b6 = bits 0x40c0_0000
 
@@ -247,9 +242,9 @@ pub record Table : Type 0 where
   -- ★ weights 1/2, 1/4 on 0 0 0 / 0 16 0 / 0 0 0: 1 2 1 / 2 4 2 / 1 2 1; on the single row 0 16 0: 4 14 4
   pub impulse : smoothed 3 3 (b0 ∷ b0 ∷ b0 ∷ b0 ∷ b16 ∷ b0 ∷ b0 ∷ b0 ∷ b0 ∷ []) ≡ b1 ∷ b2 ∷ b1 ∷ b2 ∷ b4 ∷ b2 ∷ b1 ∷ b2 ∷ b1 ∷ []
   pub singleRow : smoothed 3 1 (b0 ∷ b16 ∷ b0 ∷ []) ≡ b4 ∷ b14 ∷ b4 ∷ []
-  -- ★ step 2, sigma 0.25: copied; sigma NaN, centre 5: 5
-  pub copiedBelow : stepped 2 oneQuarter 3 1 (b1 ∷ b5 ∷ b2 ∷ []) ≡ b1 ∷ b5 ∷ b2 ∷ []
-  pub nanSigma : stepped 2 nan 3 1 (b1 ∷ b5 ∷ b2 ∷ []) ≡ b1 ∷ b5 ∷ b2 ∷ []
+  -- ★ step 2, one block sigma 0.25: copied; sigma NaN, finite samples, centre 5: 5
+  pub copiedBelow : CopiedBelow
+  pub nanSigma : NanSigma
   -- group row 0 has grids, row 1 none: block row 128 repeats row 127
   pub repeated : (grids : List Float) (modular : Float) → (blockRow grids modular 127 ≡ getD grids 127 nan) × (blockRow grids modular 128 ≡ getD grids 127 nan)
   -- band 0 twice: 10; advance with band 1 missing: 11
