@@ -6,27 +6,35 @@ mod sha256;
 use std::{
     env, fs,
     path::{Path, PathBuf},
+    process,
 };
 
 const LIST: &str = include_str!("../original.sha256");
 
 /// For a build: the folder `part` of the original, `LOUPE_RUST_SRC`, once the files listed below it
-/// have their digests. The build runs again where one of them changes.
-///
-/// # Panics
-/// With a message that names the folder or the file, where it is not there or a file is altered.
+/// have their digests. The build runs again where one of them changes. Where the folder or a file is
+/// not there, or a file is altered, the build ends with an error that names it.
 pub fn checked_folder(part: &str) -> PathBuf {
-    println!("cargo:rerun-if-env-changed=LOUPE_RUST_SRC");
-    println!("cargo:rerun-if-changed=build.rs");
-    let root = env::var("LOUPE_RUST_SRC")
-        .expect("LOUPE_RUST_SRC: the folder that has crates/jxl-frame and crates/jxl-render");
-    let folder = fs::canonicalize(Path::new(&root).join(part))
-        .unwrap_or_else(|_| panic!("LOUPE_RUST_SRC: no {part} there"));
+    println!("cargo::rerun-if-env-changed=LOUPE_RUST_SRC");
+    println!("cargo::rerun-if-changed=build.rs");
+    folder_of(part).unwrap_or_else(|wrong| {
+        println!("cargo::error={wrong}");
+        process::exit(1)
+    })
+}
+
+fn folder_of(part: &str) -> Result<PathBuf, String> {
+    let root = env::var_os("LOUPE_RUST_SRC").ok_or(
+        "LOUPE_RUST_SRC is not set: the folder that has crates/jxl-frame and crates/jxl-render",
+    )?;
+    let folder = Path::new(&root).join(part);
+    let folder =
+        fs::canonicalize(&folder).map_err(|error| format!("{}: {error}", folder.display()))?;
     for (name, _) in listed(part) {
-        println!("cargo:rerun-if-changed={}", folder.join(name).display());
+        println!("cargo::rerun-if-changed={}", folder.join(name).display());
     }
-    check(&folder, part).unwrap_or_else(|altered| panic!("{altered}"));
-    folder
+    check(&folder, part)?;
+    Ok(folder)
 }
 
 /// Each file listed below `part` is in the folder and has its digest; else what is wrong with which.
