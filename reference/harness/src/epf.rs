@@ -6,6 +6,7 @@ mod tiled;
 mod whole;
 
 use crate::{
+    bits,
     expected::epf::{Handed, number},
     pass::{self, by_bands, one_call},
     picture::{self, Rows, any_len, plain, region, samples, special, wide},
@@ -59,6 +60,10 @@ impl pass::Pass for Pass<'_> {
         loupe::epf_pass(
             image, filter, outside, settings, self.sigmas, from, to, source, target,
         )
+    }
+
+    fn sigmas(&self) -> &[f32] {
+        self.sigmas
     }
 
     /// The result's planes by the original's row function.
@@ -337,7 +342,10 @@ fn wrong(random: &mut Random, row: &mut Row) {
     let rows = (picture::any_row(random), picture::any_row(random));
     let source = samples(picture::any_set_len(image, random), random);
     let before = samples(picture::any_set_len(image, random), random);
-    let sigmas = vec![1.0; any_len(1, random)];
+    let mut sigmas = vec![1.0; any_len(1, random)];
+    if random.once_in(2) {
+        bits::sprinkle(&mut sigmas, random);
+    }
     let pass = Pass {
         place: oracle::Place {
             image,
@@ -348,7 +356,7 @@ fn wrong(random: &mut Random, row: &mut Row) {
         settings: settings(random),
         sigmas: &sigmas,
     };
-    one_call(&pass, rows, &source, before, row);
+    one_call(&pass, rows, [source, before], random, row);
 }
 
 /// The default settings of a header.

@@ -194,7 +194,7 @@ fn wrong(random: &mut Random, row: &mut Row) {
     let rows = (picture::any_row(random), picture::any_row(random));
     let source = samples(picture::any_set_len(image, random), random);
     let before = samples(picture::any_set_len(image, random), random);
-    one_call(&pass, rows, &source, before, row);
+    one_call(&pass, rows, [source, before], random, row);
 }
 
 /// The default weights, plain ones, or any float.

@@ -7,6 +7,7 @@
 //! `harness record` a sample of the original's answers as text.
 
 mod bench;
+mod bits;
 mod epf;
 mod expected;
 mod frame;

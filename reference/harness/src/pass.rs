@@ -4,7 +4,8 @@
 use std::fmt::Debug;
 
 use crate::{
-    picture::{self, Rows, judge, samples},
+    bits,
+    picture::{self, Rows, is_written, judge, samples},
     random::Random,
     report::Row,
 };
@@ -15,6 +16,11 @@ pub trait Pass: Debug {
 
     /// The proved library's number, and what it leaves in the target.
     fn ours(&self, rows: Rows, source: &[f32], target: &mut [f32]) -> u32;
+
+    /// The block sigmas that it is handed; none where it reads none.
+    fn sigmas(&self) -> &[f32] {
+        &[]
+    }
 
     /// The result's planes by the original.
     fn rust(&self, source: &[f32]) -> oracle::Planes;
@@ -30,6 +36,7 @@ pub trait Pass: Debug {
 /// All bands of a pass, each into a target of its own, and all into one.
 pub fn by_bands(pass: &impl Pass, band: u32, source: &[f32], random: &mut Random, row: &mut Row) {
     row.by_bands();
+    let read = Read::by(pass, source);
     let before = samples(source.len(), random);
     let result = pass.rust(source);
     let height = pass.height();
@@ -39,22 +46,66 @@ pub fn by_bands(pass: &impl Pass, band: u32, source: &[f32], random: &mut Random
         let (mut ours, mut due) = (before.clone(), before.clone());
         let number = pass.ours(rows, source, &mut ours);
         picture::store(pass.place(), &result, rows, &mut due);
-        judge(pass, rows, (number, &ours), (0, &due), row);
+        let written = |at| is_written(pass.place(), rows, at);
+        judge(pass, rows, (number, &ours), (0, &due), &written, row);
         pass.ours(rows, source, &mut all);
     }
     let mut due = before;
     picture::store(pass.place(), &result, (0, height), &mut due);
-    judge(pass, (0, height), (0, &all), (0, &due), row);
+    let written = |at| is_written(pass.place(), (0, height), at);
+    judge(pass, (0, height), (0, &all), (0, &due), &written, row);
+    read.must_be_left(pass, source, row);
 }
 
-/// One call, which may be refused; a refusal writes nothing.
-pub fn one_call(pass: &impl Pass, rows: Rows, source: &[f32], before: Vec<f32>, row: &mut Row) {
+/// One call, which may be refused; a refusal leaves every bit of what it was handed, NaNs among it.
+pub fn one_call(
+    pass: &impl Pass,
+    rows: Rows,
+    [mut source, mut before]: [Vec<f32>; 2],
+    random: &mut Random,
+    row: &mut Row,
+) {
     let number = pass.number(rows, [source.len(), before.len()]);
+    if number != 0 {
+        bits::sprinkle(&mut source, random);
+        bits::sprinkle(&mut before, random);
+    }
+    let read = Read::by(pass, &source);
     let mut ours = before.clone();
-    let given = pass.ours(rows, source, &mut ours);
+    let given = pass.ours(rows, &source, &mut ours);
     let mut due = before;
     if number == 0 {
-        picture::store(pass.place(), &pass.rust(source), rows, &mut due);
+        picture::store(pass.place(), &pass.rust(&source), rows, &mut due);
     }
-    judge(pass, rows, (given, &ours), (number, &due), row);
+    let written = |at| number == 0 && is_written(pass.place(), rows, at);
+    judge(pass, rows, (given, &ours), (number, &due), &written, row);
+    read.must_be_left(pass, &source, row);
+}
+
+/// Copies of what a pass reads.
+struct Read {
+    source: Vec<f32>,
+    sigmas: Vec<f32>,
+}
+
+impl Read {
+    fn by(pass: &impl Pass, source: &[f32]) -> Self {
+        Self {
+            source: source.to_vec(),
+            sigmas: pass.sigmas().to_vec(),
+        }
+    }
+
+    /// What was read has its bits still.
+    fn must_be_left(&self, pass: &impl Pass, source: &[f32], row: &mut Row) {
+        let pairs = [
+            ("source", &self.source[..], source),
+            ("sigmas", &self.sigmas, pass.sigmas()),
+        ];
+        for (name, before, after) in pairs {
+            if let Some(at) = bits::first_change(before, after) {
+                row.differs(&(pass, name, at), &"changed", &"left");
+            }
+        }
+    }
 }

@@ -6,6 +6,7 @@ mod damage;
 mod draw;
 mod handed;
 mod instances;
+mod nans;
 mod refusals;
 
 use calls::Tally;
@@ -14,6 +15,7 @@ pub use draw::{Passes, around, band_height, defaults, passes, settings, with_pas
 pub use handed::{Handed, State, place, setup_rule};
 
 use crate::{
+    bits,
     expected::runs::samples as count,
     picture::{agree, samples},
     random::Random,
@@ -101,6 +103,7 @@ fn stray(handed: &Handed, state: &State, random: &mut Random, tally: &mut Tally)
     if !random.once_in(3) {
         damage::state(&mut lent, random);
     }
+    nans::in_state(&mut lent, random);
     match random.within(0, 8) {
         0 => stray_start(handed, random, tally),
         1..=3 => {
@@ -121,6 +124,7 @@ fn stray(handed: &Handed, state: &State, random: &mut Random, tally: &mut Tally)
             if random.once_in(3) {
                 damage::resize(&mut out, random);
             }
+            bits::sprinkle(&mut out, random);
             calls::result(&mut lent, &mut out, tally);
         }
     }
@@ -130,6 +134,7 @@ fn stray(handed: &Handed, state: &State, random: &mut Random, tally: &mut Tally)
 fn stray_start(handed: &Handed, random: &mut Random, tally: &mut Tally) {
     let mut wrong = handed.clone();
     damage::handed(&mut wrong, random);
+    nans::in_handed(&mut wrong, random);
     calls::start(&mut wrong, tally);
 }
 

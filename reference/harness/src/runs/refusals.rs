@@ -8,8 +8,9 @@ use super::{
     draw::{Passes, defaults},
     handed::{Handed, State},
     instances::expect,
+    nans,
 };
-use crate::report::Row;
+use crate::{bits, random::Random, report::Row};
 
 /// Two blocks each way, of which the first column lies in one group and the second in the next.
 const REGION: Region = Region {
@@ -193,10 +194,11 @@ const RECORDS: &[Wrong<State, [u32; 3]>] = &[
     }),
 ];
 
-pub fn compare(row: &mut Row, tally: &mut Tally) {
+pub fn compare(random: &mut Random, row: &mut Row, tally: &mut Tally) {
     for (what, due, damage) in STARTS {
         let mut handed = sound();
         damage(&mut handed);
+        nans::in_handed(&mut handed, random);
         let (number, _) = calls::start(&mut handed, tally);
         expect(what, number, *due, row);
     }
@@ -205,8 +207,10 @@ pub fn compare(row: &mut Row, tally: &mut Tally) {
     for (what, dues, damage) in RECORDS {
         let mut lent = State::new(run, &handed);
         damage(&mut lent);
+        nans::in_state(&mut lent, random);
         // The result's slice is as long as it should be, then one shorter.
         let mut out = vec![0.0; SAMPLES];
+        bits::sprinkle(&mut out, random);
         let number = calls::result(&mut lent, &mut out, tally);
         expect(what, number, dues[2], row);
         out.pop();
