@@ -2,6 +2,7 @@
 //! random ones and on wide ones, all of them with block sigmas against `apply_epf`, and refusals.
 //! What is not written must keep its bits.
 
+mod scaled;
 mod tiled;
 mod whole;
 
@@ -150,6 +151,7 @@ pub fn compare(amount: Amount, report: &mut Report) {
         let mut row = Row::new(name, "wide pictures");
         tiled::compare(step, amount, &mut random, &mut row);
         report.add(row);
+        scaled::compare(step, amount, &mut random, report);
     }
     whole::compare(amount, report);
     refusals(amount, report);

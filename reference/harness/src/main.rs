@@ -23,6 +23,7 @@ mod rectangles;
 mod region;
 mod report;
 mod runs;
+mod scaled;
 mod sigma;
 mod subject;
 

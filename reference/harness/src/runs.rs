@@ -8,6 +8,7 @@ mod handed;
 mod instances;
 mod nans;
 mod refusals;
+mod scaled;
 
 use calls::Tally;
 use damage::MOST_SAMPLES;
@@ -51,6 +52,7 @@ pub fn compare(amount: Amount, report: &mut Report) {
         whole(handed, &mut random, &mut row, &mut tally);
     }
     report.add(row);
+    scaled::compare(amount, &mut random, report, &mut tally);
     tally.require(amount);
     tally.report(report);
 }
