@@ -301,6 +301,8 @@ fn filter_regions() {
     assert!(panics(|| oracle::gabor(whole, weights, three(&[7.0, 7.0]))));
     assert_eq!(gabor_number(image, image, (0, 1), 2), 7);
     assert_eq!(gabor_number(image, image, (1, 0), 3), 9);
+    // No rows at all are accepted.
+    assert_eq!(gabor_number(image, image, (1, 1), 3), 0);
 }
 
 #[test]
@@ -496,21 +498,28 @@ fn kernel_sum(w0: f32, w1: f32) -> f32 {
 fn near_zero_kernels_are_zero() {
     let halves = halves();
     assert_eq!(halves.len(), 63_488);
-    let mut refused = 0;
+    let (mut refused, mut next) = (0, f32::MAX);
     for &w0 in &halves {
         let middle = halves.partition_point(|&w1| 1.0 + (w0 + w1) * 4.0 < 0.0);
-        let near = |w1: &&f32| kernel_sum(w0, **w1) < f32::EPSILON;
-        let below = halves[..middle].iter().rev().take_while(near);
-        let above = halves[middle..].iter().take_while(near);
-        for &w1 in below.chain(above) {
+        let sums = |&w1: &f32| kernel_sum(w0, w1);
+        let mut below = halves[..middle].iter().rev().map(sums).peekable();
+        let mut above = halves[middle..].iter().map(sums).peekable();
+        while let Some(sum) = below.next_if(|&sum| sum < f32::EPSILON) {
             refused += 1;
-            assert_eq!(kernel_sum(w0, w1), 0.0, "{w0} {w1}");
+            assert_eq!(sum, 0.0);
         }
+        while let Some(sum) = above.next_if(|&sum| sum < f32::EPSILON) {
+            refused += 1;
+            assert_eq!(sum, 0.0);
+        }
+        next = below
+            .next()
+            .into_iter()
+            .chain(above.next())
+            .fold(next, f32::min);
     }
-    assert!(refused > 0);
-    println!("{refused} pairs of halves are refused, and the sum of each is 0");
-    // The next of all: -1/4 and 2^-24.
-    assert_eq!(kernel_sum(-0.25, TINY), 4.0 * TINY);
+    assert_eq!((refused, next), (24_579, 4.0 * TINY));
+    assert_eq!(kernel_sum(-0.25, TINY), next);
 }
 
 #[test]

@@ -23,6 +23,8 @@ const ALL: Passes = Passes {
     gabor: true,
     iterations: 3,
 };
+/// A left that no frame reaches.
+const PAST_FRAMES: i32 = 16_384;
 const SAMPLES: usize = 3 * 16 * 16;
 const BLOCKS: usize = 4;
 
@@ -109,6 +111,12 @@ const STARTS: &[Wrong<Handed, u32>] = &[
         h.grids.truncate(256);
         h.setup.band_height = 0;
     }),
+    ("a filter region at left 16,384, the widest frame", 8, |h| {
+        moved(&mut h.setup, PAST_FRAMES - REGION.left);
+        h.frame.width = 16_384;
+        h.table = vec![0; 3 * 16];
+        h.grids.clear();
+    }),
     ("band height 16,385", 9, |h| h.setup.band_height = 16_385),
     ("256 bands", 0, |h| rows(h, 256)),
     ("257 bands", 9, |h| rows(h, 257)),
@@ -167,6 +175,10 @@ const RECORDS: &[Wrong<State, [u32; 3]>] = &[
     ("an image region too far, a short set", [7, 9, 7], |t| {
         t.run.setup.image.left = 1_048_577;
         t.first.pop();
+    }),
+    // Start gives 8 for every frame; a record is not judged by it.
+    ("a filter region at left 16,384", [0, 11, 11], |t| {
+        moved(&mut t.run.setup, PAST_FRAMES - REGION.left)
     }),
     ("4 iterations, no sigmas", [9, 9, 9], |t| {
         t.run.setup.settings.epf.iters = 4;
