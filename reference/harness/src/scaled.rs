@@ -34,18 +34,22 @@ impl End {
     /// A power with which all samples are subnormal; or one with which all are finite and the sums of
     /// a few of them may not be.
     pub fn draw(self, random: &mut Random) -> Scale {
-        let (least, most) = match self {
-            Self::Subnormal => (-149, -127),
-            Self::NearOverflow => (124, 127),
-        };
-        let power = random.within(least, most) as i32;
+        let (least, most) = self.powers();
+        let power = random.within(least.into(), most.into()) as i32;
         Scale { end: self, power }
+    }
+
+    fn powers(self) -> (i32, i32) {
+        match self {
+            Self::Subnormal => (-149, -127),
+            Self::NearOverflow => (122, 127),
+        }
     }
 
     fn holds(self, sample: f32) -> bool {
         match self {
             Self::Subnormal => sample.is_subnormal(),
-            Self::NearOverflow => sample.is_finite() && sample.abs() >= 2f32.powi(124),
+            Self::NearOverflow => sample.is_finite() && sample.abs() >= times(1.0, self.powers().0),
         }
     }
 }
@@ -53,8 +57,8 @@ impl End {
 impl Scale {
     /// Samples that differ much or little, all positive, all negative, or of either sign.
     pub fn samples(self, count: usize, random: &mut Random) -> Vec<f32> {
-        let depth = random.one_of(&[0.5, 0.5, 0.05, 0.005]);
-        let signs: &[f32] = random.one_of(&[&[1.0], &[-1.0], &[1.0, -1.0]]);
+        let depth = random.one_of(&[0.5, 0.05, 0.01, 0.002]);
+        let signs: &[f32] = random.one_of(&[&[1.0], &[1.0], &[-1.0], &[1.0, -1.0]]);
         let mut sample = || {
             let size = 1.5 + depth * plain(random);
             times(random.one_of(signs) * size.clamp(1.0, MOST), self.power)
@@ -64,10 +68,12 @@ impl Scale {
         samples
     }
 
-    /// Channel scales divided by the power, so that neighbours have weight; finite ones stay finite.
-    pub fn channel_scale(self, scale: [f32; 3]) -> [f32; 3] {
+    /// Channel scales divided by the power and perhaps a little more, so that neighbours have weight; finite
+    /// ones stay finite.
+    pub fn channel_scale(self, scale: [f32; 3], random: &mut Random) -> [f32; 3] {
+        let more = random.one_of(&[0, 4, 8]);
         scale.map(|scale| {
-            let divided = times(scale, -self.power);
+            let divided = times(scale, -self.power - more);
             if scale.is_finite() {
                 divided.clamp(-f32::MAX, f32::MAX)
             } else {

@@ -35,7 +35,7 @@ fn one(end: End, step: u32, random: &mut Random, row: &mut Row) {
         .collect();
     let mut settings = settings(random);
     if !random.once_in(3) {
-        settings.channel_scale = scale.channel_scale(settings.channel_scale);
+        settings.channel_scale = scale.channel_scale(settings.channel_scale, random);
     }
     let band = tiled::band_height(picture::result(&place).height, random);
     let pass = Pass {

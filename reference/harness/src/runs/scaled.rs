@@ -19,7 +19,7 @@ pub fn compare(amount: Amount, random: &mut Random, report: &mut Report, tally: 
             handed.first = scale.samples(handed.first.len(), random);
             if !random.once_in(3) {
                 let epf = &mut handed.setup.settings.epf;
-                epf.channel_scale = scale.channel_scale(epf.channel_scale);
+                epf.channel_scale = scale.channel_scale(epf.channel_scale, random);
             }
             whole(handed, random, &mut row, tally);
         }
