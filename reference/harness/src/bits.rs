@@ -46,3 +46,26 @@ pub fn sprinkle(buffer: &mut [f32], random: &mut Random) {
         buffer[at] = nan(random);
     }
 }
+
+#[cfg(test)]
+mod tests {
+    use super::*;
+
+    #[test]
+    fn one_nan_for_another_is_a_change() {
+        let random = &mut Random::for_name("bits");
+        for _ in 0..1_000 {
+            let mut before = vec![1.0; 9];
+            sprinkle(&mut before, random);
+            assert!(before[0].is_nan() && before[8].is_nan());
+            let mut after = before.clone();
+            assert_eq!(first_change(&before, &after), None);
+            let at = random.one_of(&[0, 8]);
+            while after[at].to_bits() == before[at].to_bits() {
+                after[at] = nan(random);
+            }
+            assert_eq!(first_change(&before, &after), Some(at));
+            assert_eq!(first_change(&before, &before[..at]), Some(at));
+        }
+    }
+}

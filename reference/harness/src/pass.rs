@@ -109,3 +109,53 @@ impl Read {
         }
     }
 }
+
+#[cfg(test)]
+mod tests {
+    use super::*;
+
+    /// A pass over one sample that is always refused, and may flip a bit of a NaN in the target.
+    #[derive(Debug)]
+    struct Refused {
+        place: oracle::Place,
+        flips: bool,
+    }
+
+    impl Pass for Refused {
+        fn place(&self) -> &oracle::Place {
+            &self.place
+        }
+
+        fn ours(&self, _: Rows, _: &[f32], target: &mut [f32]) -> u32 {
+            if self.flips {
+                target[0] = f32::from_bits(target[0].to_bits() ^ 1 << 31);
+            }
+            9
+        }
+
+        fn rust(&self, source: &[f32]) -> oracle::Planes {
+            picture::planes(source)
+        }
+
+        fn number(&self, _: Rows, _: [usize; 2]) -> u32 {
+            9
+        }
+    }
+
+    #[test]
+    fn a_refusal_that_changes_a_nan_is_noticed() {
+        let random = &mut Random::for_name("refused");
+        let one = oracle::Region::with_size(1, 1);
+        for flips in [false, true] {
+            let place = oracle::Place {
+                image: one,
+                filter: one,
+                preserve_outside: true,
+            };
+            let mut row = Row::new("refused", "one call");
+            let sets = [vec![0.0; 3], vec![0.0; 3]];
+            one_call(&Refused { place, flips }, (0, 1), sets, random, &mut row);
+            assert_eq!(row.differing(), u64::from(flips));
+        }
+    }
+}
