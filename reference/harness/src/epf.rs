@@ -2,10 +2,12 @@
 //! random ones and on wide ones, all of them with block sigmas against `apply_epf`, and refusals.
 //! What is not written must keep its bits.
 
+mod scaled;
 mod tiled;
 mod whole;
 
 use crate::{
+    bits,
     expected::epf::{Handed, number},
     pass::{self, by_bands, one_call},
     picture::{self, Rows, any_len, plain, region, samples, special, wide},
@@ -59,6 +61,10 @@ impl pass::Pass for Pass<'_> {
         loupe::epf_pass(
             image, filter, outside, settings, self.sigmas, from, to, source, target,
         )
+    }
+
+    fn sigmas(&self) -> &[f32] {
+        self.sigmas
     }
 
     /// The result's planes by the original's row function.
@@ -145,6 +151,7 @@ pub fn compare(amount: Amount, report: &mut Report) {
         let mut row = Row::new(name, "wide pictures");
         tiled::compare(step, amount, &mut random, &mut row);
         report.add(row);
+        scaled::compare(step, amount, &mut random, report);
     }
     whole::compare(amount, report);
     refusals(amount, report);
@@ -337,7 +344,10 @@ fn wrong(random: &mut Random, row: &mut Row) {
     let rows = (picture::any_row(random), picture::any_row(random));
     let source = samples(picture::any_set_len(image, random), random);
     let before = samples(picture::any_set_len(image, random), random);
-    let sigmas = vec![1.0; any_len(1, random)];
+    let mut sigmas = vec![1.0; any_len(1, random)];
+    if random.once_in(2) {
+        bits::sprinkle(&mut sigmas, random);
+    }
     let pass = Pass {
         place: oracle::Place {
             image,
@@ -348,7 +358,7 @@ fn wrong(random: &mut Random, row: &mut Row) {
         settings: settings(random),
         sigmas: &sigmas,
     };
-    one_call(&pass, rows, &source, before, row);
+    one_call(&pass, rows, [source, before], random, row);
 }
 
 /// The default settings of a header.

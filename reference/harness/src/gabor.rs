@@ -7,10 +7,13 @@ use crate::{
     picture::{self, Rows, plain, region, samples, special, wide},
     random::Random,
     report::{Amount, Report, Row},
+    scaled::ENDS,
 };
 
 /// Random pictures, before `--scale`.
 const PICTURES: u64 = 10_000;
+/// Pictures that are wholly subnormal, and as many near overflow, before `--scale`.
+const SCALED: u64 = 2_000;
 /// Draws of wrong inputs, before `--scale`.
 const DRAWS: u64 = 200_000;
 /// Sides of small pictures.
@@ -74,9 +77,20 @@ pub fn compare(amount: Amount, report: &mut Report) {
     report.add(row);
     let mut row = Row::new(NAME, "random");
     while row.draws(PICTURES, amount) {
-        random_picture(&mut random, &mut row);
+        let (pass, band) = random_pass(&mut random);
+        any_picture(&pass, band, &mut random, &mut row);
     }
     report.add(row);
+    for end in ENDS {
+        let mut row = Row::new(NAME, end.name());
+        while row.draws(SCALED, amount) {
+            let (pass, band) = random_pass(&mut random);
+            let scale = end.draw(&mut random);
+            let source = scale.samples(picture::set_len(&pass.place), &mut random);
+            by_bands(&pass, band, &source, &mut random, &mut row);
+        }
+        report.add(row);
+    }
     refusals(amount, &mut random, report);
 }
 
@@ -128,7 +142,8 @@ fn all_bands(
     }
 }
 
-fn random_picture(random: &mut Random, row: &mut Row) {
+/// A pass anywhere in the measures, and a band height.
+fn random_pass(random: &mut Random) -> (Pass, u32) {
     let mut side = |most| random.within(1, most) as u32;
     let (width, height) = (side(70), side(70));
     let (columns, rows) = (side(width.into()), side(height.into()));
@@ -156,7 +171,7 @@ fn random_picture(random: &mut Random, row: &mut Row) {
         },
         weights: weights(random),
     };
-    any_picture(&pass, band, random, row);
+    (pass, band)
 }
 
 /// Any picture by bands.
@@ -194,7 +209,7 @@ fn wrong(random: &mut Random, row: &mut Row) {
     let rows = (picture::any_row(random), picture::any_row(random));
     let source = samples(picture::any_set_len(image, random), random);
     let before = samples(picture::any_set_len(image, random), random);
-    one_call(&pass, rows, &source, before, row);
+    one_call(&pass, rows, [source, before], random, row);
 }
 
 /// The default weights, plain ones, or any float.

@@ -6,7 +6,9 @@ mod damage;
 mod draw;
 mod handed;
 mod instances;
+mod nans;
 mod refusals;
+mod scaled;
 
 use calls::Tally;
 use damage::MOST_SAMPLES;
@@ -14,6 +16,7 @@ pub use draw::{Passes, around, band_height, defaults, passes, settings, with_pas
 pub use handed::{Handed, State, place, setup_rule};
 
 use crate::{
+    bits,
     expected::runs::samples as count,
     picture::{agree, samples},
     random::Random,
@@ -49,6 +52,7 @@ pub fn compare(amount: Amount, report: &mut Report) {
         whole(handed, &mut random, &mut row, &mut tally);
     }
     report.add(row);
+    scaled::compare(amount, &mut random, report, &mut tally);
     tally.require(amount);
     tally.report(report);
 }
@@ -101,6 +105,7 @@ fn stray(handed: &Handed, state: &State, random: &mut Random, tally: &mut Tally)
     if !random.once_in(3) {
         damage::state(&mut lent, random);
     }
+    nans::in_state(&mut lent, random);
     match random.within(0, 9) {
         0 => stray_start(handed, random, tally),
         1..=3 => {
@@ -124,6 +129,7 @@ fn stray(handed: &Handed, state: &State, random: &mut Random, tally: &mut Tally)
             if random.once_in(3) {
                 damage::resize(&mut out, random);
             }
+            bits::sprinkle(&mut out, random);
             calls::result(&mut lent, &mut out, tally);
         }
     }
@@ -133,6 +139,7 @@ fn stray(handed: &Handed, state: &State, random: &mut Random, tally: &mut Tally)
 fn stray_start(handed: &Handed, random: &mut Random, tally: &mut Tally) {
     let mut wrong = handed.clone();
     damage::handed(&mut wrong, random);
+    nans::in_handed(&mut wrong, random);
     calls::start(&mut wrong, tally);
 }
 

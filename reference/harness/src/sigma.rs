@@ -1,9 +1,10 @@
 //! Block sigmas: frames of 1 to 4 groups each way with filter regions where groups meet, grids that
 //! are missing or too narrow, and refusals.
 
-use core::fmt;
+use core::{fmt, hint::black_box};
 
 use crate::{
+    bits,
     expected::{self, sigma as rule},
     picture::{agree, any_len, judge, plain, special},
     random::Random,
@@ -103,6 +104,11 @@ impl Case {
         }
     }
 
+    /// Table and grids have the bits that they had.
+    fn is_left_as(&self, before: &Self) -> bool {
+        *black_box(&self.table) == before.table && bits::same(&self.grids, &before.grids)
+    }
+
     /// The filter region of a case that is accepted.
     pub fn filter(&self) -> oracle::Region {
         oracle::Region {
@@ -198,17 +204,23 @@ fn whole_frames(random: &mut Random, report: &mut Report) {
 /// The number and the sigmas are the rule's, and the sigmas are the original's in all rows that it
 /// shows.
 fn check(case: &Case, on: bool, lent: usize, random: &mut Random, row: &mut Row) {
-    let before: Vec<f32> = (0..lent).map(|_| special(random)).collect();
+    let mut before: Vec<f32> = (0..lent).map(|_| special(random)).collect();
+    bits::sprinkle(&mut before, random);
     let mut ours = before.clone();
-    let given = case.ours(on, &mut ours);
     let handed = case.handed(on, lent);
     let number = rule::number(handed);
+    let read = (number != 0).then(|| case.clone());
+    let given = case.ours(on, &mut ours);
     if number != 0 || !on {
-        judge(case, (0, 0), (given, &ours), (number, &before), row);
+        let due = (number, &before[..]);
+        judge(case, (0, 0), (given, &ours), due, &|_| false, row);
+        if read.is_some_and(|read| !case.is_left_as(&read)) {
+            row.differs(case, &"a changed table or grid", &"left");
+        }
         return;
     }
     let due = rule::sigmas(handed, &case.grids, case.modular);
-    judge(case, (0, 0), (given, &ours), (0, &due), row);
+    judge(case, (0, 0), (given, &ours), (0, &due), &|_| true, row);
     let shown = oracle::sigma_rows(
         case.filter(),
         case.frame,
@@ -430,6 +442,7 @@ fn wrong(random: &mut Random, row: &mut Row) {
             }
         }
     }
+    bits::sprinkle(&mut case.grids, random);
     check(&case, on, lent, random, row);
 }
 

@@ -6,7 +6,7 @@ use super::{
 };
 use crate::{
     pass::Pass as _,
-    picture::{self, judge, samples},
+    picture::{self, is_written, judge, samples},
     random::Random,
     report::{Amount, Report, Row},
     sigma::{self, Case},
@@ -170,7 +170,8 @@ impl<'a> Steps<'a> {
         let mut due = before;
         let rows = (0, picture::result(&self.place).height);
         picture::store(&self.place, &rust, rows, &mut due);
-        judge(self, rows, (number, &ours), (0, &due), row);
+        let written = |at| is_written(&self.place, rows, at);
+        judge(self, rows, (number, &ours), (0, &due), &written, row);
     }
 
     /// The largest number that a call gave, and the set that the last step wrote. A step reads the

@@ -1,11 +1,12 @@
 //! Calls with whatever they are lent: the number, the record and every lent slice are what is due.
 
-use core::fmt::Debug;
+use core::{fmt::Debug, hint::black_box};
 
 use loupe::{EpfSettings, EpfSigma, GaborSettings, Region, Run, Settings, Setup};
 
 use super::handed::{Handed, State, fields, place, record_rule, result_part, setup_rule};
 use crate::{
+    bits,
     expected::runs as rule,
     picture::{self, agree},
     report::{Amount, Report, Row},
@@ -101,11 +102,6 @@ fn judge(row: &mut Row, case: &dyn Debug, given: u32, due: u32, parts: &[(&str, 
     }
 }
 
-fn same_bits(a: &[f32], b: &[f32]) -> bool {
-    let bits = |(a, b): (&f32, &f32)| a.to_bits() == b.to_bits();
-    a.len() == b.len() && a.iter().zip(b).all(bits)
-}
-
 /// The same samples, NaNs alike.
 pub fn same_samples(a: &[f32], b: &[f32]) -> bool {
     a.len() == b.len() && a.iter().zip(b).all(|(a, b)| agree(*a, *b))
@@ -135,14 +131,14 @@ pub fn start(handed: &mut Handed, tally: &mut Tally) -> (u32, Run) {
         };
         (run, same_samples(&handed.sigmas, &before.due_sigmas()))
     } else {
-        (NO_RUN, same_bits(&handed.sigmas, &before.sigmas))
+        (NO_RUN, bits::same(&handed.sigmas, &before.sigmas))
     };
     let parts = [
         ("record", fields(&answer.run) == fields(&run)),
-        ("table", handed.table == before.table),
-        ("grids", same_bits(&handed.grids, &before.grids)),
-        ("first set", same_bits(&handed.first, &before.first)),
-        ("second set", same_bits(&handed.second, &before.second)),
+        ("table", *black_box(&handed.table) == before.table),
+        ("grids", bits::same(&handed.grids, &before.grids)),
+        ("first set", bits::same(&handed.first, &before.first)),
+        ("second set", bits::same(&handed.second, &before.second)),
         ("sigmas", sigmas_due),
     ];
     judge(&mut tally.start, &before, answer.number, due, &parts);
@@ -169,9 +165,9 @@ pub fn band(state: &mut State, k: u32, tally: &mut Tally) -> u32 {
     state.run = answer.run;
     let parts = [
         ("record", fields(&state.run) == fields(&before.run)),
-        ("sigmas", same_bits(&state.sigmas, &before.sigmas)),
-        ("first set", same_bits(&state.first, &before.first)),
-        ("second set", same_bits(&state.second, &before.second)),
+        ("sigmas", bits::same(&state.sigmas, &before.sigmas)),
+        ("first set", bits::same(&state.first, &before.first)),
+        ("second set", bits::same(&state.second, &before.second)),
     ];
     let case = (&before, k);
     judge(&mut tally.band, &case, answer.number, due, &parts);
@@ -221,11 +217,11 @@ pub fn result(state: &mut State, out: &mut [f32], tally: &mut Tally) -> u32 {
         let [read, _] = state.by_turns();
         same_samples(out, &result_part(&setup, read))
     } else {
-        same_bits(out, &lent)
+        bits::same(out, &lent)
     };
     let parts = [
-        ("first set", same_bits(&state.first, &before.first)),
-        ("second set", same_bits(&state.second, &before.second)),
+        ("first set", bits::same(&state.first, &before.first)),
+        ("second set", bits::same(&state.second, &before.second)),
         ("slice", copied),
     ];
     let case = (&before, out.len());

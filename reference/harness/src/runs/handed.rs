@@ -5,7 +5,7 @@ use core::fmt;
 use loupe::{Run, RunAnswer, Setup};
 
 use crate::{
-    epf,
+    bits, epf,
     expected::{self, runs as rule, sigma::Frame},
     picture, sigma,
 };
@@ -135,6 +135,14 @@ impl State {
             first: handed.first.clone(),
             second: handed.second.clone(),
         }
+    }
+
+    /// The record and every buffer have the same bits.
+    pub fn same_bits(&self, other: &Self) -> bool {
+        fields(&self.run) == fields(&other.run)
+            && bits::same(&self.sigmas, &other.sigmas)
+            && bits::same(&self.first, &other.first)
+            && bits::same(&self.second, &other.second)
     }
 
     pub fn sets(&self) -> [usize; 2] {

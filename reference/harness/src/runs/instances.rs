@@ -32,7 +32,7 @@ pub fn compare(report: &mut Report) {
     }
     report.add(row);
     let mut row = Row::new("runs", "named refusals");
-    refusals::compare(&mut row, &mut tally);
+    refusals::compare(&mut random, &mut row, &mut tally);
     report.add(row);
     tally.report(report);
 }

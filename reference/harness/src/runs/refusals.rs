@@ -8,8 +8,9 @@ use super::{
     draw::{Passes, defaults},
     handed::{Handed, State},
     instances::expect,
+    nans,
 };
-use crate::report::Row;
+use crate::{bits, random::Random, report::Row};
 
 /// Two blocks each way, of which the first column lies in one group and the second in the next.
 const REGION: Region = Region {
@@ -22,6 +23,8 @@ const ALL: Passes = Passes {
     gabor: true,
     iterations: 3,
 };
+/// A left that no frame reaches.
+const PAST_FRAMES: i32 = 16_384;
 const SAMPLES: usize = 3 * 16 * 16;
 const BLOCKS: usize = 4;
 
@@ -119,6 +122,12 @@ const STARTS: &[Wrong<Handed, u32>] = &[
         h.setup.settings.gabor.enabled = 255;
         h.first.pop();
     }),
+    ("a filter region at left 16,384, the widest frame", 8, |h| {
+        moved(&mut h.setup, PAST_FRAMES - REGION.left);
+        h.frame.width = 16_384;
+        h.table = vec![0; 3 * 16];
+        h.grids.clear();
+    }),
     ("band height 16,385", 9, |h| h.setup.band_height = 16_385),
     ("256 bands", 0, |h| rows(h, 256)),
     ("257 bands", 9, |h| rows(h, 257)),
@@ -191,6 +200,10 @@ const RECORDS: &[Wrong<State, [u32; 3]>] = &[
         t.run.setup.image.left = 1_048_577;
         t.first.pop();
     }),
+    // Start gives 8 for every frame; a record is not judged by it.
+    ("a filter region at left 16,384", [0, 11, 11], |t| {
+        moved(&mut t.run.setup, PAST_FRAMES - REGION.left)
+    }),
     ("4 iterations, no sigmas", [9, 9, 9], |t| {
         t.run.setup.settings.epf.iters = 4;
         t.sigmas.clear();
@@ -217,10 +230,11 @@ const RECORDS: &[Wrong<State, [u32; 3]>] = &[
     }),
 ];
 
-pub fn compare(row: &mut Row, tally: &mut Tally) {
+pub fn compare(random: &mut Random, row: &mut Row, tally: &mut Tally) {
     for (what, due, damage) in STARTS {
         let mut handed = sound();
         damage(&mut handed);
+        nans::in_handed(&mut handed, random);
         let (number, _) = calls::start(&mut handed, tally);
         expect(what, number, *due, row);
     }
@@ -229,8 +243,10 @@ pub fn compare(row: &mut Row, tally: &mut Tally) {
     for (what, dues, damage) in RECORDS {
         let mut lent = State::new(run, &handed);
         damage(&mut lent);
+        nans::in_state(&mut lent, random);
         // The result's slice is as long as it should be, then one shorter.
         let mut out = vec![0.0; SAMPLES];
+        bits::sprinkle(&mut out, random);
         let number = calls::result(&mut lent, &mut out, tally);
         expect(what, number, dues[2], row);
         out.pop();
