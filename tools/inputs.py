@@ -25,7 +25,7 @@ SHARED = {
     # Weights of 0, so that the Gabor-like filter changes nothing, and no default among the edge filter's settings.
     "passes": """
 fn settings(gabor: u32, iters: u32) -> passes::Settings {
-    let gabor = gabor_header::gabor_of(gabor == 1, [[0.0; 2]; 3]);
+    let gabor = passes::gabor_settings(gabor, [[0.0; 2]; 3]);
     let sigma = epf_sigma::EpfSigma { quant_mul: 0.25, pass0_sigma_scale: 0.75, pass2_sigma_scale: 6.0, border_sad_mul: 0.5 };
     let epf = passes::EpfSettings { iters, channel_scale: [1.0; 3], sigma, sigma_for_modular: 1.0 };
     passes::Settings { gabor, epf }
@@ -38,17 +38,17 @@ fn region_of(left: i32, top: i32, width: u32, height: u32) -> region::Region {
 """,
     "setup": """
 fn setup_of(image: region::Region, filter: region::Region, full: u32, settings: passes::Settings, band_height: u32) -> setup::Setup {
-    setup::Setup { image, filter, preserve_outside: full == 1, settings, band_height }
+    setup::Setup { image, filter, preserve_outside: full, settings, band_height }
 }
 """,
     "record": """
 fn run_at(setup: setup::Setup, pass: u32) -> record::Run {
-    record::Run { setup, pass, done: [false; 256] }
+    record::Run { setup, pass, done: [0; 256] }
 }
 
 fn with_done(run: record::Run, k: usize) -> record::Run {
     let mut r = run;
-    r.done[k] = true;
+    r.done[k] = 1;
     r
 }
 """,
