@@ -14,7 +14,7 @@ use planes::filter_row;
 use planes::rows_fit;
 use region::Region;
 use tiles::Step;
-use tiles::region::filter_region;
+use tiles::strips::filter_region;
 ghost use mathlib.Core.Path.{_≡_};
 ghost use Prim.Native.Nat.{_≤_};
 ghost use lib.ListN.{length};

@@ -1,4 +1,4 @@
--- `tiles::region::strip` meets its contract. The invariant: x columns are there. Assumes nothing.
+-- `tiles::strips::strip` meets its contract. The invariant: x columns are there. Assumes nothing.
 use mathlib.Core.Path.{_≡_, refl, _∙_}
 use Prim.Native.Nat.{ℕ, _+_, _-_, _*_, _/_, _%_, _≤_, _<_}
 use native.Mathlib.Omega.{arith}
@@ -11,8 +11,8 @@ use Rattle.rects.specs.declared.Rect.{Rect}
 use Rattle.rects.specs.Rects.{RectFits, rect-long}
 use Rattle.tiles.specs.Tile.{sigmaFirst, TileFits, Scratch, stepOver}
 use Rattle.tiles.specs.Region.{columns-none, tile-fits, tile-room, tile-sigmas, tile-beside}
-use Rattle.tiles.proofs.region.strip.Statement.{statement}
-use Rattle.tiles.proofs.region.strip.Tie as tie
+use Rattle.tiles.proofs.strips.strip.Statement.{statement}
+use Rattle.tiles.proofs.strips.strip.Tie as tie
 
 abbrev Inv-loop : tie.InvT-loop
 Inv-loop dst₀ src l n s sigmas top y rows win₀ fields₀ slopes₀ lanes₀ x₀ dst win fields slopes lanes x =

@@ -1,4 +1,4 @@
--- `tiles::region::strips` meets its contract. The invariant: the rows above y are there. Assumes nothing.
+-- `tiles::strips::strips` meets its contract. The invariant: the rows above y are there. Assumes nothing.
 use mathlib.Core.Path.{_≡_, refl, sym, _∙_}
 use Prim.Native.Nat.{ℕ, _+_, _-_, _≤_}
 use native.Mathlib.Omega.{arith}
@@ -8,8 +8,8 @@ use lib.ListN.{length}
 use Rattle.planes.specs.Rect.{planesFill}
 use Rattle.tiles.specs.Tile.{Scratch, stepOver}
 use Rattle.tiles.specs.Region.{StripFits, rows-start, strip-fits, strip-below, region-long}
-use Rattle.tiles.proofs.region.strips.Statement.{statement}
-use Rattle.tiles.proofs.region.strips.Tie as tie
+use Rattle.tiles.proofs.strips.strips.Statement.{statement}
+use Rattle.tiles.proofs.strips.strips.Tie as tie
 
 abbrev Inv-loop : tie.InvT-loop
 Inv-loop dst₀ src l n s sigmas top from to win₀ fields₀ slopes₀ lanes₀ y₀ dst win fields slopes lanes y =

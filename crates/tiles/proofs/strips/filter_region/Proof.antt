@@ -1,4 +1,4 @@
--- `tiles::region::filter_region` meets its contract. Where a test fails `dst` is as it was. Assumes nothing.
+-- `tiles::strips::filter_region` meets its contract. Where a test fails `dst` is as it was. Assumes nothing.
 use mathlib.Core.Path.{_≡_, sym, _∙_}
 use mathlib.Core.Bool.{true}
 use Prim.Native.Nat.{_*_}
@@ -11,8 +11,8 @@ use Rattle.planes.specs.Band.{setFits}
 use Rattle.planes.specs.Room.{set-facts}
 use Rattle.tiles.specs.Blocks.{blockColumns, blockRows}
 use Rattle.tiles.specs.Region.{RegionFits, BlocksRoom, blocks-room, no-source, no-target, no-sigmas, no-step, no-top, no-order, no-rows, region-fits, region-done}
-use Rattle.tiles.proofs.region.filter_region.Statement.{statement}
-use Rattle.tiles.proofs.region.filter_region.Tie as tie
+use Rattle.tiles.proofs.strips.filter_region.Statement.{statement}
+use Rattle.tiles.proofs.strips.filter_region.Tie as tie
 
 -- the sets fit
 module _ (c : tie.Else2) where
