@@ -47,7 +47,7 @@ entries! {
     /// ```
     gabor_pass = loupe_gabor_pass(
         image: Region, filter: Region, preserve_outside: bool, settings: Gabor,
-        from: u32, to: u32, source: &[f32], target: &mut [f32]
+        from: u32, to: u32, src: &[f32], dst: &mut [f32]
     ) -> u32;
 
     /// An edge-preserving step.
@@ -72,7 +72,7 @@ entries! {
     /// # Ok::<(), loupe::Refusal>(())
     /// ```
     epf_pass = loupe_epf_pass(
-        image: Region, filter: Region, preserve_outside: bool, settings: EpfStep, sigmas: &[f32],
-        from: u32, to: u32, source: &[f32], target: &mut [f32]
+        image: Region, filter: Region, preserve_outside: bool, s: EpfStep, sigmas: &[f32],
+        from: u32, to: u32, src: &[f32], dst: &mut [f32]
     ) -> u32;
 }
