@@ -1,8 +1,8 @@
 // One refused call of each function of the C boundary, and a whole run. Prints how much was compared; exits with 1 where something differs.
+#include "loupe.h"
+
 #include <stdio.h>
 #include <string.h>
-
-#include "loupe.h"
 
 static unsigned refused, compared, differing;
 
