@@ -22,11 +22,11 @@ use Rattle.epf.specs.declared.EpfStep.{EpfStep}
 use Rattle.epf.specs.Outcome.{stepChecks, epfChecks, epfOutcome}
 use Rattle.passes.specs.declared.Settings.{Settings}
 use Rattle.passes.specs.Pass.{gaborLike, pass}
-use Rattle.passes.specs.Plan.{stepOf, oneIf, gaborAt, stepIndex}
+use Rattle.passes.specs.Plan.{gaborOn, stepOf, oneIf, gaborAt, stepIndex}
 use Rattle.passes.specs.PlanLaws.{plan-length, plan-gabor, plan-step}
 use Rattle.setup.specs.declared.Setup.{Setup}
 use Rattle.record.specs.declared.Run.{Run}
-use Rattle.setup.specs.Setup.{layout, epfOn, area, rowCount, setLength, sigmaLength}
+use Rattle.setup.specs.Setup.{fullPlanes, layout, epfOn, area, rowCount, setLength, sigmaLength}
 use Rattle.record.specs.Record.{passCount}
 use Rattle.numbers.specs.Tables.{is-true}
 use Rattle.setup.specs.Laws.{SetupFits, setup-fits}
@@ -67,7 +67,7 @@ module _ (r : Run) (sigmas src dst : List Float) (from to : ℕ) (fits : RowsFit
   rows-true : rowsFit (layout s) from to ≡ true
   rows-true = rw (le-leb from to (fits .order), le-leb to (rowCount s) (fits .rows))
 
-  gabor-number : firstOf (passChecks (s .image) (s .filter) (s .«preserve_outside») 3 from to src dst) ≡ 0
+  gabor-number : firstOf (passChecks (s .image) (s .filter) (fullPlanes s) 3 from to src dst) ≡ 0
   unfolding passChecks
   gabor-number = rw (
     is-true (pictured (s .image)) (setup .image),
@@ -79,12 +79,12 @@ module _ (r : Run) (sigmas src dst : List Float) (from to : ℕ) (fits : RowsFit
   )
 
   -- Gabor's pass
-  pub gabor-rows : gaborAt (s .settings) (r .pass) ≡ true → (ws : List (List Float)) → ws ≡ s .settings .gabor .weights → (k : ℕ) (a : List Float)
-      → _≡_ {A = PassOutcome} (record { number = k; target = a }) (gaborOutcome (s .image) (s .filter) (s .«preserve_outside») ws from to src dst)
+  pub gabor-rows : (full : Bool) → full ≡ fullPlanes s → gaborAt (s .settings) (r .pass) ≡ true → (ws : List (List Float)) → ws ≡ s .settings .gabor .weights → (k : ℕ) (a : List Float)
+      → _≡_ {A = PassOutcome} (record { number = k; target = a }) (gaborOutcome (s .image) (s .filter) full ws from to src dst)
       → a ≡ passedRows 3 r sigmas from to src dst
   unfolding gaborOutcome pass layoutOf
-  gabor-rows g ws w k a e =
-      accepted-target k a _ dst _ gabor-number e
+  gabor-rows full u g ws w k a e =
+      accepted-target k a _ dst _ gabor-number (rw u at e)
       ∙ rw (plan-gabor 3 (s .settings) (r .pass) (gaborLike []) g, w)
 
   -- a step's pass
@@ -92,7 +92,7 @@ module _ (r : Run) (sigmas src dst : List Float) (from to : ℕ) (fits : RowsFit
     -- the edge filter is on, since a pass that is not Gabor's is left
     some-iters : 0 < s .settings .epf .iters
     unfolding gaborAt
-    some-iters = go (s .settings .gabor .enabled) g (omega (arith, fits .left, plan-length 3 (s .settings)))
+    some-iters = go (gaborOn (s .settings)) g (omega (arith, fits .left, plan-length 3 (s .settings)))
       where
         go : (on : Bool) → (on && eqb (r .pass) 0) ≡ false → r .pass < oneIf on + min (s .settings .epf .iters) 3 → 0 < s .settings .epf .iters
         go true e h = after (ℕ-discrete (r .pass) 0)
@@ -111,7 +111,7 @@ module _ (r : Run) (sigmas src dst : List Float) (from to : ℕ) (fits : RowsFit
     corner : onBlocks (s .filter) ≡ true
     corner = is-true (onBlocks (s .filter)) (setup .blocks (rw on tt))
 
-    step-number : firstOf (epfChecks (s .image) (s .filter) (s .«preserve_outside») (stepOf (s .settings) (stepIndex (s .settings) (r .pass))) sigmas from to src dst) ≡ 0
+    step-number : firstOf (epfChecks (s .image) (s .filter) (fullPlanes s) (stepOf (s .settings) (stepIndex (s .settings) (r .pass))) sigmas from to src dst) ≡ 0
     unfolding epfChecks stepChecks stepOf layoutOf
     step-number = rw (
       is-true (pictured (s .image)) (setup .image),
@@ -126,12 +126,12 @@ module _ (r : Run) (sigmas src dst : List Float) (from to : ℕ) (fits : RowsFit
       rows-true,
     )
 
-    pub step-rows : (step : EpfStep) → step ≡ stepOf (s .settings) (stepIndex (s .settings) (r .pass)) → (k : ℕ) (a : List Float)
-        → _≡_ {A = PassOutcome} (record { number = k; target = a }) (epfOutcome (s .image) (s .filter) (s .«preserve_outside») step sigmas from to src dst)
+    pub step-rows : (full : Bool) → full ≡ fullPlanes s → (step : EpfStep) → step ≡ stepOf (s .settings) (stepIndex (s .settings) (r .pass)) → (k : ℕ) (a : List Float)
+        → _≡_ {A = PassOutcome} (record { number = k; target = a }) (epfOutcome (s .image) (s .filter) full step sigmas from to src dst)
         → a ≡ passedRows 3 r sigmas from to src dst
     unfolding epfOutcome pass layoutOf
-    step-rows step p k a e =
-        accepted-target k a _ dst _ step-number (rw p at e)
+    step-rows full u step p k a e =
+        accepted-target k a _ dst _ step-number (rw (u, p) at e)
         ∙ rw (plan-step 3 (s .settings) (r .pass) (gaborLike []) g (fits .left))
 
 -- ---- a band
