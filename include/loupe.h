@@ -161,6 +161,12 @@ typedef struct LoupeMirrorAnswer {
     size_t place;
 } LoupeMirrorAnswer;
 
+// The Gabor-like filter: whether it is on, a flag, and three channels (X, Y, B) of two weights, of the side neighbours and of the corners.
+typedef struct LoupeGaborSettings {
+    uint32_t enabled;
+    float weights[3][2];
+} LoupeGaborSettings;
+
 // The settings of a step that it reads besides samples and sigmas: `multiplier` is the step's scale.
 typedef struct LoupeEpfStep {
     uint32_t step;
@@ -178,24 +184,30 @@ typedef struct LoupeEpfSettings {
 } LoupeEpfSettings;
 
 typedef struct LoupeSettings {
-    LoupeGabor gabor;
+    LoupeGaborSettings gabor;
     LoupeEpfSettings epf;
 } LoupeSettings;
 
-// What start is told and no call changes. `band_height` is in rows of the result.
+// The margin, or 9 and 0.
+typedef struct LoupeMarginAnswer {
+    uint32_t number;
+    uint32_t margin;
+} LoupeMarginAnswer;
+
+// What start is told and no call changes. `preserve_outside` is a flag: the result is the full planes. `band_height` is in rows of the result.
 typedef struct LoupeSetup {
     LoupeRegion image;
     LoupeRegion filter;
-    bool preserve_outside;
+    uint32_t preserve_outside;
     LoupeSettings settings;
     uint32_t band_height;
 } LoupeSetup;
 
-// `pass` counts the passes that are over; `done` has a flag for each band of the next one.
+// `pass` counts the passes that are over; `done` has a flag for each band of the next one: 1 where it is done.
 typedef struct LoupeRun {
     LoupeSetup setup;
     uint32_t pass;
-    bool done[256];
+    uint8_t done[256];
 } LoupeRun;
 
 // The record as it is after the call: as it was handed in where a band or an advance is refused, and zeros where start is.
@@ -231,7 +243,7 @@ LoupeFrameAnswer loupe_group_sizes(LoupeFrame f);
 LoupeSplitAnswer loupe_split_block(uint32_t block, uint32_t group_size_shift);
 
 uint32_t loupe_block_sigmas(
-    bool on,
+    uint32_t on,
     LoupeFrame frame,
     LoupeBlocks blocks,
     const uint32_t *table, size_t table_len,
@@ -257,8 +269,8 @@ LoupeMirrorAnswer loupe_mirror(ptrdiff_t offset, size_t len);
 uint32_t loupe_gabor_pass(
     LoupeRegion image,
     LoupeRegion filter,
-    bool preserve_outside,
-    LoupeGabor settings,
+    uint32_t preserve_outside,
+    LoupeGaborSettings settings,
     uint32_t from,
     uint32_t to,
     const float *src, size_t src_len,
@@ -267,7 +279,7 @@ uint32_t loupe_gabor_pass(
 uint32_t loupe_epf_pass(
     LoupeRegion image,
     LoupeRegion filter,
-    bool preserve_outside,
+    uint32_t preserve_outside,
     LoupeEpfStep s,
     const float *sigmas, size_t sigmas_len,
     uint32_t from,
@@ -277,8 +289,20 @@ uint32_t loupe_epf_pass(
 
 // == The C boundary of runs
 
-uint32_t loupe_margin(LoupeSettings settings);
+// The margin of the settings: how many samples must lie between a sample and each cut edge of a rectangle so that the sample is the one that the larger
+// picture has. It is 1 where the Gabor-like filter is on, plus 0, 2, 3 or 6 for 0, 1, 2 or 3 iterations of the edge-preserving filter.
+// Numbers: 0; 9 where `gabor.enabled` is neither 0 nor 1 or `epf.iters` is over 3, and then the margin is 0. Nothing else of the settings is read.
+LoupeMarginAnswer loupe_margin(LoupeSettings settings);
 
+// Starts a run: checks all that it is handed, fills the block sigmas and answers the run's record. `table` has three numbers for each group of the frame
+// (presence, grid width, grid height), `grids` the cells of the present grids one after another; `first` and `second` are three planes of the image region
+// each, and `sigmas` has one sigma for each block of 8 x 8 of the filter region, none where `epf.iters` is 0.
+// Numbers, the lowest that applies: 0; 4 where a side, an area, a left or a top is out of measure; 5 where the filter region is not inside the image region;
+// 6 where the edge filter is on and the filter region's left or top is negative or no multiple of 8; 7 where a slice has a wrong length; 8 where the edge
+// filter is on and a block's group is not in the frame, or its grid is present and does not hold the block; 9 where a setting is out of range: iterations over
+// 3, a frame setting, a presence, `preserve_outside` or `gabor.enabled` neither 0 nor 1, a band height outside 1 to 16,384, more than 256 bands. A check that
+// needs a setting faulty under 9 is passed over.
+// Accepted, `sigmas` is filled (where there are any) and `first` and `second` are as they were. Refused, the record is all zeros and every slice is as it was.
 LoupeRunAnswer loupe_start(
     LoupeSetup setup,
     LoupeFrame frame,
@@ -288,6 +312,13 @@ LoupeRunAnswer loupe_start(
     const float *second, size_t second_len,
     float *sigmas, size_t sigmas_len);
 
+// Runs band `k` of the run's next pass: reads the set that the pass reads (the first in the first pass, exchanged by each advance) and writes the band's rows
+// of the result in the other set, filtered inside the filter region and copied outside it. It answers the record with the band marked done.
+// Numbers, the lowest that applies: 0; 7 where a set or the block sigmas have a wrong length for the record's setup, unless what the length is computed from is
+// out of range; 9 where the record is none that accepted calls give: a setup that start would refuse under 4, 5, 6 or 9, a pass past the last, a flag of `done`
+// over 1, or over 0 from the band count on or once the run is finished; 10 where `k` is not below the band count, the band is done or the run is finished.
+// Accepted, the set that is read, the block sigmas and the rest of the other set are as they were. Refused, the record is the one handed in and every slice is as
+// it was.
 LoupeRunAnswer loupe_band(
     LoupeRun run,
     const float *sigmas, size_t sigmas_len,
@@ -295,8 +326,16 @@ LoupeRunAnswer loupe_band(
     float *second, size_t second_len,
     uint32_t k);
 
+// Goes on to the next pass once every band of this one is done: the sets are exchanged and no band is done. After the last pass the run is finished.
+// Numbers, the lowest that applies: 0; 9 where the record is none that accepted calls give (as for a band); 11 where a band is missing or the run is finished.
+// Refused, the record is the one handed in.
 LoupeRunAnswer loupe_advance(LoupeRun run);
 
+// Copies the result of a finished run into `out`, plane after plane, from the set that a next pass would read: the image region where `preserve_outside` is 1,
+// the filter region's part where it is 0. It answers the number.
+// Numbers, the lowest that applies: 0; 7 where a set or `out` has a wrong length for the record's setup, unless what the length is computed from is out of range;
+// 9 where the record is none that accepted calls give (as for a band); 11 where the run is not finished.
+// Both sets are as they were. Refused, `out` is as it was too.
 uint32_t loupe_result(
     LoupeRun run,
     const float *first, size_t first_len,
@@ -382,6 +421,9 @@ static_assert(offsetof(LoupeRestorationAnswer, next) == 104, "next");
 static_assert(sizeof(LoupeMirrorAnswer) == 16, "LoupeMirrorAnswer");
 static_assert(offsetof(LoupeMirrorAnswer, number) == 0, "number");
 static_assert(offsetof(LoupeMirrorAnswer, place) == 8, "place");
+static_assert(sizeof(LoupeGaborSettings) == 28, "LoupeGaborSettings");
+static_assert(offsetof(LoupeGaborSettings, enabled) == 0, "enabled");
+static_assert(offsetof(LoupeGaborSettings, weights) == 4, "weights");
 static_assert(sizeof(LoupeEpfStep) == 24, "LoupeEpfStep");
 static_assert(offsetof(LoupeEpfStep, step) == 0, "step");
 static_assert(offsetof(LoupeEpfStep, channel_scale) == 4, "channel_scale");
@@ -395,6 +437,9 @@ static_assert(offsetof(LoupeEpfSettings, sigma_for_modular) == 32, "sigma_for_mo
 static_assert(sizeof(LoupeSettings) == 64, "LoupeSettings");
 static_assert(offsetof(LoupeSettings, gabor) == 0, "gabor");
 static_assert(offsetof(LoupeSettings, epf) == 28, "epf");
+static_assert(sizeof(LoupeMarginAnswer) == 8, "LoupeMarginAnswer");
+static_assert(offsetof(LoupeMarginAnswer, number) == 0, "number");
+static_assert(offsetof(LoupeMarginAnswer, margin) == 4, "margin");
 static_assert(sizeof(LoupeSetup) == 104, "LoupeSetup");
 static_assert(offsetof(LoupeSetup, image) == 0, "image");
 static_assert(offsetof(LoupeSetup, filter) == 16, "filter");

@@ -104,11 +104,15 @@ static void headers(void)
 static void passes(void)
 {
     LoupeRegion corner = {.width = 1, .height = 2};
-    LoupeGabor gabor = {.enabled = 1};
+    LoupeGaborSettings gabor = {.enabled = 1};
     LoupeEpfStep step = {.step = 3};
+    LoupeSettings settings = {.gabor = gabor, .epf = {.iters = 4}};
     float from[SAMPLES] = {0}, to[SAMPLES] = {5}, sigma = 1;
     REFUSED(LoupeMirrorAnswer, loupe_mirror(-1, 0), LOUPE_OUT_OF_RANGE, a.place == 0);
     COMPARE(loupe_mirror(-3, 2).place == 1);
+    REFUSED(LoupeMarginAnswer, loupe_margin(settings), LOUPE_OUT_OF_RANGE, a.margin == 0);
+    settings.epf.iters = 3;
+    COMPARE(loupe_margin(settings).margin == 7);
     REFUSED_NUMBER(loupe_gabor_pass(corner, image, 1, gabor, 0, SIDE, from, SAMPLES, to, SAMPLES), LOUPE_NOT_INSIDE, to);
     REFUSED_NUMBER(loupe_epf_pass(image, image, 1, step, &sigma, 1, 0, SIDE, from, SAMPLES, to, SAMPLES), LOUPE_OUT_OF_RANGE, to);
     for (step.step = 0; step.step < 3; step.step++)
@@ -128,7 +132,6 @@ static void run_calls(void)
         first[plane * SIDE * SIDE + 4] = 16;
     }
 
-    COMPARE(loupe_margin(setup.settings) == 1);
     REFUSED(LoupeRunAnswer, loupe_start(setup, frame, NULL, 0, NULL, 0, first, SAMPLES, second, SAMPLES, NULL, 0), LOUPE_WRONG_LENGTH,
         ZEROS(a.run));
     LoupeRunAnswer answer = loupe_start(setup, frame, table, GROUP, NULL, 0, first, SAMPLES, second, SAMPLES, NULL, 0);
@@ -143,6 +146,10 @@ static void run_calls(void)
     }
     REFUSED(LoupeRunAnswer, loupe_band(run, NULL, 0, first, SAMPLES, second, SAMPLES, 0), LOUPE_BAND_NOT_OPEN,
         memcmp(&a.run, &run, sizeof run) == 0);
+    // A flag is 0 or 1.
+    LoupeRun odd = run;
+    odd.done[0] = 2;
+    REFUSED(LoupeRunAnswer, loupe_advance(odd), LOUPE_OUT_OF_RANGE, memcmp(&a.run, &odd, sizeof odd) == 0);
     answer = loupe_advance(run);
     COMPARE(answer.number == LOUPE_ACCEPTED);
     COMPARE(loupe_result(answer.run, first, SAMPLES, second, SAMPLES, out, SAMPLES) == LOUPE_ACCEPTED);

@@ -83,6 +83,9 @@ const _: () = {
     assert!(size_of::<MirrorAnswer>() == 16);
     assert!(offset_of!(MirrorAnswer, number) == 0);
     assert!(offset_of!(MirrorAnswer, place) == 8);
+    assert!(size_of::<GaborSettings>() == 28);
+    assert!(offset_of!(GaborSettings, enabled) == 0);
+    assert!(offset_of!(GaborSettings, weights) == 4);
     assert!(size_of::<EpfStep>() == 24);
     assert!(offset_of!(EpfStep, step) == 0);
     assert!(offset_of!(EpfStep, channel_scale) == 4);
@@ -96,6 +99,9 @@ const _: () = {
     assert!(size_of::<Settings>() == 64);
     assert!(offset_of!(Settings, gabor) == 0);
     assert!(offset_of!(Settings, epf) == 28);
+    assert!(size_of::<MarginAnswer>() == 8);
+    assert!(offset_of!(MarginAnswer, number) == 0);
+    assert!(offset_of!(MarginAnswer, margin) == 4);
     assert!(size_of::<Setup>() == 104);
     assert!(offset_of!(Setup, image) == 0);
     assert!(offset_of!(Setup, filter) == 16);

@@ -94,7 +94,7 @@ impl Smoothing {
     /// The bands of this pass that are not done. The first of these that is 10 is past the last band.
     fn open_bands(&mut self) -> Result<(), Refusal> {
         let done = self.run.done;
-        for k in (0..).filter(|&k| done.get(k as usize) != Some(&true)) {
+        for k in (0..).filter(|&k| done.get(k as usize) != Some(&1)) {
             match self.band(k) {
                 Err(Refusal::BandNotOpen) => break,
                 answer => answer?,
@@ -105,7 +105,7 @@ impl Smoothing {
 }
 
 fn result_region(setup: &Setup) -> Region {
-    if setup.preserve_outside {
+    if setup.preserve_outside != 0 {
         setup.image
     } else {
         setup.filter
