@@ -60,7 +60,7 @@ entries! {
     /// assert_eq!(loupe::split_block(300, 0).value()?, (2, 44));
     /// # Ok::<(), loupe::Refusal>(())
     /// ```
-    group_sizes = loupe_group_sizes(frame: Frame) -> FrameAnswer;
+    group_sizes = loupe_group_sizes(f: Frame) -> FrameAnswer;
 
     /// The group of a block's column or row, and the cell in it.
     split_block = loupe_split_block(block: u32, group_size_shift: u32) -> SplitAnswer;

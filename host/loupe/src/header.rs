@@ -53,7 +53,7 @@ entries! {
     /// assert_eq!(refused, Err(loupe::Refusal::HalfNotFinite));
     /// # Ok::<(), loupe::Refusal>(())
     /// ```
-    read_half = loupe_read_half(bytes: &[u8], place: usize) -> HalfAnswer;
+    read_half = loupe_read_half(bytes: &[u8], at: usize) -> HalfAnswer;
 
     /// ```
     /// // Document 01, "Instances": weights -1/8, -1/8 and 1/4, 0, after the enabled and custom bits.
@@ -67,8 +67,8 @@ entries! {
     /// assert_eq!((gabor.weights, next), ([[0.25, 0.0]; 3], 98));
     /// # Ok::<(), loupe::Refusal>(())
     /// ```
-    read_gabor = loupe_read_gabor(bytes: &[u8], place: usize) -> GaborAnswer;
-    read_epf = loupe_read_epf(bytes: &[u8], place: usize, modular: bool) -> EpfAnswer;
+    read_gabor = loupe_read_gabor(bytes: &[u8], at: usize) -> GaborAnswer;
+    read_epf = loupe_read_epf(bytes: &[u8], at: usize, modular: bool) -> EpfAnswer;
 
     /// Both filters, the Gabor-like one first.
     ///
@@ -84,5 +84,5 @@ entries! {
     /// # Ok::<(), loupe::Refusal>(())
     /// ```
     read_filters =
-        loupe_read_filters(bytes: &[u8], place: usize, modular: bool) -> RestorationAnswer;
+        loupe_read_filters(bytes: &[u8], at: usize, modular: bool) -> RestorationAnswer;
 }

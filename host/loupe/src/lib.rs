@@ -40,6 +40,7 @@
 mod boundary;
 mod frame;
 mod header;
+mod layout;
 mod pass;
 mod refusal;
 mod region;

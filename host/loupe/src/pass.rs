@@ -1,5 +1,5 @@
-//! One pass over some rows of its result, which is the full planes or, where `preserve_outside` is
-//! false, the filter region.
+//! One pass over some rows of its result, which is the full planes or, where `preserve_outside` is 0
+//! and not 1, the filter region.
 
 use crate::{
     GaborSettings, Region,
@@ -47,7 +47,7 @@ entries! {
     /// ```
     gabor_pass = loupe_gabor_pass(
         image: Region, filter: Region, preserve_outside: u32, settings: GaborSettings,
-        from: u32, to: u32, source: &[f32], target: &mut [f32]
+        from: u32, to: u32, src: &[f32], dst: &mut [f32]
     ) -> u32;
 
     /// An edge-preserving step.
@@ -72,7 +72,7 @@ entries! {
     /// # Ok::<(), loupe::Refusal>(())
     /// ```
     epf_pass = loupe_epf_pass(
-        image: Region, filter: Region, preserve_outside: u32, settings: EpfStep, sigmas: &[f32],
-        from: u32, to: u32, source: &[f32], target: &mut [f32]
+        image: Region, filter: Region, preserve_outside: u32, s: EpfStep, sigmas: &[f32],
+        from: u32, to: u32, src: &[f32], dst: &mut [f32]
     ) -> u32;
 }

@@ -7,6 +7,23 @@ use crate::{
     boundary::{answers, entries},
 };
 
+/// The Gabor-like filter's settings; `enabled` is 0 or 1.
+#[repr(C)]
+#[derive(Debug, Clone, Copy, PartialEq)]
+pub struct GaborSettings {
+    pub enabled: u32,
+    pub weights: [[f32; 2]; 3],
+}
+
+impl From<Gabor> for GaborSettings {
+    fn from(read: Gabor) -> Self {
+        Self {
+            enabled: read.enabled.into(),
+            weights: read.weights,
+        }
+    }
+}
+
 /// The edge filter is on where there are iterations.
 #[repr(C)]
 #[derive(Debug, Clone, Copy, PartialEq)]
