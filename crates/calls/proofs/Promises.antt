@@ -3,7 +3,12 @@ use Rattle.mirror.specs.Laws.{mirror-lt, mirror-periodic, mirror-low, mirror-hi
 use Rattle.mirror.specs.Cut.{mirror-cut}
 use Rattle.region_arithmetic.proofs.Laws.{intersection-inside, intersection-greatest, aligned-contains, aligned-smallest, shrunk-has, shrunk-touched}
 use Rattle.frame.specs.Laws.{divided-up-covers, divided-up-least, split-whole, inner-lt}
-use Rattle.weights.proofs.Bounds.{weight-bounds, divisor-bounds, multiplier-not-negative, pass-bounds}
+use Rattle.gabor_kernel.proofs.Mirrored.{fold-mirrors, kernel-mirrored, single-row-differs, alone-copied}
+use Rattle.gabor_kernel.proofs.Exact.{expansion-sums, coefficients-weigh, rows-mirrored, integers-exact}
+use Rattle.weights.proofs.Offsets.{kernel-offsets, distance-offsets}
+use Rattle.weights.proofs.Bounds.{distance-not-negative, slope-not-positive, weight-bounds, divisor-bounds, multiplier-not-negative, pass-bounds}
+use Rattle.lanes.proofs.Divisors.{lane-divisor-bounds}
+use Rattle.passes.proofs.Bounds.{step-bounds, settings-bounds, bounds-reached}
 use Rattle.passes.specs.PlanLaws.{plan-reach}
 use Rattle.passes.specs.Near.{pass-near}
 use Rattle.passes.specs.Cut.{cut-same}
@@ -56,6 +61,22 @@ promises = record {
   divisor-bounds = divisor-bounds;
   multiplier-not-negative = multiplier-not-negative;
   pass-bounds = pass-bounds;
+  distance-not-negative = distance-not-negative;
+  slope-not-positive = slope-not-positive;
+  lane-divisor-bounds = lane-divisor-bounds;
+  step-bounds = step-bounds;
+  settings-bounds = settings-bounds;
+  bounds-reached = bounds-reached;
+  kernel-offsets = kernel-offsets;
+  distance-offsets = distance-offsets;
+  fold-mirrors = fold-mirrors;
+  kernel-mirrored = kernel-mirrored;
+  single-row-differs = single-row-differs;
+  alone-copied = alone-copied;
+  expansion-sums = expansion-sums;
+  coefficients-weigh = coefficients-weigh;
+  rows-mirrored = rows-mirrored;
+  integers-exact = integers-exact;
   mirror-inside = mirror-lt;
   mirror-periodic = mirror-periodic;
   mirror-low = mirror-low;

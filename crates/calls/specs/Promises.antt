@@ -8,11 +8,16 @@ use Rattle.mirror.specs.Cut.{Deep, Carried}
 use Rattle.region_arithmetic.specs.Laws.{IntersectionInside, IntersectionGreatest, AlignedContains, AlignedLeast, ShrunkHas, ShrunkTouched}
 use Rattle.frame.specs.Sizes.{dividedUp, groupDim, groupOf, innerOf}
 use Rattle.planes.specs.Picture.{Picture}
-use Rattle.weights.specs.Bounds.{WeightBounds, DivisorBounds, MultiplierNotNegative, PassBounds}
+use Rattle.gabor_kernel.specs.Mirrored.{FoldMirrors, KernelMirrored, SingleRowDiffers, AloneCopied}
+use Rattle.gabor_kernel.specs.Exact.{ExpansionSums, CoefficientsWeigh, RowsMirrored, IntegersExact}
+use Rattle.weights.specs.Offsets.{KernelOffsets, DistanceOffsets}
+use Rattle.weights.specs.Bounds.{DistanceNotNegative, SlopeNotPositive, WeightBounds, DivisorBounds, MultiplierNotNegative, PassBounds}
+use Rattle.lanes.specs.Divisors.{LaneDivisorBounds}
 use Rattle.passes.specs.declared.Settings.{Settings}
 use Rattle.passes.specs.Pass.{Area, Pass, pass, passes, reach, reaches}
 use Rattle.passes.specs.Plan.{plan, margin}
 use Rattle.passes.specs.Near.{sound, AgreeNear}
+use Rattle.passes.specs.Bounds.{StepBounds, SettingsBounds, BoundsReached}
 use Rattle.passes.specs.Cut.{Fits, SameBlocks, Agree, AllSound, SomeStep}
 use Rattle.calls.specs.Calls.{Calls}
 use Rattle.calls.specs.Theorem.{Demand3, DocumentDemand3}
@@ -70,6 +75,26 @@ pub record Promises : Type 1 where
   pub divisor-bounds : DivisorBounds
   pub multiplier-not-negative : MultiplierNotNegative
   pub pass-bounds : PassBounds
+  pub distance-not-negative : DistanceNotNegative
+  pub slope-not-positive : SlopeNotPositive
+  pub lane-divisor-bounds : LaneDivisorBounds
+  -- at the standard copying limit, for the steps that settings ask for
+  pub step-bounds : StepBounds
+  pub settings-bounds : SettingsBounds
+  pub bounds-reached : BoundsReached
+  -- the edge filter's offsets follow the standard's rule
+  pub kernel-offsets : KernelOffsets
+  pub distance-offsets : DistanceOffsets
+  -- the Gabor-like filter's formulas have the coefficients of the standard's mirrored kernel, but on a single row
+  pub fold-mirrors : FoldMirrors
+  pub kernel-mirrored : KernelMirrored
+  pub single-row-differs : SingleRowDiffers
+  pub alone-copied : AloneCopied
+  -- and without rounding they are the sums of these coefficients times the samples
+  pub expansion-sums : ExpansionSums
+  pub coefficients-weigh : CoefficientsWeigh
+  pub rows-mirrored : RowsMirrored
+  pub integers-exact : IntegersExact
   -- the mirrored place: inside, the same two lengths on, symmetric about both edges, and away from cut edges the larger picture's
   pub mirror-inside : (z : ℤ) (n : ℕ) → 0 < n → mirror z n < n
   pub mirror-periodic : (z : ℤ) (n : ℕ) → mirror (z +ℤ pos (2 * n)) n ≡ mirror z n
