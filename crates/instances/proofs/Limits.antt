@@ -1,5 +1,6 @@
 -- The table of limits, each row computed. Assumes nothing.
 use mathlib.Core.Path.{refl}
+use Rattle.bits.specs.Bits.{u}
 use Rattle.mirror.specs.Mirror.{mirror}
 use Rattle.interval.specs.Interval.{powerBelow}
 use Rattle.axis.specs.Measures.{place, side}
@@ -20,7 +21,7 @@ use Rattle.runs.specs.Band.{advanceOutcome}
 use Rattle.instances.specs.Limits.{Limits}
 
 pub limits : Limits
-unfolding mirror powerBelow place side regionOf inside measured pictured shrunkBy alignedTo regionAnswer sizesOf badSides badSettings badBlocks badGrid cells gridStart someBelow noEntries layoutOf steps plan bandCount sized setupFits isDone started bandMissing strayDone runFits advanceOutcome
+unfolding u mirror powerBelow place side regionOf inside measured pictured shrunkBy alignedTo regionAnswer sizesOf badSides badSettings badBlocks badGrid cells gridStart someBelow noEntries layoutOf steps plan bandCount sized setupFits isDone started bandMissing strayDone runFits advanceOutcome
 limits = record {
   regionSide = (refl, refl);
   regionRight = (refl, refl);
@@ -29,6 +30,8 @@ limits = record {
   alignment = (refl, refl);
   pictureSide = (refl, refl);
   pictureArea = (refl, refl);
+  headerMost = λ s e. rw e refl;
+  headerPast = λ s e. rw e refl;
   mirrorLeast = (refl, refl);
   mirrorLength = (refl, refl);
   mirrorOver = (refl, refl);

@@ -1,10 +1,13 @@
--- Document 01's limits ("Measures", "Regions", "Mirror", "Block sigmas", "Runs"): the last value that is accepted beside the first that is refused.
+-- Document 01's limits ("Measures", "Header bits", "Regions", "Mirror", "Block sigmas", "Runs"): the last value that is accepted beside the first that is refused.
 -- Each row is an equation in the definitions that the contracts cite. Definitions only.
 use mathlib.Core.Path.{_≡_}
 use mathlib.Core.Bool.{true, false}
 use mathlib.Core.List.{List, [], _∷_}
 use Prim.Native.Nat.{ℕ}
 use lib.IntN.{ℤ, pos, negsuc}
+use lib.ListN.{length}
+use Rattle.bits.specs.Outcome.{accepted, refused}
+use Rattle.bits.specs.Bits.{field, u}
 use Rattle.region.specs.declared.Region.{Region}
 use Rattle.region.specs.Answers.{isEmptyOutcome}
 use Rattle.region_arithmetic.specs.Answers.{downsampleOutcome, alignedOutcome}
@@ -70,6 +73,9 @@ pub record Limits : Type 0 where
   -- images and filter regions: sides from 1, an area to 16,777,216; 16,777,219 = 1,549 × 10,831 is the next that two sides have
   pub pictureSide : Limit pictureNumber (1, 1) (0, 1) 4
   pub pictureArea : Limit pictureNumber (4096, 4096) (1549, 10831) 4
+  -- headers: 65,536 bytes, of which a bit is read
+  pub headerMost : (s : List ℕ) → length s ≡ 65536 → u 1 s 0 ≡ accepted (field s 0 1) 1
+  pub headerPast : (s : List ℕ) → length s ≡ 65537 → u 1 s 0 ≡ refused 7
   -- mirror: lengths 1 to 16,384, offsets as left
   pub mirrorLeast : Limit (λ n. mirrorOutcome (pos 0) n .number) 1 0 9
   pub mirrorLength : Limit (λ n. mirrorOutcome (pos 0) n .number) 16384 16385 9

@@ -10,7 +10,7 @@ use lib.Dec.{T, leb, eqb→eq, leb→le}
 use lib.Ieee.Fits.{and-l, and-r}
 use lib.IntN.{ℤ, pos, negsuc, natAbs}
 use Rattle.weights.specs.Steps.{Offset, kernel, dists}
-use Rattle.weights.specs.Offsets.{blockDistance, isNeighbour, isCompared, sameNumber, occurrences, KernelOffsets, DistanceOffsets}
+use Rattle.weights.specs.Offsets.{taxicab, isNeighbour, isCompared, sameNumber, occurrences, KernelOffsets, DistanceOffsets}
 
 -- ---- offsets of at most 2 each way
 
@@ -30,7 +30,7 @@ five P t (negsuc (suc (suc n))) h = absurd (omega arith)
 abbrev Square : List Offset → (Offset → Bool) → Type 0
 Square l p = Five (λ dx. Five (λ dy. occurrences (dx, dy) l ≡ cond (p (dx, dy)) 1 0))
 
-square : (l : List Offset) (p : Offset → Bool) → Square l p → (o : Offset) → blockDistance o ≤ 2 → occurrences o l ≡ cond (p o) 1 0
+square : (l : List Offset) (p : Offset → Bool) → Square l p → (o : Offset) → taxicab o ≤ 2 → occurrences o l ≡ cond (p o) 1 0
 square l p t o h =
     five (λ dy. occurrences (o .0, dy) l ≡ cond (p (o .0, dy)) 1 0)
     (five (λ dx. Five (λ dy. occurrences (dx, dy) l ≡ cond (p (dx, dy)) 1 0)) t (o .0) (omega arith))
@@ -40,7 +40,7 @@ square l p t o h =
 
 allNear : List Offset → Bool
 allNear [] = true
-allNear (k ∷ ks) = leb (blockDistance k) 2 && allNear ks
+allNear (k ∷ ks) = leb (taxicab k) 2 && allNear ks
 
 same-size : (a b : ℤ) → T (sameNumber a b) → natAbs a ≡ natAbs b
 same-size (pos m) (pos n) t = eqb→eq m n t
@@ -52,42 +52,42 @@ none : (b : Bool) → (T b → ⊥) → _≡_ {A = ℕ} (cond b 1 0) 0
 none true f = absurd (f tt)
 none false f = refl
 
-far : (o : Offset) → 2 < blockDistance o → (l : List Offset) → T (allNear l) → occurrences o l ≡ 0
+far : (o : Offset) → 2 < taxicab o → (l : List Offset) → T (allNear l) → occurrences o l ≡ 0
 unfolding occurrences allNear
 far o h [] t = refl
 far o h (k ∷ ks) t =
     let x = sameNumber (o .0) (k .0) in
     let y = sameNumber (o .1) (k .1) in
-    let here = leb→le (blockDistance k) 2 (and-l (leb (blockDistance k) 2) (allNear ks) t) in
+    let here = leb→le (taxicab k) 2 (and-l (leb (taxicab k) 2) (allNear ks) t) in
     let apart : T (x && y) → ⊥ = λ s. omega (arith, here, h, same-size (o .0) (k .0) (and-l x y s), same-size (o .1) (k .1) (and-r x y s)) in
-    let rest : occurrences o ks ≡ 0 = far o h ks (and-r (leb (blockDistance k) 2) (allNear ks) t) in
+    let rest : occurrences o ks ≡ 0 = far o h ks (and-r (leb (taxicab k) 2) (allNear ks) t) in
     rw (none (x && y) apart, rest) refl
 
 -- ---- the statements
 
 pub kernel-offsets : KernelOffsets
 unfolding kernel occurrences allNear
-kernel-offsets step o = go step (decLe (blockDistance o) 2)
+kernel-offsets step o = go step (decLe (taxicab o) 2)
   where
-    go : (step : ℕ) → Dec (blockDistance o ≤ 2) → occurrences o (kernel step) ≡ cond (isNeighbour step o) 1 0
+    go : (step : ℕ) → Dec (taxicab o ≤ 2) → occurrences o (kernel step) ≡ cond (isNeighbour step o) 1 0
     go zero (yes h) = square (kernel 0) (isNeighbour 0)
         ((refl, refl, refl, refl, refl), (refl, refl, refl, refl, refl), (refl, refl, refl, refl, refl), (refl, refl, refl, refl, refl), (refl, refl, refl, refl, refl)) o h
     go (suc s) (yes h) = square (kernel (suc s)) (isNeighbour (suc s))
         ((refl, refl, refl, refl, refl), (refl, refl, refl, refl, refl), (refl, refl, refl, refl, refl), (refl, refl, refl, refl, refl), (refl, refl, refl, refl, refl)) o h
-    go zero (no h) = rw (lt-ltb 0 (blockDistance o) (omega arith), lt-leb (blockDistance o) 2 (omega arith)) (far o (omega arith) (kernel 0) tt)
-    go (suc s) (no h) = rw (ne-eqb (blockDistance o) 1 (λ e. omega arith)) (far o (omega arith) (kernel (suc s)) tt)
+    go zero (no h) = rw (lt-ltb 0 (taxicab o) (omega arith), lt-leb (taxicab o) 2 (omega arith)) (far o (omega arith) (kernel 0) tt)
+    go (suc s) (no h) = rw (ne-eqb (taxicab o) 1 (λ e. omega arith)) (far o (omega arith) (kernel (suc s)) tt)
 
 pub distance-offsets : DistanceOffsets
 unfolding dists occurrences allNear
-distance-offsets step o = go step (decLe (blockDistance o) 2)
+distance-offsets step o = go step (decLe (taxicab o) 2)
   where
-    go : (step : ℕ) → Dec (blockDistance o ≤ 2) → occurrences o (dists step) ≡ cond (isCompared step o) 1 0
+    go : (step : ℕ) → Dec (taxicab o ≤ 2) → occurrences o (dists step) ≡ cond (isCompared step o) 1 0
     go zero (yes h) = square (dists 0) (isCompared 0)
         ((refl, refl, refl, refl, refl), (refl, refl, refl, refl, refl), (refl, refl, refl, refl, refl), (refl, refl, refl, refl, refl), (refl, refl, refl, refl, refl)) o h
     go (suc zero) (yes h) = square (dists 1) (isCompared 1)
         ((refl, refl, refl, refl, refl), (refl, refl, refl, refl, refl), (refl, refl, refl, refl, refl), (refl, refl, refl, refl, refl), (refl, refl, refl, refl, refl)) o h
     go (suc (suc s)) (yes h) = square (dists (suc (suc s))) (isCompared (suc (suc s)))
         ((refl, refl, refl, refl, refl), (refl, refl, refl, refl, refl), (refl, refl, refl, refl, refl), (refl, refl, refl, refl, refl), (refl, refl, refl, refl, refl)) o h
-    go zero (no h) = rw (lt-leb (blockDistance o) 1 (omega arith)) (far o (omega arith) (dists 0) tt)
-    go (suc zero) (no h) = rw (lt-leb (blockDistance o) 1 (omega arith)) (far o (omega arith) (dists 1) tt)
-    go (suc (suc s)) (no h) = rw (ne-eqb (blockDistance o) 0 (λ e. omega arith)) (far o (omega arith) (dists (suc (suc s))) tt)
+    go zero (no h) = rw (lt-leb (taxicab o) 1 (omega arith)) (far o (omega arith) (dists 0) tt)
+    go (suc zero) (no h) = rw (lt-leb (taxicab o) 1 (omega arith)) (far o (omega arith) (dists 1) tt)
+    go (suc (suc s)) (no h) = rw (ne-eqb (taxicab o) 0 (λ e. omega arith)) (far o (omega arith) (dists (suc (suc s))) tt)
