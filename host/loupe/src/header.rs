@@ -1,4 +1,4 @@
-//! Reading a filter header, from a bit place of a slice; the encoding is Modular or else VarDct.
+//! Reading a filter header, from a bit place of a slice; one function for each encoding.
 
 use crate::boundary::{answers, entries};
 
@@ -68,7 +68,8 @@ entries! {
     /// # Ok::<(), loupe::Refusal>(())
     /// ```
     read_gabor = loupe_read_gabor(bytes: &[u8], at: usize) -> GaborAnswer;
-    read_epf = loupe_read_epf(bytes: &[u8], at: usize, modular: bool) -> EpfAnswer;
+    read_epf_vardct = loupe_read_epf_vardct(bytes: &[u8], at: usize) -> EpfAnswer;
+    read_epf_modular = loupe_read_epf_modular(bytes: &[u8], at: usize) -> EpfAnswer;
 
     /// Both filters, the Gabor-like one first.
     ///
@@ -76,13 +77,15 @@ entries! {
     /// // The Gabor-like bundle is an enabled and a custom bit here; the edge filter's follows.
     /// let bytes = [0b000_11_01];
     /// let (gabor, after) = loupe::read_gabor(&bytes, 0).value()?;
-    /// let (epf, end) = loupe::read_epf(&bytes, after, false).value()?;
-    /// let (filter, next) = loupe::read_filters(&bytes, 0, false).value()?;
+    /// let (epf, end) = loupe::read_epf_vardct(&bytes, after).value()?;
+    /// let (filter, next) = loupe::read_filters_vardct(&bytes, 0).value()?;
     /// assert_eq!((filter.gabor, filter.epf, next), (gabor, epf, end));
-    /// let refused = loupe::read_filters(&bytes, next, false).value();
+    /// let refused = loupe::read_filters_vardct(&bytes, next).value();
     /// assert_eq!(refused, Err(loupe::Refusal::BitsRunOut));
     /// # Ok::<(), loupe::Refusal>(())
     /// ```
-    read_filters =
-        loupe_read_filters(bytes: &[u8], at: usize, modular: bool) -> RestorationAnswer;
+    read_filters_vardct =
+        loupe_read_filters_vardct(bytes: &[u8], at: usize) -> RestorationAnswer;
+    read_filters_modular =
+        loupe_read_filters_modular(bytes: &[u8], at: usize) -> RestorationAnswer;
 }

@@ -107,7 +107,7 @@ entries! {
     /// ```
     /// // The Gabor-like filter and three iterations with default settings, in seven bits. The margin
     /// // is 1 + 6 (`crates/passes/specs/Plan.antt`).
-    /// let (filter, next) = loupe::read_filters(&[0b000_11_01], 0, false).value()?;
+    /// let (filter, next) = loupe::read_filters_vardct(&[0b000_11_01], 0).value()?;
     /// assert_eq!((next, loupe::margin(filter.into()).value()?), (7, 7));
     /// # Ok::<(), loupe::Refusal>(())
     /// ```
@@ -117,7 +117,7 @@ entries! {
     ///
     /// ```
     /// # use loupe::*;
-    /// # let (off, _) = read_filters(&[0], 0, false).value()?;
+    /// # let (off, _) = read_filters_vardct(&[0], 0).value()?;
     /// # let gabor = GaborSettings { enabled: 1, weights: [[0.5, 0.25]; 3] };
     /// # let settings = Settings { gabor, epf: off.epf.into() };
     /// # let image = Region { left: 0, top: 0, width: 3, height: 3 };
