@@ -7,23 +7,6 @@ use crate::{
     boundary::{answers, entries},
 };
 
-/// The Gabor-like filter's settings; `enabled` is 0 or 1.
-#[repr(C)]
-#[derive(Debug, Clone, Copy, PartialEq)]
-pub struct GaborSettings {
-    pub enabled: u32,
-    pub weights: [[f32; 2]; 3],
-}
-
-impl From<Gabor> for GaborSettings {
-    fn from(read: Gabor) -> Self {
-        Self {
-            enabled: read.enabled.into(),
-            weights: read.weights,
-        }
-    }
-}
-
 /// The edge filter is on where there are iterations.
 #[repr(C)]
 #[derive(Debug, Clone, Copy, PartialEq)]
@@ -41,6 +24,23 @@ impl From<EdgePreservingFilter> for EpfSettings {
             channel_scale: read.channel_scale,
             sigma: read.sigma,
             sigma_for_modular: read.sigma_for_modular,
+        }
+    }
+}
+
+/// The Gabor-like filter's settings, with a flag: 0 is off, 1 is on, and another number is 9.
+#[repr(C)]
+#[derive(Debug, Clone, Copy, PartialEq)]
+pub struct GaborSettings {
+    pub enabled: u32,
+    pub weights: [[f32; 2]; 3],
+}
+
+impl From<Gabor> for GaborSettings {
+    fn from(read: Gabor) -> Self {
+        Self {
+            enabled: read.enabled.into(),
+            weights: read.weights,
         }
     }
 }
@@ -66,7 +66,7 @@ impl From<RestorationFilter> for Settings {
 pub struct Setup {
     pub image: Region,
     pub filter: Region,
-    /// Whether the result is the full planes, 1, or the filter region alone, 0.
+    /// 1 where the result is the full planes, 0 where it is the filter region alone.
     pub preserve_outside: u32,
     pub settings: Settings,
     pub band_height: u32,
@@ -79,15 +79,14 @@ pub struct Run {
     pub setup: Setup,
     /// How many passes are over.
     pub pass: u32,
-    /// Which bands of this pass are done, 1, and which are not, 0.
+    /// 1 for each band of this pass that is done.
     pub done: [u8; 256],
 }
 
 impl fmt::Debug for Run {
     fn fmt(&self, f: &mut fmt::Formatter) -> fmt::Result {
-        let done: Vec<usize> = (0..self.done.len())
-            .filter(|&k| self.done[k] != 0)
-            .collect();
+        let flags = (0..).zip(self.done);
+        let done: Vec<(usize, u8)> = flags.filter(|&(_, flag)| flag > 0).collect();
         f.debug_struct("Run")
             .field("setup", &self.setup)
             .field("pass", &self.pass)
@@ -102,13 +101,14 @@ answers! {
 }
 
 entries! {
-    /// How far the passes of a run read beyond a sample.
+    /// How far the passes of a run read beyond a sample; 9 where Gabor's flag or the iterations are
+    /// out of range.
     ///
     /// ```
     /// // The Gabor-like filter and three iterations with default settings, in seven bits. The margin
     /// // is 1 + 6 (`crates/passes/specs/Plan.antt`).
     /// let (filter, next) = loupe::read_filters_vardct(&[0b000_11_01], 0).value()?;
-    /// assert_eq!((next, loupe::margin(filter.into()).value()?), (7, 7));
+    /// assert_eq!((next, loupe::margin(filter.into()).value()), (7, Ok(7)));
     /// # Ok::<(), loupe::Refusal>(())
     /// ```
     margin = loupe_margin(settings: Settings) -> MarginAnswer;

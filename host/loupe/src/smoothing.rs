@@ -105,7 +105,7 @@ impl Smoothing {
 }
 
 fn result_region(setup: &Setup) -> Region {
-    if setup.preserve_outside != 0 {
+    if setup.preserve_outside == 1 {
         setup.image
     } else {
         setup.filter
