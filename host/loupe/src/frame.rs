@@ -65,7 +65,7 @@ entries! {
     /// The group of a block's column or row, and the cell in it.
     split_block = loupe_split_block(block: u32, group_size_shift: u32) -> SplitAnswer;
 
-    /// Fills in one sigma a block. The table has three numbers a group: whether it has a grid, the
+    /// Fills in one sigma a block where the edge filter is on: 1, and 0 where it is off. The table has three numbers a group: whether it has a grid, the
     /// grid's width and its height; the grids lie one after another.
     ///
     /// ```
@@ -81,13 +81,13 @@ entries! {
     /// let grid: Vec<f32> = (0..128).map(|row| row as f32).collect();
     /// let mut sigmas = [0.0; 129];
     /// let table = [1, 1, 128, 0, 0, 0];
-    /// let number = loupe::block_sigmas(true, frame, blocks, &table, &grid, 1.0, &mut sigmas);
+    /// let number = loupe::block_sigmas(1, frame, blocks, &table, &grid, 1.0, &mut sigmas);
     /// loupe::accepted(number)?;
     /// assert_eq!(sigmas[126..], [126.0, 127.0, 127.0]);
     /// # Ok::<(), loupe::Refusal>(())
     /// ```
     block_sigmas = loupe_block_sigmas(
-        on: bool, frame: Frame, blocks: Blocks, table: &[u32], grids: &[f32],
+        on: u32, frame: Frame, blocks: Blocks, table: &[u32], grids: &[f32],
         sigma_for_modular: f32, sigmas: &mut [f32]
     ) -> u32;
 }

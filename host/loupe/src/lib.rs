@@ -8,7 +8,7 @@
 //! use loupe::{Frame, Gabor, Region, Settings, Setup, Smoothing};
 //!
 //! // The Gabor-like filter alone, on three planes of one row.
-//! let (off, _) = loupe::read_filters(&[0], 0, false).value()?;
+//! let (off, _) = loupe::read_filters(&[0], 0, loupe::Encoding::VarDct).value()?;
 //! let settings = Settings {
 //!     gabor: Gabor { enabled: true, weights: [[0.5, 0.25]; 3] },
 //!     epf: off.epf.into(),

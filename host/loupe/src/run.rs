@@ -87,7 +87,7 @@ entries! {
     /// ```
     /// // The Gabor-like filter and three iterations with default settings, in seven bits. The margin
     /// // is 1 + 6 (`crates/passes/specs/Plan.antt`).
-    /// let (filter, next) = loupe::read_filters(&[0b000_11_01], 0, false).value()?;
+    /// let (filter, next) = loupe::read_filters(&[0b000_11_01], 0, loupe::Encoding::VarDct).value()?;
     /// assert_eq!((next, loupe::margin(filter.into())), (7, 7));
     /// # Ok::<(), loupe::Refusal>(())
     /// ```
@@ -97,7 +97,7 @@ entries! {
     ///
     /// ```
     /// # use loupe::*;
-    /// # let (off, _) = read_filters(&[0], 0, false).value()?;
+    /// # let (off, _) = read_filters(&[0], 0, loupe::Encoding::VarDct).value()?;
     /// # let gabor = Gabor { enabled: true, weights: [[0.5, 0.25]; 3] };
     /// # let settings = Settings { gabor, epf: off.epf.into() };
     /// # let image = Region { left: 0, top: 0, width: 3, height: 3 };
