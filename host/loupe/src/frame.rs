@@ -65,7 +65,7 @@ entries! {
     /// The group of a block's column or row, and the cell in it.
     split_block = loupe_split_block(block: u32, group_size_shift: u32) -> SplitAnswer;
 
-    /// Fills in one sigma a block. The table has three numbers a group: whether it has a grid, the
+    /// Fills in one sigma a block where the edge filter is on: 1, and 0 where it is off. The table has three numbers a group: whether it has a grid, the
     /// grid's width and its height; the grids lie one after another.
     ///
     /// ```
