@@ -9,7 +9,7 @@
 // - Nobody writes a buffer while a call has it, nor reads one that the call writes. There is no global state and nothing is allocated, so calls
 //   from several threads need nothing else.
 // - The floating-point environment is C's default one: rounding to nearest, subnormals neither flushed nor read as 0.
-// - A call takes at most 64 KiB of stack, whatever the picture. Measured, not proved: a band takes 45,520 bytes (`./bench memory`), and `tools/c`
+// - A call takes at most 64 KiB of stack, whatever the picture. Measured, not proved: a band takes under 45 KiB (`./bench memory`), and `tools/c`
 //   makes all calls of host/c/example.c in a process that has 64 KiB of stack.
 //
 // A refused call answers its number, with zeros in every other field, and leaves all buffers as they are; where it is otherwise, the function's
