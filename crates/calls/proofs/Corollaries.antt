@@ -24,7 +24,7 @@ use Rattle.planes.specs.Rect.{Between, between}
 use Rattle.planes.specs.Picture.{inRect}
 use Rattle.planes.specs.Band.{inFilter}
 use Rattle.setup.specs.declared.Setup.{Setup}
-use Rattle.setup.specs.Setup.{layout, epfOn, resultRegion, resultLength}
+use Rattle.setup.specs.Setup.{fullPlanes, layout, epfOn, resultRegion, resultLength}
 use Rattle.record.specs.Record.{started}
 use Rattle.setup.specs.Laws.{SetupFits, setup-fits}
 use Rattle.runs.specs.Start.{Handed, startNumber, sigmasFilled}
@@ -105,7 +105,7 @@ module _ (n : ℕ) (K : Calls n) (h : Handed) (r : FinishedRun n K h) where
 
   out-length : length (handedOver n K h r .out) ≡ resultLength n (h .setup)
   unfolding resultOf layoutOf
-  out-length = rw out-is (length-setOf n _ _ _ ∙ go (h .setup .«preserve_outside»))
+  out-length = rw out-is (length-setOf n _ _ _ ∙ go (fullPlanes (h .setup)))
     where
       image : Region
       image = h .setup .image
@@ -120,12 +120,12 @@ module _ (n : ℕ) (K : Calls n) (h : Handed) (r : FinishedRun n K h) where
   kept-outside : (c : ℕ) (x y : ℤ) → c < n → Holds (resultRegion (h .setup)) x y → (Holds (h .setup .filter) x y → ⊥)
       → resultAt (h .setup) (handedOver n K h r .out) c x y ≡ firstAt n h c x y
   unfolding started layoutOf
-  kept-outside c x y p held out = rw out-is (result-sample n s fits (source state) c x y p held ∙ go (s .«preserve_outside») refl held)
+  kept-outside c x y p held out = rw out-is (result-sample n s fits (source state) c x y p held ∙ go (fullPlanes s) refl held)
     where
       s : Setup
       s = h .setup
 
-      go : (full : Bool) → s .«preserve_outside» ≡ full → Holds (cond full (s .image) (s .filter)) x y
+      go : (full : Bool) → fullPlanes s ≡ full → Holds (cond full (s .image) (s .filter)) x y
           → of (s .image .width) (s .image .height) (source state) c (natAbs (x -ℤ s .image .left)) (natAbs (y -ℤ s .image .top)) ≡ firstAt n h c x y
       go true e held =
           let kept = after-start n K h (r .accepted) (r .calls) (r .unaltered) in

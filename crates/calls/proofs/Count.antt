@@ -8,13 +8,14 @@ use native.Mathlib.Nat.{suc-mul, eq-or-lt-of-le, le-of-suc-le-suc}
 use native.Mathlib.Omega.{arith}
 use borrow.Author.Tests.{eqb-true, eq-eqb}
 use lib.Dec.{T, eqb, eqb→eq}
-use lib.ListN.{length, getD, set, replicate}
+use lib.ListN.{length, getD, set}
 use lib.Seq.{getD-set-same, getD-set-other}
 use lib.Ieee.{Float}
+use Rattle.numbers.specs.Flags.{flagSet}
 use Rattle.setup.specs.declared.Setup.{Setup}
 use Rattle.record.specs.declared.Run.{Run}
 use Rattle.setup.specs.Setup.{bandCount}
-use Rattle.record.specs.Record.{passCount, isDone, started, marked, advanced, finished}
+use Rattle.record.specs.Record.{passCount, isDone, noneDone, started, marked, advanced, finished}
 use Rattle.numbers.specs.Tables.{is-true}
 use Rattle.setup.specs.Laws.{setup-fits}
 use Rattle.record.specs.Laws.{RunFits, none-done}
@@ -28,28 +29,28 @@ use Rattle.calls.proofs.Lists.{after-kept, after-start}
 -- ---- flags
 
 -- how many of the first m flags are set
-unfoldable ticks : List Bool → ℕ → ℕ
+unfoldable ticks : List ℕ → ℕ → ℕ
 ticks l zero = 0
-ticks l (suc m) = cond (getD l m false) 1 0 + ticks l m
+ticks l (suc m) = cond (flagSet (getD l m 0)) 1 0 + ticks l m
 
-ticks-before : (l : List Bool) (k m : ℕ) → m ≤ k → ticks (set l k true) m ≡ ticks l m
+ticks-before : (l : List ℕ) (k m : ℕ) → m ≤ k → ticks (set l k 1) m ≡ ticks l m
 unfolding ticks
 ticks-before l k zero h = refl
-ticks-before l k (suc m) h = rw (getD-set-other l k m true false (λ (e : m ≡ k). omega arith), ticks-before l k m (omega arith))
+ticks-before l k (suc m) h = rw (getD-set-other l k m 1 0 (λ (e : m ≡ k). omega arith), ticks-before l k m (omega arith))
 
 -- one more is set
-ticks-set : (l : List Bool) (k m : ℕ) → k < m → k < length l → getD l k false ≡ false → ticks (set l k true) m ≡ suc (ticks l m)
+ticks-set : (l : List ℕ) (k m : ℕ) → k < m → k < length l → flagSet (getD l k 0) ≡ false → ticks (set l k 1) m ≡ suc (ticks l m)
 unfolding ticks
 ticks-set l k zero h i n = absurd (omega arith)
 ticks-set l k (suc m) h i n =
     ⊎-elim
-    (λ (e : k ≡ m). rw (← e, getD-set-same l k true false i, n, ticks-before l k k (omega arith)) (omega arith))
-    (λ (p : k < m). let r : ticks (set l k true) m ≡ suc (ticks l m) = ticks-set l k m p i n in
-    rw (getD-set-other l k m true false (λ (e : m ≡ k). omega arith)) (omega arith))
+    (λ (e : k ≡ m). rw (← e, getD-set-same l k 1 0 i, n, ticks-before l k k (omega arith)) (omega arith))
+    (λ (p : k < m). let r : ticks (set l k 1) m ≡ suc (ticks l m) = ticks-set l k m p i n in
+    rw (getD-set-other l k m 1 0 (λ (e : m ≡ k). omega arith)) (omega arith))
     (eq-or-lt-of-le (le-of-suc-le-suc h))
 
 -- all below b are set and none from b on
-ticks-all : (l : List Bool) (b m : ℕ) → b ≤ m → ((k : ℕ) → k < b → getD l k false ≡ true) → ((k : ℕ) → k < m → b ≤ k → getD l k false ≡ false) → ticks l m ≡ b
+ticks-all : (l : List ℕ) (b m : ℕ) → b ≤ m → ((k : ℕ) → k < b → flagSet (getD l k 0) ≡ true) → ((k : ℕ) → k < m → b ≤ k → flagSet (getD l k 0) ≡ false) → ticks l m ≡ b
 unfolding ticks
 ticks-all l b zero h t f = omega arith
 ticks-all l b (suc m) h t f =
@@ -66,8 +67,8 @@ ticks-all l b (suc m) h t f =
 abbrev told : Run → ℕ
 told r = r .pass * bandCount (r .setup) + ticks (r .done) 256
 
-none-told : ticks (replicate 256 false) 256 ≡ 0
-none-told = ticks-all (replicate 256 false) 0 256 (omega arith) (λ k l. absurd (omega arith)) (λ k l o. none-done k)
+none-told : ticks noneDone 256 ≡ 0
+none-told = ticks-all noneDone 0 256 (omega arith) (λ k l. absurd (omega arith)) (λ k l o. rw (none-done k))
 
 -- the record q after the record r, a bands and b advances later
 record Counted (r q : Run) (a b : ℕ) : Type 0 where

@@ -20,7 +20,7 @@ use Rattle.planes.specs.Sets.{setOf, tab}
 use Rattle.planes.specs.SetLaws.{of-setOf}
 use Rattle.planes.specs.Band.{inner}
 use Rattle.passes.specs.Plan.{plan, steps, stepOf, scaleOf, stepMargin}
-use Rattle.setup.specs.Setup.{bandCount, setupFits, sized}
+use Rattle.setup.specs.Setup.{bandCount, numbersFit, setupFits, sized}
 use Rattle.record.specs.Record.{isDone, started, marked, advanced, bandMissing, strayDone, runFits}
 use Rattle.runs.specs.Start.{pictureChecks, startNumber, sigmasFilled}
 use Rattle.runs.specs.Band.{bandChecks}
@@ -70,7 +70,7 @@ module _ (p : Picture) (scales : List Float) (border sigma : Float) where
   from = record { unrefused = unrefused; contained = tt; passes = refl; inputs = λ c x y h held. inputs x y held c h; sigmas = λ on x y held. sigmas x y held }
 
   premises : Premises 3 (documentCalls 3) (smaller p scales border sigma) (larger p scales border sigma) (calls p scales border sigma) (slice p scales border sigma)
-  unfolding sigmasFilled blockSigmas tab stateAfter end started marked advanced bandChecks runFits strayDone bandMissing isDone setupFits bandCount sized someBelow pictured measured place side inside layoutOf plan steps setOf
+  unfolding sigmasFilled blockSigmas tab stateAfter end started marked advanced bandChecks runFits strayDone bandMissing isDone numbersFit setupFits bandCount sized someBelow pictured measured place side inside layoutOf plan steps setOf
   premises = record {
     accepted = accepted;
     from = from;

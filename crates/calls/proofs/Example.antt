@@ -18,7 +18,7 @@ use Rattle.planes.specs.Sets.{setOf, tab}
 use Rattle.planes.specs.SetLaws.{of-setOf}
 use Rattle.planes.specs.Band.{inner}
 use Rattle.passes.specs.Plan.{plan, steps, stepMargin}
-use Rattle.setup.specs.Setup.{bandCount, setupFits, sized}
+use Rattle.setup.specs.Setup.{bandCount, numbersFit, setupFits, sized}
 use Rattle.record.specs.Record.{isDone, started, marked, advanced, bandMissing, strayDone, runFits}
 use Rattle.runs.specs.Start.{pictureChecks, startNumber, sigmasFilled}
 use Rattle.runs.specs.Band.{bandChecks}
@@ -53,7 +53,7 @@ module _ (p : Picture) (weights : List (List Float)) where
   from = record { unrefused = unrefused; contained = tt; passes = refl; inputs = inputs; sigmas = λ on. absurd on }
 
   premises : Premises 3 (documentCalls 3) (smaller p weights) (larger p weights) (calls p weights) (slice p weights)
-  unfolding sigmasFilled stateAfter end started marked advanced bandChecks runFits strayDone bandMissing isDone setupFits bandCount sized someBelow pictured measured place side inside layoutOf plan steps setOf tab
+  unfolding sigmasFilled stateAfter end started marked advanced bandChecks runFits strayDone bandMissing isDone numbersFit setupFits bandCount sized someBelow pictured measured place side inside layoutOf plan steps setOf tab
   premises = record {
     accepted = accepted;
     from = from;

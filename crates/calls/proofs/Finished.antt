@@ -17,7 +17,7 @@ use Rattle.layout.specs.Outcome.{layoutOf}
 use Rattle.passes.specs.Pass.{passes}
 use Rattle.passes.specs.Plan.{plan}
 use Rattle.setup.specs.declared.Setup.{Setup}
-use Rattle.setup.specs.Setup.{layout, area, resultRegion, resultLength}
+use Rattle.setup.specs.Setup.{fullPlanes, layout, area, resultRegion, resultLength}
 use Rattle.record.specs.Record.{passCount, started, finished}
 use Rattle.setup.specs.Laws.{SetupFits}
 use Rattle.runs.specs.Start.{Handed, startNumber}
@@ -40,7 +40,7 @@ module _ (s : Setup) (fits : SetupFits s) (x y : ℤ) (held : Holds (s .filter) 
 
   -- a place of the filter region lies in the result's region,
   in-result : Holds (resultRegion s) x y
-  in-result = go (s .«preserve_outside»)
+  in-result = go (fullPlanes s)
     where
       go : (full : Bool) → Holds (cond full (s .image) (s .filter)) x y
       go true = record {
@@ -59,7 +59,7 @@ module _ (s : Setup) (fits : SetupFits s) (x y : ℤ) (held : Holds (s .filter) 
 module _ (n : ℕ) (s : Setup) (fits : SetupFits s) (l : List Float) (c : ℕ) (x y : ℤ) (h : c < n) where
   pub result-sample : Holds (resultRegion s) x y → resultAt s (resultOf n (layout s) l) c x y ≡ at (s .image) (sampleOf (layout s) l) c x y
   unfolding resultOf layoutOf
-  result-sample = go (s .«preserve_outside»)
+  result-sample = go (fullPlanes s)
     where
       go : (full : Bool) → Holds (cond full (s .image) (s .filter)) x y
           → of (cond full (s .image) (s .filter) .width) (cond full (s .image) (s .filter) .height)

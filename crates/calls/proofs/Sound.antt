@@ -77,13 +77,13 @@ unfolding started readsFirst isDone
 sound-start n h f =
     record {
       run = started-fits (h .setup) (f .setup);
-      flags = length-replicate 256 false;
+      flags = length-replicate {A = ℕ} 256 0;
       first-length = f .first;
       second-length = f .second;
       sigma-length = sigmas-length n h f;
       left = λ c x y p q r. refl;
       outside = λ c x y p i o. refl;
-      done = λ k d. absurd (false≢true (sym (none-done k) ∙ d));
+      done = λ k d. absurd (false≢true (rw (none-done k) at d));
     }
 
 -- ---- a band leaves the set that is read, and its own set in place of the other
@@ -117,7 +117,7 @@ module _ (n : ℕ) (first : List Float) (t : State) (k : ℕ) (sound : Sound n f
 
       go : (wrote : Bool) → inBand s k x y ≡ wrote → cond wrote (given n t c x y) (sampleOf (layout s) (target t) c x y) ≡ given n t c x y
       go true e = refl
-      go false e = sound .done j (sym (getD-set-other (t .run .done) k j true false (λ (z : j ≡ k). false≢true (sym e ∙ (rw z at b)))) ∙ d) c x y h i b
+      go false e = sound .done j (rw (getD-set-other (t .run .done) k j 1 0 (λ (z : j ≡ k). false≢true (sym e ∙ (rw z at b)))) at d) c x y h i b
 
   pub sound-band : Sound n first (bandAccepted n t k)
   unfolding marked readsFirst
@@ -128,7 +128,7 @@ module _ (n : ℕ) (first : List Float) (t : State) (k : ℕ) (sound : Sound n f
       let dst : target (bandAccepted n t k) ≡ banded n t k = new-target e (t .first) (t .second) (banded n t k) in
       record {
         run = marked-fits (t .run) k (sound .run) free;
-        flags = length-set (t .run .done) k true ∙ sound .flags;
+        flags = length-set (t .run .done) k 1 ∙ sound .flags;
         first-length = cond-length e (t .first) (banded n t k) (setLength n s) (sound .first-length) (length-banded n t k);
         second-length = cond-length e (banded n t k) (t .second) (setLength n s) (length-banded n t k) (sound .second-length);
         sigma-length = sound .sigma-length;
@@ -193,7 +193,7 @@ module _ (n : ℕ) (first : List Float) (t : State) (sound : Sound n first t) (o
       let src : source (advanceAccepted t) ≡ target t = rw (turned (t .run .pass)) (cond-not (eqb (t .run .pass % 2) 0) (t .first) (t .second)) in
       record {
         run = advanced-fits (t .run) (sound .run) over;
-        flags = length-replicate 256 false;
+        flags = length-replicate {A = ℕ} 256 0;
         first-length = sound .first-length;
         second-length = sound .second-length;
         sigma-length = sound .sigma-length;
@@ -201,5 +201,5 @@ module _ (n : ℕ) (first : List Float) (t : State) (sound : Sound n first t) (o
             passes-cong n (areaOf t) (drop (suc (t .run .pass)) ps) (drop-sound n (suc (t .run .pass)) ps (plan-sound n (s .settings))) (writing t) (pass (areaOf t) (nextPass n (t .run)) (reading t)) filter-done c x y h p q
             ∙ ap (λ (g : Picture). g c x y) (passes-drop (areaOf t) ps (t .run .pass) (reading t) more) ∙ sound .left c x y h p q);
         outside = λ c x y h i o. rw src (all-done c x y h i ∙ rw o (sound .outside c x y h i o));
-        done = λ k d. absurd (false≢true (sym (none-done k) ∙ d));
+        done = λ k d. absurd (false≢true (rw (none-done k) at d));
       }

@@ -1,6 +1,5 @@
 -- A smaller and a larger picture with a list of calls for which all premises of demand 3 hold, whatever the samples and the weights. Definitions only.
 use mathlib.Core.Path.{_≡_}
-use mathlib.Core.Bool.{Bool, true, false}
 use mathlib.Core.List.{List, [], _∷_}
 use Prim.Native.Nat.{ℕ, suc}
 use lib.Dec.{T}
@@ -32,13 +31,13 @@ pub record Premises (n : ℕ) (K : Calls n) (small large : Handed) (cs : List (K
 
 module _ (p : Picture) (weights : List (List Float)) where
   -- one row of so many columns: Gabor alone, the result the filter region or the full planes, bands of a height
-  abbrev setupOf : ℤ → ℕ → Bool → ℕ → Setup
+  abbrev setupOf : ℤ → ℕ → ℕ → ℕ → Setup
   setupOf left width full height = record {
     image = record { left = left; top = pos 0; width = width; height = 1 };
     filter = record { left = left; top = pos 0; width = width; height = 1 };
     «preserve_outside» = full;
     settings = record {
-      gabor = record { enabled = true; weights = weights };
+      gabor = record { enabled = 1; weights = weights };
       epf = noSetup .settings .epf;
     };
     «band_height» = height;
@@ -58,11 +57,11 @@ module _ (p : Picture) (weights : List (List Float)) where
 
   -- columns −1 to 2
   abbrev pub larger : Handed
-  larger = handedOf (setupOf (negsuc 0) 4 true 64) (setOf 3 4 1 p) (setOf 3 4 1 (λ c x y. b0))
+  larger = handedOf (setupOf (negsuc 0) 4 1 64) (setOf 3 4 1 p) (setOf 3 4 1 (λ c x y. b0))
 
   -- columns 0 to 2 of them: the left edge is cut
   abbrev pub smaller : Handed
-  smaller = handedOf (setupOf (pos 0) 3 false 1) (setOf 3 3 1 (λ c x y. p c (suc x) y)) (setOf 3 3 1 (λ c x y. b0))
+  smaller = handedOf (setupOf (pos 0) 3 0 1) (setOf 3 3 1 (λ c x y. p c (suc x) y)) (setOf 3 3 1 (λ c x y. b0))
 
   abbrev begun : State
   begun = startState 3 smaller

@@ -22,6 +22,8 @@ use Rattle.planes.specs.Sets.{of, setOf, tab}
 use Rattle.gabor_kernel.specs.Gabor.{gaborPass}
 use Rattle.weights.specs.Steps.{kernel, dists, scaled, copied, standardLimit, epf, multiplier, EpfPass, epfPass}
 use Rattle.sigma.specs.Sigma.{blockSigmas}
+use Rattle.passes.specs.declared.GaborSettings.{GaborSettings}
+use Rattle.passes.specs.Plan.{oneIf}
 use Rattle.setup.specs.declared.Setup.{Setup}
 use Rattle.record.specs.Record.{started}
 use Rattle.runs.specs.Band.{State, bandOutcome, advanceOutcome}
@@ -153,13 +155,17 @@ middleAs order step = summedAs order step (around 1 5 oneByFive 0 2)
 
 -- ---- runs over three planes of w columns and h rows, the filter region being all of them
 
+-- a bundle as settings have it
+abbrev settingsFrom : Gabor → GaborSettings
+settingsFrom g = record { enabled = oneIf (g .enabled); weights = g .weights }
+
 abbrev setupOf : ℕ → ℕ → Gabor → ℕ → ℕ → Setup
 setupOf w h gabor iters bandHeight = record {
   image = record { left = pos 0; top = pos 0; width = w; height = h };
   filter = record { left = pos 0; top = pos 0; width = w; height = h };
-  «preserve_outside» = true;
+  «preserve_outside» = 1;
   settings = record {
-    gabor = gabor;
+    gabor = settingsFrom gabor;
     epf = record {
       iters = iters;
       «channel_scale» = b1 ∷ b0 ∷ b0 ∷ [];

@@ -20,7 +20,7 @@ use Rattle.weights.specs.Steps.{kernel, dists, border, multiplier, epfPass, rea
 use Rattle.weights.specs.Local.{Alike, channelsBelow, scaled-below, steps-near, epf-same}
 use Rattle.passes.specs.declared.Settings.{Settings}
 use Rattle.passes.specs.Pass.{Area, Pass, gaborLike, edgePreserving, pass, passes, reach, reaches}
-use Rattle.passes.specs.Plan.{stepOf, step, steps, plan}
+use Rattle.passes.specs.Plan.{gaborOn, stepOf, step, steps, plan}
 
 -- ---- where a place stands among its row's or its column's
 
@@ -176,7 +176,7 @@ steps-sound n s (suc (suc (suc i))) = (step-sound n s 0 (omega arith), (step-sou
 -- Their steps are 0, 1 or 2, on channels of the n planes.
 pub plan-sound : (n : ℕ) (s : Settings) → AllSound n (plan n s)
 unfolding plan sound
-plan-sound n s = go (s .gabor .enabled)
+plan-sound n s = go (gaborOn s)
   where
     go : (on : Bool) → AllSound n (cond on (gaborLike (s .gabor .weights) ∷ steps n s (s .epf .iters)) (steps n s (s .epf .iters)))
     go true = (tt, steps-sound n s (s .epf .iters))
@@ -190,7 +190,7 @@ some-step n s (suc i) h = omega arith
 -- A step is among them only where there are iterations.
 pub plan-some-step : (n : ℕ) (s : Settings) → SomeStep (plan n s) → 0 < s .epf .iters
 unfolding plan isStep
-plan-some-step n s h = go (s .gabor .enabled) h
+plan-some-step n s h = go (gaborOn s) h
   where
     go : (on : Bool) → SomeStep (cond on (gaborLike (s .gabor .weights) ∷ steps n s (s .epf .iters)) (steps n s (s .epf .iters))) → 0 < s .epf .iters
     go true (inl h) = absurd h

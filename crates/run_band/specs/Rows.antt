@@ -1,5 +1,5 @@
 -- Rows of a pass of a run: what they leave, and that neither filter refuses them. Assumes nothing.
-use mathlib.Core.Path.{_≡_, refl, sym, ap, _∙_}
+use mathlib.Core.Path.{_≡_, sym, ap, _∙_}
 use mathlib.Core.Bool.{Bool, true, false, true≢false, cond, _&&_}
 use mathlib.Core.List.{List, []}
 use Prim.Native.Nat.{ℕ, _+_, _-_, _*_, _<_, _≤_, min}
@@ -10,7 +10,6 @@ use lib.Dec.{eqb}
 use lib.ListN.{length}
 use lib.Ieee.{Float}
 use Rattle.numbers.specs.Checks.{firstOf}
-use Rattle.numbers.specs.Flags.{flagFits, flagSet}
 use Rattle.region.specs.Regions.{inside}
 use Rattle.region.specs.Measures.{pictured}
 use Rattle.planes.specs.Band.{inner, passed, rowsFit}
@@ -23,11 +22,11 @@ use Rattle.epf.specs.declared.EpfStep.{EpfStep}
 use Rattle.epf.specs.Outcome.{stepChecks, epfChecks, epfOutcome}
 use Rattle.passes.specs.declared.Settings.{Settings}
 use Rattle.passes.specs.Pass.{gaborLike, pass}
-use Rattle.passes.specs.Plan.{stepOf, oneIf, gaborAt, stepIndex}
+use Rattle.passes.specs.Plan.{gaborOn, stepOf, oneIf, gaborAt, stepIndex}
 use Rattle.passes.specs.PlanLaws.{plan-length, plan-gabor, plan-step}
 use Rattle.setup.specs.declared.Setup.{Setup}
 use Rattle.record.specs.declared.Run.{Run}
-use Rattle.setup.specs.Setup.{layout, epfOn, area, rowCount, setLength, sigmaLength}
+use Rattle.setup.specs.Setup.{fullFits, layout, epfOn, area, rowCount, setLength, sigmaLength}
 use Rattle.record.specs.Record.{passCount}
 use Rattle.numbers.specs.Tables.{is-true}
 use Rattle.setup.specs.Laws.{SetupFits, setup-fits}
@@ -49,15 +48,6 @@ pub record RowsFit (r : Run) (sigmas src dst from to : ℕ) : Type 0 where
   pub order : from ≤ to
   pub rows : to ≤ rowCount (r .setup)
 
--- a yes or no as a flag
-flag-fits : (b : Bool) → flagFits (oneIf b) ≡ true
-flag-fits true = refl
-flag-fits false = refl
-
-flag-set : (b : Bool) → flagSet (oneIf b) ≡ b
-flag-set true = refl
-flag-set false = refl
-
 index-most : (s : Settings) (p : ℕ) → stepIndex s p ≤ 2
 unfolding stepIndex
 index-most s p = omega arith
@@ -71,17 +61,13 @@ module _ (r : Run) (sigmas src dst : List Float) (from to : ℕ) (fits : RowsFit
   abbrev s : Setup
   s = r .setup
 
-  -- whether the result is the full planes, as the passes are told it
-  abbrev full : ℕ
-  full = oneIf (s .«preserve_outside»)
-
   setup : SetupFits s
   setup = setup-fits s (fits .run .setup)
 
   rows-true : rowsFit (layout s) from to ≡ true
   rows-true = rw (le-leb from to (fits .order), le-leb to (rowCount s) (fits .rows))
 
-  gabor-number : firstOf (passChecks (s .image) (s .filter) full 3 from to src dst) ≡ 0
+  gabor-number : firstOf (passChecks (s .image) (s .filter) (s .«preserve_outside») 3 from to src dst) ≡ 0
   unfolding passChecks
   gabor-number = rw (
     is-true (pictured (s .image)) (setup .image),
@@ -89,26 +75,25 @@ module _ (r : Run) (sigmas src dst : List Float) (from to : ℕ) (fits : RowsFit
     is-true (inside (s .image) (s .filter)) (setup .contained),
     eq-eqb (length src) (setLength 3 s) (fits .source),
     eq-eqb (length dst) (setLength 3 s) (fits .target),
-    flag-fits (s .«preserve_outside»),
-    flag-set (s .«preserve_outside»),
+    is-true (fullFits s) (setup .full),
     rows-true,
   )
 
   -- Gabor's pass
   pub gabor-rows : gaborAt (s .settings) (r .pass) ≡ true → (ws : List (List Float)) → ws ≡ s .settings .gabor .weights → (k : ℕ) (a : List Float)
-      → _≡_ {A = PassOutcome} (record { number = k; target = a }) (gaborOutcome (s .image) (s .filter) full ws from to src dst)
+      → _≡_ {A = PassOutcome} (record { number = k; target = a }) (gaborOutcome (s .image) (s .filter) (s .«preserve_outside») ws from to src dst)
       → a ≡ passedRows 3 r sigmas from to src dst
   unfolding gaborOutcome pass layoutOf
   gabor-rows g ws w k a e =
       accepted-target k a _ dst _ gabor-number e
-      ∙ rw (flag-set (s .«preserve_outside»), plan-gabor 3 (s .settings) (r .pass) (gaborLike []) g, w)
+      ∙ rw (plan-gabor 3 (s .settings) (r .pass) (gaborLike []) g, w)
 
   -- a step's pass
   module _ (g : gaborAt (s .settings) (r .pass) ≡ false) where
     -- the edge filter is on, since a pass that is not Gabor's is left
     some-iters : 0 < s .settings .epf .iters
     unfolding gaborAt
-    some-iters = go (s .settings .gabor .enabled) g (omega (arith, fits .left, plan-length 3 (s .settings)))
+    some-iters = go (gaborOn (s .settings)) g (omega (arith, fits .left, plan-length 3 (s .settings)))
       where
         go : (on : Bool) → (on && eqb (r .pass) 0) ≡ false → r .pass < oneIf on + min (s .settings .epf .iters) 3 → 0 < s .settings .epf .iters
         go true e h = after (ℕ-discrete (r .pass) 0)
@@ -127,7 +112,7 @@ module _ (r : Run) (sigmas src dst : List Float) (from to : ℕ) (fits : RowsFit
     corner : onBlocks (s .filter) ≡ true
     corner = is-true (onBlocks (s .filter)) (setup .blocks (rw on tt))
 
-    step-number : firstOf (epfChecks (s .image) (s .filter) full (stepOf (s .settings) (stepIndex (s .settings) (r .pass))) sigmas from to src dst) ≡ 0
+    step-number : firstOf (epfChecks (s .image) (s .filter) (s .«preserve_outside») (stepOf (s .settings) (stepIndex (s .settings) (r .pass))) sigmas from to src dst) ≡ 0
     unfolding epfChecks stepChecks stepOf layoutOf
     step-number = rw (
       is-true (pictured (s .image)) (setup .image),
@@ -139,18 +124,17 @@ module _ (r : Run) (sigmas src dst : List Float) (from to : ℕ) (fits : RowsFit
       eq-eqb (length dst) (setLength 3 s) (fits .target),
       eq-eqb (length sigmas) (blockRows (layout s) * blockColumns (layout s)) sigma-count,
       le-ltb 2 (stepIndex (s .settings) (r .pass)) (index-most (s .settings) (r .pass)),
-      flag-fits (s .«preserve_outside»),
-      flag-set (s .«preserve_outside»),
+      is-true (fullFits s) (setup .full),
       rows-true,
     )
 
     pub step-rows : (step : EpfStep) → step ≡ stepOf (s .settings) (stepIndex (s .settings) (r .pass)) → (k : ℕ) (a : List Float)
-        → _≡_ {A = PassOutcome} (record { number = k; target = a }) (epfOutcome (s .image) (s .filter) full step sigmas from to src dst)
+        → _≡_ {A = PassOutcome} (record { number = k; target = a }) (epfOutcome (s .image) (s .filter) (s .«preserve_outside») step sigmas from to src dst)
         → a ≡ passedRows 3 r sigmas from to src dst
     unfolding epfOutcome pass layoutOf
     step-rows step p k a e =
         accepted-target k a _ dst _ step-number (rw p at e)
-        ∙ rw (flag-set (s .«preserve_outside»), plan-step 3 (s .settings) (r .pass) (gaborLike []) g (fits .left))
+        ∙ rw (plan-step 3 (s .settings) (r .pass) (gaborLike []) g (fits .left))
 
 -- ---- a band
 

@@ -1,11 +1,11 @@
 // The band call of a run.
 use epf::epf_pass;
 use gabor::gabor_pass;
-use gabor_header::weights;
 use numbers::ACCEPTED;
 use numbers::WRONG_LENGTH;
 use passes::gabor_at;
 use passes::step_at;
+use passes::weights;
 use record::Run;
 use record::band_number;
 use runs::RunAnswer;
@@ -17,7 +17,6 @@ ghost use mathlib.Core.List.{_∷_};
 ghost use Prim.Native.Nat.{_<_, min};
 ghost use lib.ListN.{length};
 ghost use Rattle.numbers.specs.Checks.{firstOf};
-ghost use Rattle.passes.specs.Plan.{oneIf};
 ghost use Rattle.record.specs.Record.{marked, openChecks};
 ghost use Rattle.runs.specs.Band.{State, BandOutcome, setCheck, sigmaCheck, bandNumber, bandOutcome};
 ghost use Rattle.run_band.specs.Rows.{RowsFit, passedRows, bandWritten};
@@ -35,31 +34,29 @@ fn refusal(run: Run, sigmas: usize, first: usize, second: usize, k: u32) -> u32
     band_number(run, k)
 }
 
-const YES: u32 = 1;
-
-const NO: u32 = 0;
-
-// A yes or no as a pass is told it.
-fn flag(yes: bool) -> u32
-    ensures { λ r. ⌜ r ≡ oneIf yes ⌝ }
-{
-    if yes { YES } else { NO }
-}
-
 // Rows `from` up to `to` of the result: the next pass, from the set that is read to the other.
 fn pass_rows(run: Run, sigmas: &[f32], src: &[f32], dst: &mut [f32], from: u32, to: u32)
     requires { ⌜ RowsFit run (length (now sigmas)) (length (now src)) (length (now dst)) from to ⌝ }
     ensures { λ _. ⌜ now (dst .exit) ≡ passedRows 3 run (now (sigmas .entry)) from to (now (src .entry)) (now (dst .entry)) ⌝ }
 {
     let s = run.setup;
-    let full = flag(s.preserve_outside);
     if gabor_at(s.settings, run.pass) {
         let w = weights(s.settings.gabor);
-        gabor_pass(s.image, s.filter, full, w, from, to, src, dst);
+        gabor_pass(s.image, s.filter, s.preserve_outside, w, from, to, src, dst);
         return;
     }
     let step = step_at(s.settings, run.pass);
-    epf_pass(s.image, s.filter, full, step, sigmas, from, to, src, dst);
+    epf_pass(
+        s.image,
+        s.filter,
+        s.preserve_outside,
+        step,
+        sigmas,
+        from,
+        to,
+        src,
+        dst,
+    );
 }
 
 fn smaller(a: u32, b: u32) -> u32
@@ -88,7 +85,7 @@ fn marked(run: Run, k: usize) -> Run
     ensures { λ r. ⌜ r ≡ marked run k ⌝ }
 {
     let mut r = run;
-    r.done[k] = true;
+    r.done[k] = 1;
     r
 }
 

@@ -145,10 +145,10 @@ module _ (n : ℕ) (h : Handed) where
 
   whole : Parted (pictureChecks n h) placedRows groupRows
   unfolding pictureChecks
-  whole = left (right (right (left (left (left (right (right (right (right (left (right (right (left (left none))))))))))))))
+  whole = left (right (right (left (left (left (right (right (right (right (left (right (right (left (left (left (left none))))))))))))))))
 
   placed-own : Parted placedRows (placedChecks (s .image) (s .filter)) ownRows
-  placed-own = left (left (right (right (right (right (right none))))))
+  placed-own = left (left (right (right (right (right (right (right (right none))))))))
 
   rows-lowest : firstOf (pictureChecks n h) ≡ lowest (lowest (firstOf (placedChecks (s .image) (s .filter))) (firstOf ownRows)) (firstOf groupRows)
   unfolding pictureChecks

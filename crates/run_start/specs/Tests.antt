@@ -3,8 +3,6 @@ use mathlib.Core.Path.{_≡_, refl, _∙_}
 use mathlib.Core.Bool.{Bool, true, false, cond, not, _&&_}
 use mathlib.Core.List.{List}
 use Prim.Native.Nat.{ℕ, _/_}
-use borrow.Author.Tests.{le-ltb, lt-ltb, leb-true, leb-false}
-use lib.Dec.{leb, ltb}
 use lib.Ieee.{Float}
 use Rattle.numbers.specs.Numbers.{outOfRange}
 use Rattle.frame.specs.declared.Frame.{Frame}
@@ -16,20 +14,16 @@ use Rattle.setup.specs.declared.Setup.{Setup}
 use Rattle.runs.specs.Start.{Handed, blocksOf}
 use Rattle.run_start.specs.Pieces.{epfFlag, sigmasAsked}
 
--- more than m, by two tests
-pub more-than : (m k : ℕ) → ltb m k ≡ not (leb k m)
-more-than m k = go (leb k m) refl
-  where
-    go : (t : Bool) → leb k m ≡ t → ltb m k ≡ not t
-    go true e = le-ltb m k (leb-true k m e)
-    go false e = lt-ltb m k (leb-false k m e)
-
--- the last three rows of what is told, by one test
-pub told-row : (iters height count : Bool) → cond (not (iters && (height && count))) outOfRange 0 ≡ cond (not iters) outOfRange (cond (not height) outOfRange (cond (height && not count) outOfRange 0))
-told-row true true true = refl
-told-row true true false = refl
-told-row true false count = refl
-told-row false height count = refl
+-- the last five rows of what is told, by one test
+pub told-row : (iters full gabor height count : Bool)
+    → cond (not (iters && (full && (gabor && (height && count))))) outOfRange 0
+    ≡ cond (not iters) outOfRange (cond (not full) outOfRange (cond (not gabor) outOfRange (cond (not height) outOfRange (cond ((full && height) && not count) outOfRange 0))))
+told-row true true true true true = refl
+told-row true true true true false = refl
+told-row true true true false count = refl
+told-row true true false height count = refl
+told-row true false gabor height count = refl
+told-row false full gabor height count = refl
 
 -- left and top over 8
 pub same-blocks : (s : Setup) (x y : ℕ) → x ≡ ahead (s .filter .left) → y ≡ ahead (s .filter .top)

@@ -16,8 +16,9 @@ use Rattle.tiles.specs.Blocks.{blockColumns, blockRows}
 use Rattle.sigma.specs.Sigma.{blockSigmas}
 use Rattle.sigma.specs.Laws.{length-sigmas}
 use Rattle.placement.specs.Blocks.{onBlocks}
+use Rattle.passes.specs.Plan.{gaborFits}
 use Rattle.record.specs.declared.Run.{Run}
-use Rattle.setup.specs.Setup.{layout, epfOn, itersFit, heightFits, countFits, bandCount, setupFits, sized, setLength, sigmaLength, resultRegion, resultLength}
+use Rattle.setup.specs.Setup.{layout, epfOn, itersFit, fullFits, heightFits, countFits, bandCount, setupFits, sized, setLength, sigmaLength, resultRegion, resultLength}
 use Rattle.record.specs.Record.{finished, runFits, overChecks}
 use Rattle.numbers.specs.Tables.{is-true, met, met-given, none-zero, row-passed}
 use Rattle.setup.specs.Laws.{fits-setup}
@@ -43,8 +44,9 @@ picture-fits n h e =
     let pictures = met (pictured (s .image) && pictured (s .filter)) (passed 0) in
     let set = met (eqb (length (h .first)) (setLength n s) && eqb (length (h .second)) (setLength n s)) (passed 5) in
     let iters : T (itersFit s) = met (itersFit s) (passed 10) in
-    let height : T (heightFits s) = met (heightFits s) (passed 13) in
-    let count : T (countFits s) = met-given (heightFits s) (countFits s) (passed 14) height in
+    let full : T (fullFits s) = met (fullFits s) (passed 13) in
+    let height : T (heightFits s) = met (heightFits s) (passed 15) in
+    let count : T (countFits s) = met-given (fullFits s && heightFits s) (countFits s) (passed 16) (and-i (fullFits s) (heightFits s) full height) in
     record {
       setup = fits-setup s (record {
         image = and-l (pictured (s .image)) (pictured (s .filter)) pictures;
@@ -52,6 +54,8 @@ picture-fits n h e =
         contained = met (inside (s .image) (s .filter)) (passed 3);
         blocks = λ on. met-given (itersFit s && epfOn s) (onBlocks (s .filter)) (passed 4) (and-i (itersFit s) (epfOn s) iters on);
         iterations = leb→le (s .settings .epf .iters) 3 iters;
+        full = full;
+        gabor = met (gaborFits (s .settings)) (passed 14);
         height-least = leb→le 1 (s .«band_height») (and-l (leb 1 (s .«band_height»)) (leb (s .«band_height») 16384) height);
         height-most = leb→le (s .«band_height») 16384 (and-r (leb 1 (s .«band_height»)) (leb (s .«band_height») 16384) height);
         count = leb→le (bandCount s) 256 count;
@@ -129,7 +133,7 @@ result-accepted n r first second out p q l fits f =
     none-zero (resultChecks n r first second out) (
       lengths-passed (sized (s .image)) (length first) (length second) (setLength n s) p q,
       (
-        length-passed (sized (resultRegion s)) (length out) (resultLength n s) l,
+        length-passed (fullFits s && sized (resultRegion s)) (length out) (resultLength n s) l,
         (and-none true (runFits r) (fits-run r fits), (and-none true (finished r) f, tt)),
       ),
     )

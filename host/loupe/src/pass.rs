@@ -1,8 +1,8 @@
-//! One pass over some rows of its result, which is the full planes or, where `preserve_outside` is 0
-//! and not 1, the filter region.
+//! One pass over some rows of its result, which is the full planes (`preserve_outside` 1) or the filter
+//! region alone (0).
 
 use crate::{
-    Gabor, Region,
+    GaborSettings, Region,
     boundary::{answers, entries},
 };
 
@@ -31,12 +31,12 @@ entries! {
     /// ```
     mirror = loupe_mirror(offset: isize, len: usize) -> MirrorAnswer;
 
-    /// The Gabor-like pass; whether the settings are on is not asked.
+    /// The Gabor-like pass; the settings' flag is ignored.
     ///
     /// ```
     /// // Document 01, "Instances": weights 1/2, 1/4 on a single sample of 16.
     /// let image = loupe::Region { left: 0, top: 0, width: 3, height: 3 };
-    /// let settings = loupe::Gabor { enabled: true, weights: [[0.5, 0.25]; 3] };
+    /// let settings = loupe::GaborSettings { enabled: 1, weights: [[0.5, 0.25]; 3] };
     /// let plane = [0.0, 0.0, 0.0, 0.0, 16.0, 0.0, 0.0, 0.0, 0.0];
     /// let (source, mut target) = ([plane; 3].concat(), [0.0; 27]);
     /// let number = loupe::gabor_pass(image, image, 1, settings, 0, 3, &source, &mut target);
@@ -46,7 +46,7 @@ entries! {
     /// # Ok::<(), loupe::Refusal>(())
     /// ```
     gabor_pass = loupe_gabor_pass(
-        image: Region, filter: Region, preserve_outside: u32, settings: Gabor,
+        image: Region, filter: Region, preserve_outside: u32, settings: GaborSettings,
         from: u32, to: u32, source: &[f32], target: &mut [f32]
     ) -> u32;
 
