@@ -1,5 +1,5 @@
-//! One pass over some rows of its result, which is the full planes or, where `preserve_outside` is 0
-//! and not 1, the filter region.
+//! One pass over some rows of its result, which is the full planes (`preserve_outside` 1) or the filter
+//! region alone (0).
 
 use crate::{
     GaborSettings, Region,
