@@ -9,7 +9,7 @@
 // - Nobody writes a buffer while a call has it, nor reads one that the call writes. There is no global state and nothing is allocated, so calls
 //   from several threads need nothing else.
 // - The floating-point environment is C's default one: rounding to nearest, subnormals neither flushed nor read as 0.
-// - A call takes at most 64 KiB of stack, whatever the picture. Measured, not proved: a band takes 45,520 bytes (`./bench memory`), and `tools/c`
+// - A call takes at most 64 KiB of stack, whatever the picture. Measured, not proved: a band takes under 45 KiB (`./bench memory`), and `tools/c`
 //   makes all calls of host/c/example.c in a process that has 64 KiB of stack.
 //
 // A refused call answers its number, with zeros in every other field, and leaves all buffers as they are; where it is otherwise, the function's
@@ -218,30 +218,64 @@ typedef struct LoupeRunAnswer {
 
 // == The C boundary of regions
 
+// Whether a region has a side of 0.
+// Numbers: 0; 4 for a region out of measure: a side over 16,384, or left or top outside -1,048,576 to 1,048,576. A refusal answers false.
 LoupeBoolAnswer loupe_region_is_empty(LoupeRegion r);
 
+// The column past a region's last: left + width.
+// Numbers: 0; 4 for a region out of measure. A refusal has edge 0.
 LoupeEdgeAnswer loupe_region_right(LoupeRegion r);
 
+// The row past a region's last: top + height.
+// Numbers: 0; 4 for a region out of measure. A refusal has edge 0.
 LoupeEdgeAnswer loupe_region_bottom(LoupeRegion r);
 
+// Whether the first region contains the second, `target`. An empty target is contained.
+// Numbers: 0; 4 where either region is out of measure. A refusal answers false.
 LoupeBoolAnswer loupe_region_contains(LoupeRegion r, LoupeRegion target);
 
+// The region moved by `x` columns and `y` rows.
+// Numbers: 0; 4 where the region or the moved one is out of measure. A refusal has the region 0, 0, 0, 0.
 LoupeRegionAnswer loupe_region_translate(LoupeRegion r, int32_t x, int32_t y);
 
+// What two regions have in common; regions that only touch, or are apart, meet in the region 0, 0, 0, 0.
+// Numbers: 0; 4 where either region is out of measure. A refusal has the region 0, 0, 0, 0.
 LoupeRegionAnswer loupe_region_intersection(LoupeRegion a, LoupeRegion b);
 
+// The region with `size` samples more on each of its four sides.
+// Numbers: 0; 4 where the region or the padded one is out of measure. A refusal has the region 0, 0, 0, 0.
 LoupeRegionAnswer loupe_region_pad(LoupeRegion r, uint32_t size);
 
+// The cells of 2^factor by 2^factor samples that a region touches, as a region; the shift of a negative left or top rounds toward minus infinity.
+// Numbers: 0; 4 where the region, or with a factor in range the result, is out of measure; 9 for a factor over 16. The lowest that applies is given. A refusal
+// has the region 0, 0, 0, 0.
 LoupeRegionAnswer loupe_region_downsample(LoupeRegion r, uint32_t factor);
 
+// The smallest region that contains this one and has its edges at multiples of `grid_dim`.
+// Numbers: 0; 4 where the region, or with an alignment in range the result, is out of measure; 9 for an alignment that is no power of two from 1 to 8,192. The
+// lowest that applies is given. A refusal has the region 0, 0, 0, 0.
 LoupeRegionAnswer loupe_region_container_aligned(LoupeRegion r, uint32_t grid_dim);
 
 // == The C boundary of frames and block sigmas
 
+// The sample sides of a frame (its sides divided by the upsampling and then by 8 to the power of the LF level, each rounded up), its group dimension (128
+// shifted left by the group size shift) and group shift, and its groups per row, per column and in all.
+// Numbers: 0; 4 for a frame side outside 1 to 16,384; 9 for an upsampling that is none of 1, 2, 4 and 8, an LF level over 4 or a group size shift over 3.
+// The lowest that applies is given. A refusal has 0 in every other field.
 LoupeFrameAnswer loupe_group_sizes(LoupeFrame f);
 
+// The group that a block's column or row lies in, and its cell in that group.
+// Numbers: 0; 9 for a group size shift over 3. A refusal has 0 in every other field.
 LoupeSplitAnswer loupe_split_block(uint32_t block, uint32_t group_size_shift);
 
+// With the edge-preserving filter on (`on` 1), fills `sigmas` with the sigma of each block of 8 by 8 samples of a filter region, row of blocks after row: the
+// cell of its group's grid or, where that grid is missing, the sigma of the block above, the top block row starting from `sigma_for_modular`. With it off
+// (`on` 0) `sigmas` has length 0. `blocks` is the filter region, its left and top in blocks. `table` has three numbers for each group of the frame (whether
+// its grid is present, grid width, grid height); `grids` has the present grids one after another.
+// Numbers: 0; 4 for a side of the frame, the filter region's measures, or a present grid's side outside 1 to 1,024; 7 for a table, grids or sigmas of another
+// length; 8, with the filter on, for a block whose group is not in the frame or whose present grid does not hold it; 9 for the frame's settings, a presence
+// that is neither 0 nor 1, or `on` neither 0 nor 1. The lowest that applies is given; a check that needs a number faulty under 9 is passed over: the
+// sigmas' length and 8 need `on`. A refusal leaves `sigmas` as they were. `table` and `grids` are only read.
 uint32_t loupe_block_sigmas(
     uint32_t on,
     LoupeFrame frame,
@@ -253,19 +287,57 @@ uint32_t loupe_block_sigmas(
 
 // == The C boundary of the header
 
+// Reads 16 bits from bit place `at` on as an IEEE 754 half-precision number, exactly, subnormals and -0 included. Bit p is bit p mod 8 of byte p / 8,
+// the lowest first, and a field's first bit is its lowest. Answers the value and the next bit place.
+// Numbers: 0; 7 for more than 65,536 bytes; else 1 where the bits run out, 2 for exponent field 31. A refusal has 0 in every other field.
+// `bytes` is only read.
 LoupeHalfAnswer loupe_read_half(const uint8_t *bytes, size_t bytes_len, size_t at);
 
+// Reads the Gabor-like filter's bundle from bit place `at` on: the enabled bit and, if it is set, the custom bit and, if that is set, three channels of two
+// weights each. Answers whether the filter is on, its weights (the header's own or the defaults) and the next bit place; a filter that is off has weights 0.
+// Numbers: 0; 7 for more than 65,536 bytes; else the first in bit order of 1 where the bits run out, 2 for a half with exponent field 31, 3 where a channel's
+// |1 + (w0 + w1) * 4| is under 2^-23. A refusal has 0 in every other field. `bytes` is only read.
 LoupeGaborAnswer loupe_read_gabor(const uint8_t *bytes, size_t bytes_len, size_t at);
 
-LoupeEpfAnswer loupe_read_epf(const uint8_t *bytes, size_t bytes_len, size_t at, bool modular);
+// Reads the edge-preserving filter's bundle of a frame encoded as VarDCT from bit place `at` on: 2 bits of iterations and, if they are not 0, a custom bit with
+// 8 sharpness halves, a custom bit with 3 channel scales and 32 ignored bits, a custom bit with the four sigma settings. Answers the settings (the header's
+// own or the defaults; `sigma_for_modular` is 1) and the next bit place; a filter that is off has 0 in its fields.
+// Numbers: 0; 7 for more than 65,536 bytes; else the first in bit order of 1 where the bits run out, 2 for a half with exponent field 31.
+// A refusal has 0 in every other field. `bytes` is only read.
+LoupeEpfAnswer loupe_read_epf_vardct(const uint8_t *bytes, size_t bytes_len, size_t at);
 
-LoupeRestorationAnswer loupe_read_filters(const uint8_t *bytes, size_t bytes_len, size_t at, bool modular);
+// Reads the edge-preserving filter's bundle of a frame encoded as Modular from bit place `at` on: 2 bits of iterations and, if they are not 0, a custom bit with
+// 3 channel scales and 32 ignored bits, a custom bit with three sigma settings (`quant_mul` keeps its default), and `sigma_for_modular`, a half. Answers the
+// settings (the header's own or the defaults) and the next bit place; a filter that is off has 0 in its fields.
+// Numbers: 0; 7 for more than 65,536 bytes; else the first in bit order of 1 where the bits run out, 2 for a half with exponent field 31.
+// A refusal has 0 in every other field. `bytes` is only read.
+LoupeEpfAnswer loupe_read_epf_modular(const uint8_t *bytes, size_t bytes_len, size_t at);
+
+// Reads both bundles of a frame encoded as VarDCT from bit place `at` on, the Gabor-like filter's and then the edge-preserving filter's, as
+// `loupe_read_gabor` and `loupe_read_epf_vardct` do. Answers both and the next bit place.
+// Numbers: 0; 7 for more than 65,536 bytes; else the first in bit order of 1, 2 and 3 as those functions give them. A refusal has 0 in every other field.
+// `bytes` is only read.
+LoupeRestorationAnswer loupe_read_filters_vardct(const uint8_t *bytes, size_t bytes_len, size_t at);
+
+// Reads both bundles of a frame encoded as Modular from bit place `at` on, the Gabor-like filter's and then the edge-preserving filter's, as
+// `loupe_read_gabor` and `loupe_read_epf_modular` do. Answers both and the next bit place.
+// Numbers: 0; 7 for more than 65,536 bytes; else the first in bit order of 1, 2 and 3 as those functions give them. A refusal has 0 in every other field.
+// `bytes` is only read.
+LoupeRestorationAnswer loupe_read_filters_modular(const uint8_t *bytes, size_t bytes_len, size_t at);
 
 // == The C boundary of the mirror and of single passes
 
+// The place in a row of `len` samples that a filter reads for an offset beyond an edge: with m the offset modulo 2 * len, not negative, it is m if m < len and
+// else 2 * len - 1 - m.
+// Numbers: 0; 9 for a length outside 1 to 16,384 or an offset outside -1,048,576 to 1,048,576. A refusal has place 0.
 LoupeMirrorAnswer loupe_mirror(ptrdiff_t offset, size_t len);
 
-// Weights cross in the settings that hold them; whether these are on is not asked.
+// The Gabor-like filter over rows `from` up to `to` of its result, which is the full planes (`preserve_outside` 1) or the filter region alone (0). Reads `src`
+// and writes `dst`, sets of three planes one after another, each row after row without gaps: filtered in the filter region, copied outside it; samples of
+// `dst` that are not in these rows of the result stay. The settings' weights are any floats; whether they say that the filter is on is not read.
+// Numbers: 0; 4 for a region out of measure (sides 1 to 16,384, area to 16,777,216, left and top -1,048,576 to 1,048,576); 5 for a filter region that is not
+// inside the image region; 7 for a set that has not exactly 3 * width * height samples of the image region; 9 for `preserve_outside` neither 0 nor 1, `from`
+// after `to`, or `to` past the last row of the result. The lowest that applies is given. A refusal leaves `dst` as it was. `src` is only read.
 uint32_t loupe_gabor_pass(
     LoupeRegion image,
     LoupeRegion filter,
@@ -276,6 +348,12 @@ uint32_t loupe_gabor_pass(
     const float *src, size_t src_len,
     float *dst, size_t dst_len);
 
+// Step 0, 1 or 2 of the edge-preserving filter over rows `from` up to `to` of its result, which is the full planes (`preserve_outside` 1) or the filter region
+// alone (0). Reads `src` and writes `dst` as `loupe_gabor_pass` does. `sigmas` has one sigma for each block of 8 by 8 samples of the filter region, row of
+// blocks after row; sigmas, scales and multipliers are any floats.
+// Numbers: 0; 4 for a region out of measure; 5 for a filter region that is not inside the image region; 6 for a left or top of the filter region that is
+// negative or no multiple of 8; 7 for a set or sigmas of another length; 9 for a step over 2, `preserve_outside` neither 0 nor 1, `from` after `to`, or `to`
+// past the last row of the result. The lowest that applies is given. A refusal leaves `dst` as it was. `src` and `sigmas` are only read.
 uint32_t loupe_epf_pass(
     LoupeRegion image,
     LoupeRegion filter,

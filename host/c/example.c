@@ -96,8 +96,11 @@ static void headers(void)
 {
     REFUSED(LoupeHalfAnswer, loupe_read_half(NULL, 0, 0), LOUPE_BITS_RUN_OUT, ZEROS(a.value) && a.next == 0);
     REFUSED(LoupeGaborAnswer, loupe_read_gabor(NULL, 0, 0), LOUPE_BITS_RUN_OUT, gabor_zeros(a.gabor) && a.next == 0);
-    REFUSED(LoupeEpfAnswer, loupe_read_epf(NULL, 0, 0, false), LOUPE_BITS_RUN_OUT, epf_zeros(a.epf) && a.next == 0);
-    REFUSED(LoupeRestorationAnswer, loupe_read_filters(NULL, 0, 0, false), LOUPE_BITS_RUN_OUT,
+    REFUSED(LoupeEpfAnswer, loupe_read_epf_vardct(NULL, 0, 0), LOUPE_BITS_RUN_OUT, epf_zeros(a.epf) && a.next == 0);
+    REFUSED(LoupeEpfAnswer, loupe_read_epf_modular(NULL, 0, 0), LOUPE_BITS_RUN_OUT, epf_zeros(a.epf) && a.next == 0);
+    REFUSED(LoupeRestorationAnswer, loupe_read_filters_vardct(NULL, 0, 0), LOUPE_BITS_RUN_OUT,
+        gabor_zeros(a.filter.gabor) && epf_zeros(a.filter.epf) && a.next == 0);
+    REFUSED(LoupeRestorationAnswer, loupe_read_filters_modular(NULL, 0, 0), LOUPE_BITS_RUN_OUT,
         gabor_zeros(a.filter.gabor) && epf_zeros(a.filter.epf) && a.next == 0);
 }
 

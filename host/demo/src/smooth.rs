@@ -93,7 +93,7 @@ pub fn settings(chosen: &Chosen) -> Settings {
 }
 
 fn header(bits: u8) -> Settings {
-    let read = loupe::read_filters(&[bits], 0, false).value();
+    let read = loupe::read_filters_vardct(&[bits], 0).value();
     let (filter, _) = read.expect("a header of seven bits");
     filter.into()
 }

@@ -65,8 +65,9 @@ entries! {
     /// The group of a block's column or row, and the cell in it.
     split_block = loupe_split_block(block: u32, group_size_shift: u32) -> SplitAnswer;
 
-    /// Fills in one sigma a block. The table has three numbers a group: whether it has a grid, the
-    /// grid's width and its height; the grids lie one after another.
+    /// Fills in one sigma per block where the edge filter is on (1); there are none where it is off
+    /// (0). The table has three numbers a group: whether it has a grid, the grid's width and its
+    /// height; the grids lie one after another.
     ///
     /// ```
     /// // Document 01, "Instances": group row 0 has grids, row 1 none: block row 128 repeats row 127.

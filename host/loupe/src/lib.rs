@@ -8,7 +8,7 @@
 //! use loupe::{Frame, GaborSettings, Region, Settings, Setup, Smoothing};
 //!
 //! // The Gabor-like filter alone, on three planes of one row.
-//! let (off, _) = loupe::read_filters(&[0], 0, false).value()?;
+//! let (off, _) = loupe::read_filters_vardct(&[0], 0).value()?;
 //! let settings = Settings {
 //!     gabor: GaborSettings { enabled: 1, weights: [[0.5, 0.25]; 3] },
 //!     epf: off.epf.into(),

@@ -1,5 +1,5 @@
-//! One pass over some rows of its result, which is the full planes or, where `preserve_outside` is 0
-//! and not 1, the filter region.
+//! One pass over some rows of its result, which is the full planes (`preserve_outside` 1) or the filter
+//! region alone (0).
 
 use crate::{
     GaborSettings, Region,
@@ -31,7 +31,7 @@ entries! {
     /// ```
     mirror = loupe_mirror(offset: isize, len: usize) -> MirrorAnswer;
 
-    /// The Gabor-like pass; the settings' flag is ignored.
+    /// The Gabor-like pass; `enabled` is ignored.
     ///
     /// ```
     /// // Document 01, "Instances": weights 1/2, 1/4 on a single sample of 16.

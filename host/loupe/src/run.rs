@@ -7,23 +7,6 @@ use crate::{
     boundary::{answers, entries},
 };
 
-/// The Gabor-like filter's settings; `enabled` is 0 or 1.
-#[repr(C)]
-#[derive(Debug, Clone, Copy, PartialEq)]
-pub struct GaborSettings {
-    pub enabled: u32,
-    pub weights: [[f32; 2]; 3],
-}
-
-impl From<Gabor> for GaborSettings {
-    fn from(read: Gabor) -> Self {
-        Self {
-            enabled: read.enabled.into(),
-            weights: read.weights,
-        }
-    }
-}
-
 /// The edge filter is on where there are iterations.
 #[repr(C)]
 #[derive(Debug, Clone, Copy, PartialEq)]
@@ -124,7 +107,7 @@ entries! {
     /// ```
     /// // The Gabor-like filter and three iterations with default settings, in seven bits. The margin
     /// // is 1 + 6 (`crates/passes/specs/Plan.antt`).
-    /// let (filter, next) = loupe::read_filters(&[0b000_11_01], 0, false).value()?;
+    /// let (filter, next) = loupe::read_filters_vardct(&[0b000_11_01], 0).value()?;
     /// assert_eq!((next, loupe::margin(filter.into()).value()), (7, Ok(7)));
     /// # Ok::<(), loupe::Refusal>(())
     /// ```
@@ -134,7 +117,7 @@ entries! {
     ///
     /// ```
     /// # use loupe::*;
-    /// # let (off, _) = read_filters(&[0], 0, false).value()?;
+    /// # let (off, _) = read_filters_vardct(&[0], 0).value()?;
     /// # let gabor = GaborSettings { enabled: 1, weights: [[0.5, 0.25]; 3] };
     /// # let settings = Settings { gabor, epf: off.epf.into() };
     /// # let image = Region { left: 0, top: 0, width: 3, height: 3 };

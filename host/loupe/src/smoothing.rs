@@ -6,7 +6,7 @@ use crate::{BLOCK, Frame, Refusal, Region, Run, Setup, accepted, advance, band, 
 ///
 /// ```
 /// # let region = |width, height| loupe::Region { left: 0, top: 0, width, height };
-/// # let settings = loupe::read_filters(&[0b01], 0, false).value()?.0.into();
+/// # let settings = loupe::read_filters_vardct(&[0b01], 0).value()?.0.into();
 /// # let (image, filter, preserve_outside) = (region(2, 2), region(2, 2), 1);
 /// # let (width, height, upsampling, lf_level, group_size_shift) = (2, 2, 1, 0, 0);
 /// # let frame = loupe::Frame { width, height, upsampling, lf_level, group_size_shift };

@@ -43,6 +43,8 @@ const NUMBERS: [u32; 6] = [0, 4, 5, 6, 7, 9];
 #[derive(Debug)]
 struct Pass<'a> {
     place: oracle::Place,
+    /// Whether the result is the full planes, as the library is told it.
+    full: u32,
     step: u32,
     settings: oracle::Edge,
     sigmas: &'a [f32],
@@ -56,10 +58,9 @@ impl pass::Pass for Pass<'_> {
     fn ours(&self, (from, to): Rows, source: &[f32], target: &mut [f32]) -> u32 {
         let place = self.place;
         let (image, filter) = (region(place.image), region(place.filter));
-        let outside = place.preserve_outside.into();
         let settings = step_of(self.step, self.settings);
         loupe::epf_pass(
-            image, filter, outside, settings, self.sigmas, from, to, source, target,
+            image, filter, self.full, settings, self.sigmas, from, to, source, target,
         )
     }
 
@@ -98,7 +99,7 @@ impl pass::Pass for Pass<'_> {
         number(Handed {
             image: wide(self.place.image),
             filter: wide(self.place.filter),
-            preserve_outside: self.place.preserve_outside,
+            preserve_outside: self.full,
             step: self.step,
             rows: (rows.0.into(), rows.1.into()),
             sigmas: self.sigmas.len(),
@@ -163,6 +164,7 @@ fn named(step: u32, random: &mut Random, row: &mut Row) {
         for (sigma, source) in two_samples() {
             let pass = Pass {
                 place,
+                full: place.preserve_outside.into(),
                 step,
                 settings: DEFAULTS,
                 sigmas: &[sigma],
@@ -174,6 +176,7 @@ fn named(step: u32, random: &mut Random, row: &mut Row) {
         for settings in signed_and_infinite() {
             let pass = Pass {
                 place,
+                full: place.preserve_outside.into(),
                 step,
                 settings,
                 sigmas: &[1.0; 4],
@@ -310,6 +313,7 @@ fn with_sigmas(
 ) {
     let pass = Pass {
         place,
+        full: place.preserve_outside.into(),
         step,
         settings: settings(random),
         sigmas,
@@ -348,12 +352,14 @@ fn wrong(random: &mut Random, row: &mut Row) {
     if random.once_in(2) {
         bits::sprinkle(&mut sigmas, random);
     }
+    let full = picture::any_flag(random);
     let pass = Pass {
         place: oracle::Place {
             image,
             filter,
-            preserve_outside: random.once_in(2),
+            preserve_outside: full == 1,
         },
+        full,
         step: random.one_of(&[0, 1, 2, 0, 1, 2, 0, 1, 3, u32::MAX]),
         settings: settings(random),
         sigmas: &sigmas,

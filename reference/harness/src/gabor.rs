@@ -32,6 +32,8 @@ const NUMBERS: [u32; 5] = [0, 4, 5, 7, 9];
 #[derive(Debug, Clone, Copy)]
 struct Pass {
     place: oracle::Place,
+    /// Whether the result is the full planes, as the library is told it.
+    full: u32,
     weights: oracle::Weights,
 }
 
@@ -43,12 +45,11 @@ impl pass::Pass for Pass {
     fn ours(&self, (from, to): Rows, source: &[f32], target: &mut [f32]) -> u32 {
         let place = self.place;
         let (image, filter) = (region(place.image), region(place.filter));
-        let outside = place.preserve_outside.into();
         let settings = loupe::GaborSettings {
             enabled: 1,
             weights: self.weights,
         };
-        loupe::gabor_pass(image, filter, outside, settings, from, to, source, target)
+        loupe::gabor_pass(image, filter, self.full, settings, from, to, source, target)
     }
 
     fn rust(&self, source: &[f32]) -> oracle::Planes {
@@ -59,7 +60,7 @@ impl pass::Pass for Pass {
         number(
             wide(self.place.image),
             wide(self.place.filter),
-            self.place.preserve_outside,
+            self.full,
             (rows.0.into(), rows.1.into()),
             sets,
         )
@@ -135,6 +136,7 @@ fn all_bands(
                     filter,
                     preserve_outside,
                 },
+                full: preserve_outside.into(),
                 weights: weights(random),
             };
             any_picture(&pass, band, random, row);
@@ -163,12 +165,14 @@ fn random_pass(random: &mut Random) -> (Pass, u32) {
         width: columns,
         height: rows,
     };
+    let preserve_outside = random.once_in(2);
     let pass = Pass {
         place: oracle::Place {
             image,
             filter,
-            preserve_outside: random.once_in(2),
+            preserve_outside,
         },
+        full: preserve_outside.into(),
         weights: weights(random),
     };
     (pass, band)
@@ -198,12 +202,14 @@ fn wrong(random: &mut Random, row: &mut Row) {
     } else {
         picture::any_region(random)
     };
+    let full = picture::any_flag(random);
     let pass = Pass {
         place: oracle::Place {
             image,
             filter,
-            preserve_outside: random.once_in(2),
+            preserve_outside: full == 1,
         },
+        full,
         weights: weights(random),
     };
     let rows = (picture::any_row(random), picture::any_row(random));

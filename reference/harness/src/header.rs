@@ -2,7 +2,7 @@
 
 use core::hint::black_box;
 
-use loupe::{EdgePreservingFilter, Gabor};
+use loupe::{EdgePreservingFilter, Encoding, Gabor};
 
 use crate::{
     epf::sigma_settings,
@@ -93,7 +93,7 @@ pub const READERS: [Reader; 4] = [
         encoded: true,
         kernel: false,
         ours: |(bytes, place, modular)| {
-            let a = loupe::read_epf(bytes, place, modular);
+            let a = loupe::read_epf(bytes, place, encoding(modular));
             given(a.number, epf_fields(&a.epf), a.next)
         },
         rule: |(bytes, place, modular)| expected::epf(bytes, place, modular),
@@ -108,7 +108,7 @@ pub const READERS: [Reader; 4] = [
         encoded: true,
         kernel: true,
         ours: |(bytes, place, modular)| {
-            let a = loupe::read_filters(bytes, place, modular);
+            let a = loupe::read_filters(bytes, place, encoding(modular));
             let fields = [gabor_fields(&a.filter.gabor), epf_fields(&a.filter.epf)].concat();
             given(a.number, fields, a.next)
         },
@@ -119,6 +119,14 @@ pub const READERS: [Reader; 4] = [
         },
     },
 ];
+
+fn encoding(modular: bool) -> Encoding {
+    if modular {
+        Encoding::Modular
+    } else {
+        Encoding::VarDct
+    }
+}
 
 fn given(number: u32, fields: Vec<u32>, next: usize) -> Reading {
     Reading {

@@ -153,6 +153,14 @@ pub fn any_region(random: &mut Random) -> oracle::Region {
     r
 }
 
+/// A yes or no, or in one draw of eight a number that is neither.
+pub fn any_flag(random: &mut Random) -> u32 {
+    match random.within(0, 7) {
+        0 => random.one_of(&[2, 255, u32::MAX]),
+        n => n as u32 % 2,
+    }
+}
+
 pub fn any_row(random: &mut Random) -> u32 {
     match random.within(0, 9) {
         0 => u32::MAX,

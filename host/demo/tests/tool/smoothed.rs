@@ -151,7 +151,7 @@ fn by_run(
     (width, height): (u32, u32),
     change: impl Fn(&mut Settings),
 ) -> Vec<f32> {
-    let (filter, _) = loupe::read_filters(&[0b1101], 0, false).value().unwrap();
+    let (filter, _) = loupe::read_filters_vardct(&[0b1101], 0).value().unwrap();
     let mut settings = filter.into();
     change(&mut settings);
     let (left, top, upsampling, lf_level, group_size_shift) = (0, 0, 1, 0, 3);

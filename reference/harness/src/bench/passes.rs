@@ -121,7 +121,7 @@ fn header() {
     let bytes = vec![0u8; 65_536];
     let read = |place: usize| {
         for _ in 0..TIMES {
-            let answer = loupe::read_filters(&bytes, black_box(place), false);
+            let answer = loupe::read_filters(&bytes, black_box(place), loupe::Encoding::VarDct);
             assert_eq!(black_box(answer).number, 0);
         }
     };

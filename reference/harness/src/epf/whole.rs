@@ -179,11 +179,12 @@ impl<'a> Steps<'a> {
     fn run(&self, mut sets: [Vec<f32>; 2]) -> (u32, Vec<f32>) {
         let before = sets[1].clone();
         let mut sigmas = vec![0.0; self.case.count()];
-        let mut number = self.case.ours(true, &mut sigmas);
+        let mut number = self.case.ours(1, &mut sigmas);
         let steps: &[u32] = [&[1][..], &[1, 2], &[0, 1, 2]][self.settings.iters as usize - 1];
         for &step in steps {
             let pass = Pass {
                 place: self.place,
+                full: self.place.preserve_outside.into(),
                 step,
                 settings: self.settings,
                 sigmas: &sigmas,

@@ -144,7 +144,7 @@ impl Start<'_> {
     /// The part that block sigmas are asked with.
     pub fn sigmas_of(&self) -> sigma::Handed<'_> {
         sigma::Handed {
-            on: self.setup.edge_on(),
+            on: self.setup.edge_on().into(),
             frame: self.frame,
             filter: self.setup.filter,
             table: self.table,
