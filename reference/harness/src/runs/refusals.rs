@@ -235,6 +235,7 @@ pub fn compare(random: &mut Random, row: &mut Row, tally: &mut Tally) {
         let mut handed = sound();
         damage(&mut handed);
         nans::in_handed(&mut handed, random);
+        calls::margin(&handed.setup, tally);
         let (number, _) = calls::start(&mut handed, tally);
         expect(what, number, *due, row);
     }
