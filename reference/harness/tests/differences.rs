@@ -3,21 +3,16 @@
 
 use std::panic::{AssertUnwindSafe, catch_unwind};
 
-use loupe::{Blocks, EpfStep, Frame, Gabor, Region, Settings, Setup};
+use loupe::{Blocks, Encoding, EpfStep, Frame, GaborSettings, Region, Settings, Setup};
 use oracle::Place;
 
 /// 2^-24.
 const TINY: f32 = 1.0 / (1 << 24) as f32;
 const DEFAULT_WEIGHTS: [f32; 2] = [0.115_169_525, 0.061_248_592];
 
-/// A yes or no as the boundary has it.
-fn flag<T: From<bool>>(yes: bool) -> T {
-    T::from(yes)
-}
-
 /// The number of the edge filter's reader, `sigma_for_modular` and the next bit place.
-fn read_epf(bytes: &[u8], modular: bool) -> (u32, f32, usize) {
-    let answer = loupe::read_epf(bytes, 0, modular);
+fn read_epf(bytes: &[u8], encoding: Encoding) -> (u32, f32, usize) {
+    let answer = loupe::read_epf(bytes, 0, encoding);
     (answer.number, answer.epf.sigma_for_modular, answer.next)
 }
 
@@ -60,9 +55,9 @@ fn panics<T>(call: impl FnOnce() -> T) -> bool {
     catch_unwind(AssertUnwindSafe(call)).is_err()
 }
 
-fn gabor(weights: [f32; 2]) -> Gabor {
-    Gabor {
-        enabled: flag(true),
+fn gabor(weights: [f32; 2]) -> GaborSettings {
+    GaborSettings {
+        enabled: 1,
         weights: [weights; 3],
     }
 }
@@ -71,16 +66,7 @@ fn gabor(weights: [f32; 2]) -> Gabor {
 fn gabor_number(image: Region, filter: Region, (from, to): (u32, u32), samples: usize) -> u32 {
     let (source, mut target) = (vec![0.0; samples], vec![0.0; samples]);
     let settings = gabor(DEFAULT_WEIGHTS);
-    loupe::gabor_pass(
-        image,
-        filter,
-        flag(true),
-        settings,
-        from,
-        to,
-        &source,
-        &mut target,
-    )
+    loupe::gabor_pass(image, filter, 1, settings, from, to, &source, &mut target)
 }
 
 /// The first plane of a Gabor-like pass over a picture that is its filter region, by the original and here.
@@ -91,16 +77,7 @@ fn gabor_planes(width: u32, weights: [f32; 2], plane: &[f32]) -> [Vec<f32>; 2] {
     let mut ours = [plane; 3].concat();
     let source = ours.clone();
     let settings = gabor(weights);
-    let number = loupe::gabor_pass(
-        image,
-        image,
-        flag(true),
-        settings,
-        0,
-        height,
-        &source,
-        &mut ours,
-    );
+    let number = loupe::gabor_pass(image, image, 1, settings, 0, height, &source, &mut ours);
     assert_eq!(number, 0);
     ours.truncate(plane.len());
     let [first, ..] = rust;
@@ -139,7 +116,7 @@ fn step_number(filter: Region, step: u32) -> u32 {
     loupe::epf_pass(
         filter,
         filter,
-        flag(true),
+        1,
         settings,
         &[1.0],
         0,
@@ -185,7 +162,7 @@ fn sigmas_number(f: oracle::Frame, filter: Region, table: &[u32], grids: &[f32])
         height: filter.height,
     };
     let mut sigmas = vec![0.0; (filter.width.div_ceil(8) * filter.height.div_ceil(8)) as usize];
-    loupe::block_sigmas(flag(true), frame(f), blocks, table, grids, 1.0, &mut sigmas)
+    loupe::block_sigmas(1, frame(f), blocks, table, grids, 1.0, &mut sigmas)
 }
 
 fn setup(image: Region, filter: Region, iterations: u32, band_height: u32) -> Setup {
@@ -203,11 +180,11 @@ fn setup(image: Region, filter: Region, iterations: u32, band_height: u32) -> Se
             sigma_for_modular: 1.0,
         },
     };
-    settings.gabor.enabled = flag(false);
+    settings.gabor.enabled = 0;
     Setup {
         image,
         filter,
-        preserve_outside: flag(false),
+        preserve_outside: 0,
         settings,
         band_height,
     }
@@ -437,16 +414,7 @@ fn gabor_mirrors_at_the_filter_region() {
     let source = [plane; 3].concat();
     let mut target = [1.0; 6];
     let settings = gabor([0.5, 0.25]);
-    let number = loupe::gabor_pass(
-        image,
-        filter,
-        flag(true),
-        settings,
-        0,
-        2,
-        &source,
-        &mut target,
-    );
+    let number = loupe::gabor_pass(image, filter, 1, settings, 0, 2, &source, &mut target);
     assert_eq!((number, &target[..]), (0, &source[..]));
 }
 
@@ -527,7 +495,7 @@ fn small_sigma_for_modular() {
     let bytes = [0x01, 0, 0];
     let (edge, next) = oracle::parse_epf(&bytes, 0, true).unwrap();
     assert_eq!((edge.unwrap().sigma_for_modular, next), (0.0, 20));
-    assert_eq!(read_epf(&bytes, true), (0, 0.0, 20));
+    assert_eq!(read_epf(&bytes, Encoding::Modular), (0, 0.0, 20));
 }
 
 #[test]
@@ -538,7 +506,7 @@ fn ignored_fields_may_be_any_bits() {
     assert!(oracle::read_half(&bytes, 4 + 48).is_err());
     let (edge, next) = oracle::parse_epf(&bytes, 0, false).unwrap();
     assert_eq!((edge.unwrap().channel_scale, next), ([0.0; 3], 85));
-    assert_eq!(read_epf(&bytes, false), (0, 1.0, 85));
+    assert_eq!(read_epf(&bytes, Encoding::VarDct), (0, 1.0, 85));
 }
 
 /// Step 1 at the first of 0 0 / 2^-24 1 with sigma 2, differences summed in this order of the rule's five.
@@ -578,7 +546,7 @@ fn step_order_of_sums() {
     let number = loupe::epf_pass(
         image,
         image,
-        flag(true),
+        1,
         settings,
         &[2.0],
         0,

@@ -40,6 +40,7 @@ fn one(end: End, step: u32, random: &mut Random, row: &mut Row) {
     let band = tiled::band_height(picture::result(&place).height, random);
     let pass = Pass {
         place,
+        full: place.preserve_outside.into(),
         step,
         settings,
         sigmas: &sigmas,
