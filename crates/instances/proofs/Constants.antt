@@ -21,14 +21,14 @@ use Rattle.grids.specs.Table.{someBelow}
 use Rattle.layout.specs.Outcome.{layoutOf}
 use Rattle.passes.specs.Pass.{pass}
 use Rattle.passes.specs.Plan.{scaleOf, stepOf, steps, plan}
-use Rattle.setup.specs.Setup.{bandCount, sized, setupFits}
+use Rattle.setup.specs.Setup.{bandCount, sized, numbersFit, setupFits}
 use Rattle.record.specs.Record.{isDone, started, marked, bandMissing, strayDone, runFits}
 use Rattle.runs.specs.Band.{readsFirst, bandChecks, banded, bandOutcome}
 use Rattle.instances.specs.Instances.{bytesOf}
 use Rattle.instances.specs.Constants.{Constants}
 
 pub constants : Constants
-unfolding ofBits round lt add sub mul div mirror place side regionOf inside measured pictured u field valueOf halfOf f16 nested f16s read nearZero channelFields channelsFields weightFields gaborFields parameterFields epfFields bytesOf around of setOf tab inRect inFilter written inner passed magnitude kernel dists along scaledFrom apart distance positive weightBy copied weightAt blend divisor epf border multiplier epfPass someBelow layoutOf pass scaleOf stepOf steps plan bandCount sized setupFits isDone started marked bandMissing strayDone runFits readsFirst bandChecks banded bandOutcome
+unfolding ofBits round lt add sub mul div mirror place side regionOf inside measured pictured u field valueOf halfOf f16 nested f16s read nearZero channelFields channelsFields weightFields gaborFields parameterFields epfFields bytesOf around of setOf tab inRect inFilter written inner passed magnitude kernel dists along scaledFrom apart distance positive weightBy copied weightAt blend divisor epf border multiplier epfPass someBelow layoutOf pass scaleOf stepOf steps plan bandCount sized numbersFit setupFits isDone started marked bandMissing strayDone runFits readsFirst bandChecks banded bandOutcome
 constants = record {
   gaborDefaults = refl;
   epfDefaults = refl;

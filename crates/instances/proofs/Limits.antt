@@ -15,13 +15,13 @@ use Rattle.grids.specs.Table.{badGrid, cells, gridStart, someBelow}
 use Rattle.grids.specs.Start.{noEntries}
 use Rattle.layout.specs.Outcome.{layoutOf}
 use Rattle.passes.specs.Plan.{steps, plan}
-use Rattle.setup.specs.Setup.{bandCount, sized, setupFits}
+use Rattle.setup.specs.Setup.{bandCount, sized, numbersFit, setupFits}
 use Rattle.record.specs.Record.{isDone, started, bandMissing, strayDone, runFits}
 use Rattle.runs.specs.Band.{advanceOutcome}
 use Rattle.instances.specs.Limits.{Limits}
 
 pub limits : Limits
-unfolding u mirror powerBelow place side regionOf inside measured pictured shrunkBy alignedTo regionAnswer sizesOf badSides badSettings badBlocks badGrid cells gridStart someBelow noEntries layoutOf steps plan bandCount sized setupFits isDone started bandMissing strayDone runFits advanceOutcome
+unfolding u mirror powerBelow place side regionOf inside measured pictured shrunkBy alignedTo regionAnswer sizesOf badSides badSettings badBlocks badGrid cells gridStart someBelow noEntries layoutOf steps plan bandCount sized numbersFit setupFits isDone started bandMissing strayDone runFits advanceOutcome
 limits = record {
   regionSide = (refl, refl);
   regionRight = (refl, refl);
