@@ -23,7 +23,7 @@ pub extern "C" fn loupe_split_block(block: u32, group_size_shift: u32) -> SplitA
 
 #[no_mangle]
 pub extern "C" fn loupe_block_sigmas(
-    on: bool,
+    on: u32,
     frame: Frame,
     blocks: Blocks,
     table: &[u32],

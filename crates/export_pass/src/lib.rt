@@ -1,7 +1,7 @@
 // The C boundary of the mirror and of single passes: each function passes on what it is handed.
 use epf::EpfStep;
-use gabor_header::Gabor;
 use mirror::MirrorAnswer;
+use passes::GaborSettings;
 use region::Region;
 ghost use mathlib.Core.Path.{_≡_};
 ghost use Rattle.epf.specs.Outcome.{epfOutcome};
@@ -21,8 +21,8 @@ pub extern "C" fn loupe_mirror(offset: isize, len: usize) -> MirrorAnswer
 pub extern "C" fn loupe_gabor_pass(
     image: Region,
     filter: Region,
-    preserve_outside: bool,
-    settings: Gabor,
+    preserve_outside: u32,
+    settings: GaborSettings,
     from: u32,
     to: u32,
     src: &[f32],
@@ -30,7 +30,7 @@ pub extern "C" fn loupe_gabor_pass(
 ) -> u32
     ensures { λ r. ⌜ _≡_ {A = PassOutcome} (record { number = r; target = now (dst .exit) }) (gaborOutcome image filter «preserve_outside» (settings .weights) from to (now (src .entry)) (now (dst .entry))) ⌝ }
 {
-    let weights = gabor_header::weights(settings);
+    let weights = passes::weights(settings);
     gabor::gabor_pass(image, filter, preserve_outside, weights, from, to, src, dst)
 }
 
@@ -38,7 +38,7 @@ pub extern "C" fn loupe_gabor_pass(
 pub extern "C" fn loupe_epf_pass(
     image: Region,
     filter: Region,
-    preserve_outside: bool,
+    preserve_outside: u32,
     s: EpfStep,
     sigmas: &[f32],
     from: u32,

@@ -26,7 +26,7 @@ use Rattle.passes.specs.Plan.{gaborOn, stepOf, oneIf, gaborAt, stepIndex}
 use Rattle.passes.specs.PlanLaws.{plan-length, plan-gabor, plan-step}
 use Rattle.setup.specs.declared.Setup.{Setup}
 use Rattle.record.specs.declared.Run.{Run}
-use Rattle.setup.specs.Setup.{fullPlanes, layout, epfOn, area, rowCount, setLength, sigmaLength}
+use Rattle.setup.specs.Setup.{fullFits, layout, epfOn, area, rowCount, setLength, sigmaLength}
 use Rattle.record.specs.Record.{passCount}
 use Rattle.numbers.specs.Tables.{is-true}
 use Rattle.setup.specs.Laws.{SetupFits, setup-fits}
@@ -67,7 +67,7 @@ module _ (r : Run) (sigmas src dst : List Float) (from to : ℕ) (fits : RowsFit
   rows-true : rowsFit (layout s) from to ≡ true
   rows-true = rw (le-leb from to (fits .order), le-leb to (rowCount s) (fits .rows))
 
-  gabor-number : firstOf (passChecks (s .image) (s .filter) (fullPlanes s) 3 from to src dst) ≡ 0
+  gabor-number : firstOf (passChecks (s .image) (s .filter) (s .«preserve_outside») 3 from to src dst) ≡ 0
   unfolding passChecks
   gabor-number = rw (
     is-true (pictured (s .image)) (setup .image),
@@ -75,16 +75,17 @@ module _ (r : Run) (sigmas src dst : List Float) (from to : ℕ) (fits : RowsFit
     is-true (inside (s .image) (s .filter)) (setup .contained),
     eq-eqb (length src) (setLength 3 s) (fits .source),
     eq-eqb (length dst) (setLength 3 s) (fits .target),
+    is-true (fullFits s) (setup .full),
     rows-true,
   )
 
   -- Gabor's pass
-  pub gabor-rows : (full : Bool) → full ≡ fullPlanes s → gaborAt (s .settings) (r .pass) ≡ true → (ws : List (List Float)) → ws ≡ s .settings .gabor .weights → (k : ℕ) (a : List Float)
-      → _≡_ {A = PassOutcome} (record { number = k; target = a }) (gaborOutcome (s .image) (s .filter) full ws from to src dst)
+  pub gabor-rows : gaborAt (s .settings) (r .pass) ≡ true → (ws : List (List Float)) → ws ≡ s .settings .gabor .weights → (k : ℕ) (a : List Float)
+      → _≡_ {A = PassOutcome} (record { number = k; target = a }) (gaborOutcome (s .image) (s .filter) (s .«preserve_outside») ws from to src dst)
       → a ≡ passedRows 3 r sigmas from to src dst
   unfolding gaborOutcome pass layoutOf
-  gabor-rows full u g ws w k a e =
-      accepted-target k a _ dst _ gabor-number (rw u at e)
+  gabor-rows g ws w k a e =
+      accepted-target k a _ dst _ gabor-number e
       ∙ rw (plan-gabor 3 (s .settings) (r .pass) (gaborLike []) g, w)
 
   -- a step's pass
@@ -111,7 +112,7 @@ module _ (r : Run) (sigmas src dst : List Float) (from to : ℕ) (fits : RowsFit
     corner : onBlocks (s .filter) ≡ true
     corner = is-true (onBlocks (s .filter)) (setup .blocks (rw on tt))
 
-    step-number : firstOf (epfChecks (s .image) (s .filter) (fullPlanes s) (stepOf (s .settings) (stepIndex (s .settings) (r .pass))) sigmas from to src dst) ≡ 0
+    step-number : firstOf (epfChecks (s .image) (s .filter) (s .«preserve_outside») (stepOf (s .settings) (stepIndex (s .settings) (r .pass))) sigmas from to src dst) ≡ 0
     unfolding epfChecks stepChecks stepOf layoutOf
     step-number = rw (
       is-true (pictured (s .image)) (setup .image),
@@ -123,15 +124,16 @@ module _ (r : Run) (sigmas src dst : List Float) (from to : ℕ) (fits : RowsFit
       eq-eqb (length dst) (setLength 3 s) (fits .target),
       eq-eqb (length sigmas) (blockRows (layout s) * blockColumns (layout s)) sigma-count,
       le-ltb 2 (stepIndex (s .settings) (r .pass)) (index-most (s .settings) (r .pass)),
+      is-true (fullFits s) (setup .full),
       rows-true,
     )
 
-    pub step-rows : (full : Bool) → full ≡ fullPlanes s → (step : EpfStep) → step ≡ stepOf (s .settings) (stepIndex (s .settings) (r .pass)) → (k : ℕ) (a : List Float)
-        → _≡_ {A = PassOutcome} (record { number = k; target = a }) (epfOutcome (s .image) (s .filter) full step sigmas from to src dst)
+    pub step-rows : (step : EpfStep) → step ≡ stepOf (s .settings) (stepIndex (s .settings) (r .pass)) → (k : ℕ) (a : List Float)
+        → _≡_ {A = PassOutcome} (record { number = k; target = a }) (epfOutcome (s .image) (s .filter) (s .«preserve_outside») step sigmas from to src dst)
         → a ≡ passedRows 3 r sigmas from to src dst
     unfolding epfOutcome pass layoutOf
-    step-rows full u step p k a e =
-        accepted-target k a _ dst _ step-number (rw (u, p) at e)
+    step-rows step p k a e =
+        accepted-target k a _ dst _ step-number (rw p at e)
         ∙ rw (plan-step 3 (s .settings) (r .pass) (gaborLike []) g (fits .left))
 
 -- ---- a band

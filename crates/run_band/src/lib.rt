@@ -3,7 +3,6 @@ use epf::epf_pass;
 use gabor::gabor_pass;
 use numbers::ACCEPTED;
 use numbers::WRONG_LENGTH;
-use numbers::flag_set;
 use passes::gabor_at;
 use passes::step_at;
 use passes::weights;
@@ -41,14 +40,23 @@ fn pass_rows(run: Run, sigmas: &[f32], src: &[f32], dst: &mut [f32], from: u32, 
     ensures { λ _. ⌜ now (dst .exit) ≡ passedRows 3 run (now (sigmas .entry)) from to (now (src .entry)) (now (dst .entry)) ⌝ }
 {
     let s = run.setup;
-    let full = flag_set(s.preserve_outside);
     if gabor_at(s.settings, run.pass) {
         let w = weights(s.settings.gabor);
-        gabor_pass(s.image, s.filter, full, w, from, to, src, dst);
+        gabor_pass(s.image, s.filter, s.preserve_outside, w, from, to, src, dst);
         return;
     }
     let step = step_at(s.settings, run.pass);
-    epf_pass(s.image, s.filter, full, step, sigmas, from, to, src, dst);
+    epf_pass(
+        s.image,
+        s.filter,
+        s.preserve_outside,
+        step,
+        sigmas,
+        from,
+        to,
+        src,
+        dst,
+    );
 }
 
 fn smaller(a: u32, b: u32) -> u32

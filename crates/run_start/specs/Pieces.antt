@@ -20,6 +20,10 @@ use Rattle.run_start.specs.Lowest.{lowest}
 abbrev pub runsEpf : Setup → Bool
 runsEpf s = itersFit s && epfOn s
 
+-- the same as a flag
+abbrev pub epfFlag : Setup → ℕ
+epfFlag s = cond (runsEpf s) 1 0
+
 -- the block sigmas' length; with faulty iterations none, which is what is asked with the edge filter off
 abbrev pub sigmasAsked : Setup → ℕ → ℕ
 sigmasAsked s sigmas = cond (itersFit s) sigmas 0
@@ -45,4 +49,4 @@ ownChecks n s first second =
 unfoldable pub numberOf : ℕ → Setup → Frame → List ℕ → List Float → ℕ → ℕ → ℕ → ℕ
 numberOf n s f t grids first second sigmas =
     lowest (lowest (firstOf (placedChecks (s .image) (s .filter))) (firstOf (ownChecks n s first second)))
-    (sigmaNumber (runsEpf s) f (blocksOf s) t grids (sigmasAsked s sigmas))
+    (sigmaNumber (epfFlag s) f (blocksOf s) t grids (sigmasAsked s sigmas))

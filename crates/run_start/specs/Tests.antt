@@ -12,7 +12,7 @@ use Rattle.sigma.specs.Outcome.{sigmasOutcome}
 use Rattle.placement.specs.Blocks.{ahead}
 use Rattle.setup.specs.declared.Setup.{Setup}
 use Rattle.runs.specs.Start.{Handed, blocksOf}
-use Rattle.run_start.specs.Pieces.{runsEpf, sigmasAsked}
+use Rattle.run_start.specs.Pieces.{epfFlag, sigmasAsked}
 
 -- the last five rows of what is told, by one test
 pub told-row : (iters full gabor height count : Bool)
@@ -31,12 +31,12 @@ pub same-blocks : (s : Setup) (x y : ℕ) → x ≡ ahead (s .filter .left) → 
 same-blocks s x y p q = rw (p, q)
 
 -- equal inputs get equal numbers, and leave equal block sigmas
-pub same-groups : (s : Setup) (f : Frame) (t : List ℕ) (grids : List Float) (sigmas : ℕ) (n : ℕ) (on : Bool) (b : Blocks) (asked : ℕ)
-    → n ≡ sigmaNumber on f b t grids asked → on ≡ runsEpf s → b ≡ blocksOf s → asked ≡ sigmasAsked s sigmas
-    → n ≡ sigmaNumber (runsEpf s) f (blocksOf s) t grids (sigmasAsked s sigmas)
+pub same-groups : (s : Setup) (f : Frame) (t : List ℕ) (grids : List Float) (sigmas : ℕ) (n on : ℕ) (b : Blocks) (asked : ℕ)
+    → n ≡ sigmaNumber on f b t grids asked → on ≡ epfFlag s → b ≡ blocksOf s → asked ≡ sigmasAsked s sigmas
+    → n ≡ sigmaNumber (epfFlag s) f (blocksOf s) t grids (sigmasAsked s sigmas)
 same-groups s f t grids sigmas n on b asked e p q r = e ∙ rw (p, q, r)
 
-pub same-sigmas : (h : Handed) (a : Bool) (b : Blocks) → a ≡ runsEpf (h .setup) → b ≡ blocksOf (h .setup)
+pub same-sigmas : (h : Handed) (a : ℕ) (b : Blocks) → a ≡ epfFlag (h .setup) → b ≡ blocksOf (h .setup)
     → sigmasOutcome a (h .frame) b (h .table) (h .grids) (h .setup .settings .epf .«sigma_for_modular») (h .sigmas)
-    ≡ sigmasOutcome (runsEpf (h .setup)) (h .frame) (blocksOf (h .setup)) (h .table) (h .grids) (h .setup .settings .epf .«sigma_for_modular») (h .sigmas)
+    ≡ sigmasOutcome (epfFlag (h .setup)) (h .frame) (blocksOf (h .setup)) (h .table) (h .grids) (h .setup .settings .epf .«sigma_for_modular») (h .sigmas)
 same-sigmas h a b p q = rw (p, q)

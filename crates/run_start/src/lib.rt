@@ -30,7 +30,7 @@ ghost use Rattle.placement.specs.Blocks.{onBlocks};
 ghost use Rattle.record.specs.Record.{started};
 ghost use Rattle.runs.specs.Start.{StartOutcome, blocksOf, noSetup, noRun, startOutcome};
 ghost use Rattle.run_start.specs.Lowest.{lowest};
-ghost use Rattle.run_start.specs.Pieces.{runsEpf, sigmasAsked, ownChecks, numberOf};
+ghost use Rattle.run_start.specs.Pieces.{runsEpf, epfFlag, sigmasAsked, ownChecks, numberOf};
 
 const BLOCK_DIM: usize = 8;
 
@@ -58,6 +58,20 @@ fn runs_epf(s: Setup) -> bool
         return false;
     }
     0 < s.settings.epf.iters
+}
+
+const YES: u32 = 1;
+
+const NO: u32 = 0;
+
+// The same, as `block_sigmas` is told it.
+fn epf_flag(s: Setup) -> u32
+    ensures { λ r. ⌜ r ≡ epfFlag s ⌝ }
+{
+    if runs_epf(s) {
+        return YES;
+    }
+    NO
 }
 
 // The filter region on blocks.
@@ -109,10 +123,10 @@ fn own_number(s: Setup, first: usize, second: usize) -> u32
 
 // The frame, its group table and grids, and the block sigmas: 4, 7, 8 or 9.
 fn groups_number(s: Setup, frame: Frame, table: &[u32], grids: &[f32], sigmas: usize) -> u32
-    ensures { λ r. ⌜ r ≡ sigmaNumber (runsEpf s) frame (blocksOf s) (now (table .entry)) (now (grids .entry)) (sigmasAsked s sigmas) ⌝ }
+    ensures { λ r. ⌜ r ≡ sigmaNumber (epfFlag s) frame (blocksOf s) (now (table .entry)) (now (grids .entry)) (sigmasAsked s sigmas) ⌝ }
 {
     let asked = sigmas_asked(s, sigmas);
-    check(runs_epf(s), frame, blocks_of(s), table, grids, asked)
+    check(epf_flag(s), frame, blocks_of(s), table, grids, asked)
 }
 
 // The lowest of all numbers.
@@ -224,7 +238,7 @@ pub fn start(
         };
     }
     let modular = setup.settings.epf.sigma_for_modular;
-    let on = runs_epf(setup);
+    let on = epf_flag(setup);
     let number = block_sigmas(on, frame, blocks_of(setup), table, grids, modular, sigmas);
     RunAnswer {
         number,

@@ -81,13 +81,13 @@ entries! {
     /// let grid: Vec<f32> = (0..128).map(|row| row as f32).collect();
     /// let mut sigmas = [0.0; 129];
     /// let table = [1, 1, 128, 0, 0, 0];
-    /// let number = loupe::block_sigmas(true, frame, blocks, &table, &grid, 1.0, &mut sigmas);
+    /// let number = loupe::block_sigmas(1, frame, blocks, &table, &grid, 1.0, &mut sigmas);
     /// loupe::accepted(number)?;
     /// assert_eq!(sigmas[126..], [126.0, 127.0, 127.0]);
     /// # Ok::<(), loupe::Refusal>(())
     /// ```
     block_sigmas = loupe_block_sigmas(
-        on: bool, frame: Frame, blocks: Blocks, table: &[u32], grids: &[f32],
+        on: u32, frame: Frame, blocks: Blocks, table: &[u32], grids: &[f32],
         sigma_for_modular: f32, sigmas: &mut [f32]
     ) -> u32;
 }

@@ -54,7 +54,7 @@ impl pass::Pass for Pass<'_> {
     fn ours(&self, (from, to): Rows, source: &[f32], target: &mut [f32]) -> u32 {
         let place = self.place;
         let (image, filter) = (region(place.image), region(place.filter));
-        let outside = place.preserve_outside;
+        let outside = place.preserve_outside.into();
         let settings = step_of(self.step, self.settings);
         loupe::epf_pass(
             image, filter, outside, settings, self.sigmas, from, to, source, target,

@@ -40,9 +40,9 @@ impl pass::Pass for Pass {
     fn ours(&self, (from, to): Rows, source: &[f32], target: &mut [f32]) -> u32 {
         let place = self.place;
         let (image, filter) = (region(place.image), region(place.filter));
-        let outside = place.preserve_outside;
-        let settings = loupe::Gabor {
-            enabled: true,
+        let outside = place.preserve_outside.into();
+        let settings = loupe::GaborSettings {
+            enabled: 1,
             weights: self.weights,
         };
         loupe::gabor_pass(image, filter, outside, settings, from, to, source, target)

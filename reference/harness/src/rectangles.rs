@@ -145,7 +145,7 @@ impl Pair {
         row.count(0);
         let case = (&self.smaller, &self.larger);
         let answered = loupe::margin(self.smaller.setup.settings);
-        if answered != self.margin {
+        if answered.value() != Ok(self.margin) {
             row.differs(&case, &answered, &self.margin);
         }
         let results = match self.results(random) {
@@ -246,8 +246,8 @@ fn cut_picture(larger: &Handed, filter: Region, random: &mut Random) -> Handed {
     let mut setup = larger.setup;
     setup.filter = filter;
     setup.image = runs::around(filter, SIDES, random);
-    setup.preserve_outside = random.once_in(2);
-    let part = if setup.preserve_outside {
+    setup.preserve_outside = random.once_in(2).into();
+    let part = if setup.preserve_outside == 1 {
         setup.image
     } else {
         filter
@@ -292,7 +292,7 @@ fn alike(sample: f32, random: &mut Random) -> f32 {
 /// Settings that agree in all that the passes read, and in nothing else.
 fn agreeing(settings: Settings, random: &mut Random) -> Settings {
     let passes = Passes {
-        gabor: settings.gabor.enabled,
+        gabor: settings.gabor.enabled == 1,
         iterations: settings.epf.iters,
     };
     let other = runs::settings(passes, sigma(random), random);

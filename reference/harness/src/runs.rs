@@ -101,7 +101,7 @@ fn stray(handed: &Handed, state: &State, random: &mut Random, tally: &mut Tally)
     if !random.once_in(3) {
         damage::state(&mut lent, random);
     }
-    match random.within(0, 8) {
+    match random.within(0, 9) {
         0 => stray_start(handed, random, tally),
         1..=3 => {
             let k = stray_band(&lent, random);
@@ -109,6 +109,10 @@ fn stray(handed: &Handed, state: &State, random: &mut Random, tally: &mut Tally)
         }
         4 | 5 => {
             calls::advance(&mut lent.run, tally);
+        }
+        6 => {
+            damage::passes(&mut lent.run.setup.settings, random);
+            calls::margin(&lent.run.setup, tally);
         }
         _ => {
             // Of the damaged record, or of the run's own where that is too much.
@@ -138,7 +142,7 @@ fn stray_band(state: &State, random: &mut Random) -> u32 {
     match random.within(0, 3) {
         0 => random.one_of(&[0, 255, 256, u32::MAX]),
         1 | 2 => (0..256)
-            .find(|&k| state.run.done[k as usize])
+            .find(|&k| state.run.done[k as usize] == 1)
             .unwrap_or(256),
         _ => random.within(0, 41) as u32,
     }

@@ -71,7 +71,13 @@ impl Case {
             group_size_shift: self.frame.group_size_shift,
         };
         loupe::block_sigmas(
-            on, frame, self.blocks, &self.table, &self.grids, self.modular, sigmas,
+            on.into(),
+            frame,
+            self.blocks,
+            &self.table,
+            &self.grids,
+            self.modular,
+            sigmas,
         )
     }
 

@@ -8,23 +8,20 @@ use Rattle.run_band.proofs.pass_rows.Tie as tie
 
 returns : tie.Need-returns
 returns c =
-    let s = c .before .before .before .before .before .before .before .before .before .before .before .before in
-    let u = c .before .before .before .before .before .before .before .flag-set in
-    gabor-rows (s .args .run) (now (s .args .sigmas)) (now (s .args .src)) (now (s .args .dst)) (s .args .from) (s .args .to) (s .pre) (u .result) (u .ensures)
+    let s = c .before .before .before .before .before .before .before .before .before .before .before in
+    gabor-rows (s .args .run) (now (s .args .sigmas)) (now (s .args .src)) (now (s .args .dst)) (s .args .from) (s .args .to) (s .pre)
     (sym (c .before .before .before .before .before .before .gabor-at .ensures) ∙ c .before .before .before .before .before .if1 .taken) _ (c .before .before .before .before .weights .ensures) _ _ (c .before .before .gabor-pass .ensures)
 
 returns-2 : tie.Need-returns-2
 returns-2 c =
-    let s = c .before .before .before .before .before .before .before .before .before .before .before .before in
-    let u = c .before .before .before .before .before .before .before .flag-set in
+    let s = c .before .before .before .before .before .before .before .before .before .before .before in
     step-rows (s .args .run) (now (s .args .sigmas)) (now (s .args .src)) (now (s .args .dst)) (s .args .from) (s .args .to) (s .pre)
-    (sym (c .before .before .before .before .before .before .gabor-at .ensures) ∙ c .before .before .before .before .before .if1 .left) (u .result) (u .ensures) _ (c .before .before .before .before .step-at .ensures) _ _ (c .before .before .epf-pass .ensures)
+    (sym (c .before .before .before .before .before .before .gabor-at .ensures) ∙ c .before .before .before .before .before .if1 .left) _ (c .before .before .before .before .step-at .ensures) _ _ (c .before .before .epf-pass .ensures)
 
 pub pass-rows-spec : {M : Type 1} → statement M
 pass-rows-spec =
     tie.close
     (tie.spec
-    (λ c κs. search needs)
     (λ c κs. search needs)
     (λ c κs. search needs)
     (λ c κs. search needs)

@@ -2,9 +2,9 @@
 
 use core::fmt::Debug;
 
-use loupe::{EpfSettings, EpfSigma, Gabor, Region, Run, Settings, Setup};
+use loupe::{EpfSettings, EpfSigma, GaborSettings, Region, Run, Settings, Setup};
 
-use super::handed::{Handed, State, fields, place, record_rule, result_part};
+use super::handed::{Handed, State, fields, place, record_rule, result_part, setup_rule};
 use crate::{
     expected::runs as rule,
     picture::{self, agree},
@@ -12,6 +12,7 @@ use crate::{
 };
 
 /// The numbers that each call can give.
+const MARGIN_NUMBERS: [u32; 2] = [0, 9];
 const START_NUMBERS: [u32; 7] = [0, 4, 5, 6, 7, 8, 9];
 const BAND_NUMBERS: [u32; 4] = [0, 7, 9, 10];
 const ADVANCE_NUMBERS: [u32; 3] = [0, 9, 11];
@@ -29,10 +30,10 @@ const NO_RUN: Run = Run {
     setup: Setup {
         image: NO_REGION,
         filter: NO_REGION,
-        preserve_outside: false,
+        preserve_outside: 0,
         settings: Settings {
-            gabor: Gabor {
-                enabled: false,
+            gabor: GaborSettings {
+                enabled: 0,
                 weights: [[0.0; 2]; 3],
             },
             epf: EpfSettings {
@@ -50,11 +51,12 @@ const NO_RUN: Run = Run {
         band_height: 0,
     },
     pass: 0,
-    done: [false; 256],
+    done: [0; 256],
 };
 
 /// A row of the table for each kind of call.
 pub struct Tally {
+    margin: Row,
     start: Row,
     band: Row,
     advance: Row,
@@ -64,6 +66,7 @@ pub struct Tally {
 impl Tally {
     pub fn new(inputs: &'static str) -> Self {
         Self {
+            margin: Row::new("margin", inputs),
             start: Row::new("start", inputs),
             band: Row::new("band", inputs),
             advance: Row::new("advance", inputs),
@@ -73,6 +76,7 @@ impl Tally {
 
     /// Each number that a call can give must have been due often enough.
     pub fn require(&mut self, amount: Amount) {
+        self.margin.require(&MARGIN_NUMBERS, amount);
         self.start.require(&START_NUMBERS, amount);
         self.band.require(&BAND_NUMBERS, amount);
         self.advance.require(&ADVANCE_NUMBERS, amount);
@@ -80,7 +84,8 @@ impl Tally {
     }
 
     pub fn report(self, report: &mut Report) {
-        for row in [self.start, self.band, self.advance, self.result] {
+        let calls = [self.start, self.band, self.advance, self.result];
+        for row in [self.margin].into_iter().chain(calls) {
             report.add(row);
         }
     }
@@ -104,6 +109,17 @@ fn same_bits(a: &[f32], b: &[f32]) -> bool {
 /// The same samples, NaNs alike.
 pub fn same_samples(a: &[f32], b: &[f32]) -> bool {
     a.len() == b.len() && a.iter().zip(b).all(|(a, b)| agree(*a, *b))
+}
+
+/// The margin of settings, 0 where it is refused.
+pub fn margin(setup: &Setup, tally: &mut Tally) -> u32 {
+    let s = setup_rule(setup);
+    let due = rule::margin(s);
+    let margin = if due == 0 { s.margin() as u32 } else { 0 };
+    let answer = loupe::margin(setup.settings);
+    let parts = [("margin", answer.margin == margin)];
+    judge(&mut tally.margin, setup, answer.number, due, &parts);
+    answer.number
 }
 
 /// The number, and the record that was answered. An accepted start leaves the sets and fills the
@@ -148,7 +164,7 @@ pub fn band(state: &mut State, k: u32, tally: &mut Tally) -> u32 {
     );
     if due == 0 {
         rewrite(&mut before, state, k);
-        before.run.done[k as usize] = true;
+        before.run.done[k as usize] = 1;
     }
     state.run = answer.run;
     let parts = [
@@ -183,7 +199,7 @@ pub fn advance(run: &mut Run, tally: &mut Tally) -> u32 {
         Run {
             setup: before.setup,
             pass: before.pass + 1,
-            done: [false; 256],
+            done: [0; 256],
         }
     } else {
         before

@@ -109,7 +109,7 @@ fn one_iteration(case: sigma::Case) -> Handed {
         setup: Setup {
             image: filter,
             filter,
-            preserve_outside: false,
+            preserve_outside: 0,
             settings,
             band_height: 64,
         },
