@@ -111,6 +111,7 @@ fn stray(handed: &Handed, state: &State, random: &mut Random, tally: &mut Tally)
             calls::advance(&mut lent.run, tally);
         }
         6 => {
+            damage::passes(&mut lent.run.setup.settings, random);
             calls::margin(&lent.run.setup, tally);
         }
         _ => {

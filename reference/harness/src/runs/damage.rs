@@ -1,7 +1,7 @@
 //! What is lent, with one to four things wrong: every field of a setup and a record, the frame, its
 //! table and grids, and lengths.
 
-use loupe::{Region, Run, Setup};
+use loupe::{Region, Run, Settings, Setup};
 
 use super::handed::{Handed, State, setup_rule};
 use crate::{
@@ -75,10 +75,18 @@ fn setup(s: &mut Setup, random: &mut Random) {
         0 | 1 => region(&mut s.image, random),
         2 | 3 => region(&mut s.filter, random),
         4 => s.preserve_outside = random.one_of(&FLAGS),
-        5 => s.settings.gabor.enabled = random.one_of(&FLAGS),
-        6 => s.settings.epf.iters = random.one_of(&[0, 1, 2, 3, 4, 5, 1 << 31, u32::MAX]),
+        5 | 6 => passes(&mut s.settings, random),
         7 | 8 => s.band_height = random.one_of(&[0, 1, 2, 8, 16_384, 16_385, u32::MAX]),
         _ => floats(s, random),
+    }
+}
+
+/// The two numbers that say which passes run.
+pub fn passes(s: &mut Settings, random: &mut Random) {
+    if random.once_in(2) {
+        s.gabor.enabled = random.one_of(&FLAGS);
+    } else {
+        s.epf.iters = random.one_of(&[0, 1, 2, 3, 4, 5, 1 << 31, u32::MAX]);
     }
 }
 

@@ -221,6 +221,7 @@ pub fn compare(row: &mut Row, tally: &mut Tally) {
     for (what, due, damage) in STARTS {
         let mut handed = sound();
         damage(&mut handed);
+        calls::margin(&handed.setup, tally);
         let (number, _) = calls::start(&mut handed, tally);
         expect(what, number, *due, row);
     }
