@@ -1,18 +1,12 @@
-//! Writes the modules that are compiled from the original's folder, `LOUPE_RUST_SRC`.
+//! Writes the modules that are compiled from the original's folder, `LOUPE_RUST_SRC`, once its files have their digests.
 
 use std::{env, fs, path::PathBuf};
 
 fn main() {
-    println!("cargo:rerun-if-env-changed=LOUPE_RUST_SRC");
-    println!("cargo:rerun-if-changed=build.rs");
-    let folder = env::var("LOUPE_RUST_SRC")
-        .expect("LOUPE_RUST_SRC: the folder that has crates/jxl-frame and crates/jxl-render");
-    let folder = fs::canonicalize(PathBuf::from(folder).join("crates/jxl-frame/src"))
-        .expect("LOUPE_RUST_SRC: no crates/jxl-frame/src there");
+    let folder = digests::checked_folder("crates/jxl-frame/src");
     let mut modules = String::new();
     for name in ["filter", "header"] {
         let file = folder.join(name).with_extension("rs");
-        println!("cargo:rerun-if-changed={}", file.display());
         modules +=
             &format!("#[path = {file:?}]\n#[allow(clippy::all, warnings)]\npub mod {name};\n");
     }

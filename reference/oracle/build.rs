@@ -1,4 +1,5 @@
-//! Writes the modules that are compiled from the original's folder, `LOUPE_RUST_SRC`.
+//! Writes the modules that are compiled from the original's folder, `LOUPE_RUST_SRC`, once its files
+//! have their digests.
 //!
 //! Files of which only a part is wanted have that part's text taken out of them, into the build's
 //! own folder. The originals are laid out by rustfmt: an item ends at the first line that is its
@@ -23,13 +24,7 @@ const IMAGE_METHODS: [&str; 6] = [
 const EXCHANGE_METHOD: &str = "    pub fn replace_channel(";
 
 fn main() {
-    println!("cargo:rerun-if-env-changed=LOUPE_RUST_SRC");
-    println!("cargo:rerun-if-changed=build.rs");
-    let folder = env::var("LOUPE_RUST_SRC")
-        .expect("LOUPE_RUST_SRC: the folder that has crates/jxl-frame and crates/jxl-render");
-    let folder = fs::canonicalize(PathBuf::from(folder).join("crates/jxl-render/src"))
-        .expect("LOUPE_RUST_SRC: no crates/jxl-render/src there");
-    println!("cargo:rerun-if-changed={}", folder.display());
+    let folder = digests::checked_folder("crates/jxl-render/src");
     let out = PathBuf::from(env::var("OUT_DIR").unwrap());
     write(&out, "modules.rs", whole(&folder));
     write(

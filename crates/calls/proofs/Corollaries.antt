@@ -24,21 +24,20 @@ use Rattle.planes.specs.Rect.{Between, between}
 use Rattle.planes.specs.Picture.{inRect}
 use Rattle.planes.specs.Band.{inFilter}
 use Rattle.setup.specs.declared.Setup.{Setup}
-use Rattle.setup.specs.Setup.{layout, epfOn, resultRegion, resultLength}
-use Rattle.record.specs.Record.{started}
+use Rattle.setup.specs.Setup.{fullPlanes, layout, epfOn, resultRegion, resultLength}
 use Rattle.setup.specs.Laws.{SetupFits, setup-fits}
-use Rattle.runs.specs.Start.{Handed, startNumber, sigmasFilled}
+use Rattle.runs.specs.Start.{Handed, startLeaves, sigmasFilled}
 use Rattle.runs.specs.Band.{State, source}
 use Rattle.runs.specs.Result.{resultOf}
-use Rattle.runs.specs.Laws.{PictureFits, picture-fits}
-use Rattle.calls.specs.Calls.{Calls, startState, end}
+use Rattle.runs.specs.Laws.{PictureFits}
+use Rattle.calls.specs.Calls.{StartAccepted, startState, Calls, end}
 use Rattle.calls.specs.Places.{Clear, resultAt, sampleAt}
-use Rattle.calls.specs.Theorem.{CutFrom, HandsOver}
+use Rattle.calls.specs.Theorem.{CutFrom, Delivers}
 use Rattle.calls.specs.Corollaries.{FinishedRun, firstAt, SameButBands, handedOver, WholePicture, TwoCutsAgree, OutsideKept, BandsAlike}
 use Rattle.calls.proofs.Rows.{image-in-result}
-use Rattle.calls.proofs.Lists.{after-start}
+use Rattle.calls.proofs.Lists.{start-unrefused, picture-accepted, KeptFrom, after-start}
 use Rattle.calls.proofs.Places.{counted, narrower, nth-held, nth-counted, Covered, covered}
-use Rattle.calls.proofs.Finished.{result-sample, run-outside, handed-over}
+use Rattle.calls.proofs.Finished.{result-sample, run-outside, handed-over-at}
 use Rattle.calls.proofs.Demand3.{demand-3}
 
 -- ---- a picture is cut from itself, and has no cut edge
@@ -50,24 +49,24 @@ inside-itself : (r : Region) → T (inside r r)
 unfolding inside
 inside-itself r = and-i (covers (columns r) (columns r)) (covers (rows r) (rows r)) (covers-itself (columns r)) (covers-itself (rows r))
 
-from-itself : (n : ℕ) (h : Handed) → startNumber n h ≡ 0 → CutFrom n h h
-from-itself n h e = record { unrefused = e; contained = inside-itself (h .setup .filter); passes = refl; inputs = λ c x y p q. refl; sigmas = λ on x y q. refl }
+from-itself : (n : ℕ) (h : Handed) → StartAccepted n h → CutFrom n h h
+from-itself n h e = record { unrefused = start-unrefused n h e; contained = inside-itself (h .setup .filter); passes = refl; inputs = λ c x y p q. refl; sigmas = λ on x y q. refl }
 
 no-cut-edge : (m : ℕ) (r : Region) (x y : ℤ) → Clear m r r x y
 no-cut-edge m r x y = record { left = λ f. absurd (f refl); right = λ f. absurd (f refl); top = λ f. absurd (f refl); bottom = λ f. absurd (f refl) }
 
 module _ (n : ℕ) (K : Calls n) where
   -- demand 3 of a finished run
-  cut-run : (h large : Handed) (r : FinishedRun n K h) → CutFrom n h large → (handedOver n K h r .number ≡ 0) × HandsOver n K h large (handedOver n K h r .out)
-  cut-run h large r from = demand-3 n K h large (r .accepted) from (r .calls) (r .unaltered) (r .ended) (r .slice) (r .room)
+  cut-run : (h large : Handed) (r : FinishedRun n K h) → CutFrom n h large → Delivers n h large (handedOver n K h r)
+  cut-run h large r from = demand-3 n K h large (r .calls) (r .slice) (record { start-accepted = r .accepted; cut-from-larger = from; nobody-altered-anything = r .unaltered; run-finished = r .ended; slice-fits = r .room })
 
   pub whole-picture : WholePicture n K
   whole-picture h r =
       let d = cut-run h h r (from-itself n h (r .accepted)) in
-      (d .0, λ c x y p q. d .1 c x y p q (no-cut-edge _ (h .setup .filter) x y))
+      (d .accepted, λ c x y p q. d .samples c x y p q (no-cut-edge _ (h .setup .filter) x y))
 
   pub two-cuts-agree : TwoCutsAgree n K
-  two-cuts-agree a b large from too r q c x y h i j clear clearToo = cut-run a large r from .1 c x y h i clear ∙ sym (cut-run b large q too .1 c x y h j clearToo)
+  two-cuts-agree a b large from too r q c x y h i j clear clearToo = cut-run a large r from .samples c x y h i clear ∙ sym (cut-run b large q too .samples c x y h j clearToo)
 
 -- ---- outside the filter region
 
@@ -97,15 +96,18 @@ module _ (n : ℕ) (K : Calls n) (h : Handed) (r : FinishedRun n K h) where
   state = end n K (startState n h) (r .calls)
 
   fits : SetupFits (h .setup)
-  fits = setup-fits (h .setup) (picture-fits n h (r .accepted) .setup)
+  fits = setup-fits (h .setup) (picture-accepted n h (r .accepted) .setup)
+
+  kept : KeptFrom n h state
+  kept = after-start n K h (r .accepted) (r .calls) (r .unaltered)
 
   -- the slice that is handed over
   out-is : handedOver n K h r .out ≡ resultOf n (layout (h .setup)) (source state)
-  out-is = handed-over n K h (r .accepted) (r .calls) (r .unaltered) (r .ended) (r .slice) (r .room) .1
+  out-is = handed-over-at n h state kept (r .ended) (r .slice) (r .room) .1
 
   out-length : length (handedOver n K h r .out) ≡ resultLength n (h .setup)
   unfolding resultOf layoutOf
-  out-length = rw out-is (length-setOf n _ _ _ ∙ go (h .setup .«preserve_outside»))
+  out-length = rw out-is (length-setOf n _ _ _ ∙ go (fullPlanes (h .setup)))
     where
       image : Region
       image = h .setup .image
@@ -119,19 +121,18 @@ module _ (n : ℕ) (K : Calls n) (h : Handed) (r : FinishedRun n K h) where
 
   kept-outside : (c : ℕ) (x y : ℤ) → c < n → Holds (resultRegion (h .setup)) x y → (Holds (h .setup .filter) x y → ⊥)
       → resultAt (h .setup) (handedOver n K h r .out) c x y ≡ firstAt n h c x y
-  unfolding started layoutOf
-  kept-outside c x y p held out = rw out-is (result-sample n s fits (source state) c x y p held ∙ go (s .«preserve_outside») refl held)
+  unfolding layoutOf
+  kept-outside c x y p held out = rw out-is (result-sample n s fits (source state) c x y p held ∙ go (fullPlanes s) refl held)
     where
       s : Setup
       s = h .setup
 
-      go : (full : Bool) → s .«preserve_outside» ≡ full → Holds (cond full (s .image) (s .filter)) x y
+      go : (full : Bool) → fullPlanes s ≡ full → Holds (cond full (s .image) (s .filter)) x y
           → of (s .image .width) (s .image .height) (source state) c (natAbs (x -ℤ s .image .left)) (natAbs (y -ℤ s .image .top)) ≡ firstAt n h c x y
       go true e held =
-          let kept = after-start n K h (r .accepted) (r .calls) (r .unaltered) in
           let column = counted (s .image .left) (s .image .width) x (held .column) in
           let row = counted (s .image .top) (s .image .height) y (held .row) in
-          run-outside n (h .first) state s (kept .setup) (kept .sound) c _ _ p (image-in-result (layout s) _ _ e column row) (not-in-filter s fits x y held out)
+          run-outside n h state kept c _ _ p (image-in-result (layout s) _ _ e column row) (not-in-filter s fits x y held out)
       go false e held = absurd (out held)
 
 pub outside-kept : (n : ℕ) (K : Calls n) → OutsideKept n K
@@ -163,8 +164,12 @@ module _ (n : ℕ) (a b : Handed) (same : SameButBands a b) where
   region-same : resultRegion (a .setup) ≡ resultRegion (b .setup)
   region-same = rw (same .image, same .filter, same .full)
 
+  leaves-same : startLeaves n a ≡ startLeaves n b
+  unfolding startLeaves
+  leaves-same = same .first
+
   first-same : (c : ℕ) (x y : ℤ) → firstAt n a c x y ≡ firstAt n b c x y
-  first-same c x y = rw (same .image, same .first)
+  first-same c x y = rw (leaves-same, same .image)
 
   module _ (p : PictureFits n a) (q : PictureFits n b) where
     -- with the edge filter off there are no block sigmas
@@ -176,7 +181,7 @@ module _ (n : ℕ) (a b : Handed) (same : SameButBands a b) where
         ext-getD nan (a .sigmas) (b .sigmas) (none ∙ sym too) (λ k h. absurd (omega (arith, none)))))
 
     sample-same : (c : ℕ) (x y : ℤ) → sampleAt n a c x y ≡ sampleAt n b c x y
-    sample-same c x y = rw (sigmas-same, same .image, same .filter, same .full, same .settings, same .first)
+    sample-same c x y = rw (leaves-same, sigmas-same, same .image, same .filter, same .full, same .settings)
 
 module _ (n : ℕ) (K : Calls n) (a b : Handed) (same : SameButBands a b) (r : FinishedRun n K a) (q : FinishedRun n K b) where
   each-same : (c : ℕ) (x y : ℤ) → c < n → Holds (resultRegion (a .setup)) x y → resultAt (a .setup) (handedOver n K a r .out) c x y ≡ resultAt (b .setup) (handedOver n K b q .out) c x y
@@ -184,7 +189,7 @@ module _ (n : ℕ) (K : Calls n) (a b : Handed) (same : SameButBands a b) (r : F
     where
       go : Dec (Holds (a .setup .filter) x y) → resultAt (a .setup) (handedOver n K a r .out) c x y ≡ resultAt (b .setup) (handedOver n K b q .out) c x y
       go (yes i) =
-          whole-picture n K a r .1 c x y h i ∙ sample-same n a b same (picture-fits n a (r .accepted)) (picture-fits n b (q .accepted)) c x y
+          whole-picture n K a r .1 c x y h i ∙ sample-same n a b same (picture-accepted n a (r .accepted)) (picture-accepted n b (q .accepted)) c x y
           ∙ sym (whole-picture n K b q .1 c x y h (rw (same .filter) at i))
       go (no o) =
           outside-kept n K a r c x y h held o ∙ first-same n a b same c x y

@@ -1,8 +1,11 @@
 -- Demand 3: the samples that a finished run hands over are the larger picture's beyond the margin. Assumes nothing.
 use mathlib.Core.Path.{_≡_, _∙_}
+use mathlib.Core.List.{List}
 use Prim.Native.Nat.{ℕ, _+_, _*_, _/_, _<_}
 use native.Mathlib.Omega.{arith}
 use lib.Dec.{T, lt→ltb}
+use lib.ListN.{length}
+use lib.Ieee.{Float}
 use lib.Ieee.Fits.{and-l, and-r}
 use lib.IntN.{ℤ, pos, natAbs, _+ℤ_, _-ℤ_}
 use Rattle.mirror.specs.Cut.{Deep}
@@ -14,17 +17,17 @@ use Rattle.passes.specs.Cut.{Fits, SameBlocks, SomeStep, cut-same, plan-sound, 
 use Rattle.passes.specs.Plan.{plan, margin}
 use Rattle.passes.specs.PlanLaws.{plan-reach}
 use Rattle.setup.specs.declared.Setup.{Setup}
-use Rattle.setup.specs.Setup.{epfOn, area}
-use Rattle.record.specs.Record.{started}
+use Rattle.setup.specs.Setup.{epfOn, area, resultLength}
+use Rattle.record.specs.Record.{finished}
 use Rattle.setup.specs.Laws.{setup-fits}
 use Rattle.runs.specs.Start.{Handed, sigmasFilled}
 use Rattle.runs.specs.Band.{State, source}
 use Rattle.runs.specs.Laws.{PictureFits, picture-fits}
-use Rattle.calls.specs.Calls.{Calls, startState, end, documentCalls}
+use Rattle.calls.specs.Calls.{StartAccepted, Calls, documentCalls}
 use Rattle.calls.specs.Places.{input, Clear}
-use Rattle.calls.specs.Theorem.{CutFrom, Demand3, DocumentDemand3}
-use Rattle.calls.proofs.Lists.{after-start}
-use Rattle.calls.proofs.Finished.{filter-sample, run-samples, handed-over}
+use Rattle.calls.specs.Theorem.{CutFrom, resultOn, Delivers, Demand3, DocumentDemand3}
+use Rattle.calls.proofs.Lists.{picture-accepted, KeptFrom, after-start}
+use Rattle.calls.proofs.Finished.{filter-sample, run-samples, handed-over-at}
 use Rattle.calls.proofs.Places.{part-fits, counted, counted-from, deep, nth-held, nth-counted, blocks-apart, Covered, covered}
 
 -- ---- the smaller picture's filter region is a cut of the larger's
@@ -114,23 +117,26 @@ module _ (n : ℕ) (small large : Handed) (fits : PictureFits n small) (from : C
 
 -- ---- the theorem
 
-pub demand-3 : (n : ℕ) (K : Calls n) → Demand3 n K
-unfolding started
-demand-3 n K small large e from cs u z out lo =
+-- of any finished state that is kept from an accepted start, by whatever calls
+pub demand-3-at : (n : ℕ) (small large : Handed) → StartAccepted n small → CutFrom n small large → (t : State) → KeptFrom n small t → T (finished (t .run))
+    → (out : List Float) → length out ≡ resultLength n (small .setup) → Delivers n small large (resultOn n t out)
+demand-3-at n small large e from t kept z out room =
     let s : Setup = small .setup in
-    let fits = picture-fits n small e in
-    let kept = after-start n K small e cs u in
-    let t : State = end n K (startState n small) cs in
-    let over = handed-over n K small e cs u z out lo in (
-      over .0,
-      λ c x y h held clear.
+    let fits = picture-accepted n small e in
+    let over = handed-over-at n small t kept z out room in
+    record {
+      accepted = over .0;
+      samples = λ c x y h held clear.
           let column = counted (s .filter .left) (s .filter .width) x (held .column) in
           let row = counted (s .filter .top) (s .filter .height) y (held .row) in
           rw (over .1)
           (filter-sample n s (setup-fits s (fits .setup)) (source t) c x y h held
-          ∙ run-samples n (small .first) t s (sigmasFilled n small) (kept .setup) (kept .sigmas) (kept .sound) z c (natAbs (x -ℤ s .filter .left)) (natAbs (y -ℤ s .filter .top)) h column row
-          ∙ beyond n small large fits from c x y h held clear),
-    )
+          ∙ run-samples n small t kept z (setup-fits s (fits .setup)) c (natAbs (x -ℤ s .filter .left)) (natAbs (y -ℤ s .filter .top)) h column row
+          ∙ beyond n small large fits from c x y h held clear);
+    }
+
+pub demand-3 : (n : ℕ) (K : Calls n) → Demand3 n K
+demand-3 n K small large cs out p = demand-3-at n small large (p .start-accepted) (p .cut-from-larger) _ (after-start n K small (p .start-accepted) cs (p .nobody-altered-anything)) (p .run-finished) out (p .slice-fits)
 
 -- document 01's planes and calls
 pub document-demand-3 : DocumentDemand3

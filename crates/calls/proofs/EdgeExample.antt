@@ -1,8 +1,9 @@
 -- The premises of demand 3 hold for the pictures and calls of specs/EdgeExample.antt. Assumes nothing.
-use mathlib.Core.Path.{_≡_, refl, sym, ap, _∙_}
-use mathlib.Core.List.{List}
+use mathlib.Core.Path.{_≡_, refl, sym, ap, subst, _∙_}
+use mathlib.Core.List.{List, [], _∷_}
 use Prim.Native.Nat.{ℕ, _+_, _/_, _<_}
 use native.Mathlib.Omega.{arith}
+use lib.Dec.{T}
 use lib.IntN.{ℤ, pos, natAbs, _-ℤ_}
 use lib.Ieee.{Float}
 use Rattle.region.specs.Regions.{inside, Holds}
@@ -20,20 +21,20 @@ use Rattle.planes.specs.Sets.{setOf, tab}
 use Rattle.planes.specs.SetLaws.{of-setOf}
 use Rattle.planes.specs.Band.{inner}
 use Rattle.passes.specs.Plan.{plan, steps, stepOf, scaleOf, stepMargin}
-use Rattle.setup.specs.Setup.{bandCount, setupFits, sized}
-use Rattle.record.specs.Record.{isDone, started, marked, advanced, bandMissing, strayDone, runFits}
-use Rattle.runs.specs.Start.{pictureChecks, startNumber, sigmasFilled}
-use Rattle.runs.specs.Band.{bandChecks}
-use Rattle.calls.specs.Calls.{stateAfter, end, documentCalls}
+use Rattle.setup.specs.Setup.{bandCount, numbersFit, setupFits, sized}
+use Rattle.record.specs.Record.{isDone, started, marked, advanced, bandMissing, finished, strayDone, runFits}
+use Rattle.runs.specs.Start.{pictureChecks, startLeaves, sigmasFilled, startOutcome}
+use Rattle.runs.specs.Band.{State, bandChecks, bandOutcome, advanceOutcome}
+use Rattle.calls.specs.Calls.{StartAccepted, DocumentCall, band, advance, documentCalls, stateAfter, end, Unaltered}
 use Rattle.calls.specs.Places.{inputAt, sigmaAt}
-use Rattle.calls.specs.Theorem.{CutFrom, Unrefused}
-use Rattle.calls.specs.Example.{Premises}
+use Rattle.calls.specs.Theorem.{CutFrom, Unrefused, Premises}
 use Rattle.calls.specs.EdgeExample.{larger, smaller, calls, slice, EdgePremisesMet, EdgePlaceClear}
+use Rattle.calls.proofs.Lists.{start-state}
 use Rattle.calls.proofs.Places.{counted, counted-from}
 
 module _ (p : Picture) (scales : List Float) (border sigma : Float) where
-  accepted : startNumber 3 (smaller p scales border sigma) ≡ 0
-  unfolding pictureChecks pictured measured place side inside badSides badSettings sizesOf tableFits gridsFit gridStart cells someBelow badGrid someNotHeld notHeld lacks bandCount layoutOf setOf tab
+  accepted : StartAccepted 3 (smaller p scales border sigma)
+  unfolding startOutcome pictureChecks pictured measured place side inside badSides badSettings sizesOf tableFits gridsFit gridStart cells someBelow badGrid someNotHeld notHeld lacks bandCount layoutOf setOf tab
   accepted = refl
 
   unrefused : Unrefused 3 (larger p scales border sigma)
@@ -51,7 +52,7 @@ module _ (p : Picture) (scales : List Float) (border sigma : Float) where
     row = counted (pos 0) 1 y (held .row)
 
     inputs : (c : ℕ) → c < 3 → inputAt 3 (smaller p scales border sigma) c x y ≡ inputAt 3 (larger p scales border sigma) c x y
-    unfolding inner layoutOf
+    unfolding startLeaves inner layoutOf
     inputs c h =
         let e : 7 + (1 + natAbs (x -ℤ pos 8)) ≡ 0 + natAbs (x -ℤ pos 0) = omega (arith, further) in
         of-setOf 3 5 1 _ c (1 + natAbs (x -ℤ pos 8)) (0 + natAbs (y -ℤ pos 0)) h (omega (arith, column)) (omega (arith, row))
@@ -69,15 +70,21 @@ module _ (p : Picture) (scales : List Float) (border sigma : Float) where
   unfolding inside plan steps stepOf scaleOf
   from = record { unrefused = unrefused; contained = tt; passes = refl; inputs = λ c x y h held. inputs x y held c h; sigmas = λ on x y held. sigmas x y held }
 
+  -- the calls, after a state
+  abbrev after : State → List DocumentCall
+  after t = band t 0 ∷ advance (marked (started (smaller p scales border sigma .setup)) 0) ∷ []
+
   premises : Premises 3 (documentCalls 3) (smaller p scales border sigma) (larger p scales border sigma) (calls p scales border sigma) (slice p scales border sigma)
-  unfolding sigmasFilled blockSigmas tab stateAfter end started marked advanced bandChecks runFits strayDone bandMissing isDone setupFits bandCount sized someBelow pictured measured place side inside layoutOf plan steps setOf
-  premises = record {
-    accepted = accepted;
-    from = from;
-    unaltered = (λ e. refl, (λ e. refl, tt));
-    ended = tt;
-    room = refl;
-  }
+  unfolding startLeaves bandOutcome advanceOutcome sigmasFilled blockSigmas tab stateAfter end started marked advanced bandChecks runFits strayDone bandMissing isDone numbersFit setupFits bandCount sized someBelow pictured measured place side inside layoutOf plan steps setOf
+  premises =
+      let begins = sym (start-state 3 (smaller p scales border sigma) accepted) in
+      record {
+        start-accepted = accepted;
+        cut-from-larger = from;
+        nobody-altered-anything = subst (λ (t : State). Unaltered 3 (documentCalls 3) t (after t)) begins (λ e. refl, (λ e. refl, tt));
+        run-finished = subst (λ (t : State). T (finished (end 3 (documentCalls 3) t (after t) .run))) begins tt;
+        slice-fits = refl;
+      }
 
 pub edge-premises-met : EdgePremisesMet
 edge-premises-met p scales border sigma = premises p scales border sigma

@@ -18,20 +18,19 @@ use Rattle.planes.specs.Sets.{setOf, tab}
 use Rattle.planes.specs.SetLaws.{of-setOf}
 use Rattle.planes.specs.Band.{inner}
 use Rattle.passes.specs.Plan.{plan, steps, stepMargin}
-use Rattle.setup.specs.Setup.{bandCount, setupFits, sized}
+use Rattle.setup.specs.Setup.{bandCount, numbersFit, setupFits, sized}
 use Rattle.record.specs.Record.{isDone, started, marked, advanced, bandMissing, strayDone, runFits}
-use Rattle.runs.specs.Start.{pictureChecks, startNumber, sigmasFilled}
-use Rattle.runs.specs.Band.{bandChecks}
-use Rattle.calls.specs.Calls.{stateAfter, end, documentCalls}
+use Rattle.runs.specs.Start.{pictureChecks, startLeaves, sigmasFilled, startOutcome}
+use Rattle.runs.specs.Band.{bandChecks, bandOutcome, advanceOutcome}
+use Rattle.calls.specs.Calls.{StartAccepted, documentCalls, stateAfter, end}
 use Rattle.calls.specs.Places.{inputAt}
-use Rattle.calls.specs.Theorem.{CutFrom, Unrefused, resultAfter, HandsOver}
-use Rattle.calls.specs.Example.{Premises, larger, smaller, calls, slice, PremisesMet, PlaceClear}
+use Rattle.calls.specs.Theorem.{CutFrom, Unrefused, Premises}
+use Rattle.calls.specs.Example.{larger, smaller, calls, slice, PremisesMet, PlaceClear}
 use Rattle.calls.proofs.Places.{counted, counted-from}
-use Rattle.calls.proofs.Demand3.{document-demand-3}
 
 module _ (p : Picture) (weights : List (List Float)) where
-  accepted : startNumber 3 (smaller p weights) ≡ 0
-  unfolding pictureChecks pictured measured place side inside badSides badSettings sizesOf tableFits gridsFit gridStart cells someBelow badGrid bandCount layoutOf setOf tab
+  accepted : StartAccepted 3 (smaller p weights)
+  unfolding startOutcome pictureChecks pictured measured place side inside badSides badSettings sizesOf tableFits gridsFit gridStart cells someBelow badGrid bandCount layoutOf setOf tab
   accepted = refl
 
   unrefused : Unrefused 3 (larger p weights)
@@ -39,7 +38,7 @@ module _ (p : Picture) (weights : List (List Float)) where
   unrefused = refl
 
   inputs : (c : ℕ) (x y : ℤ) → c < 3 → Holds (smaller p weights .setup .filter) x y → inputAt 3 (smaller p weights) c x y ≡ inputAt 3 (larger p weights) c x y
-  unfolding inner layoutOf
+  unfolding startLeaves inner layoutOf
   inputs c x y h held =
       let column : natAbs (x -ℤ pos 0) < 3 = counted (pos 0) 3 x (held .column) in
       let row : natAbs (y -ℤ pos 0) < 1 = counted (pos 0) 1 y (held .row) in
@@ -53,13 +52,13 @@ module _ (p : Picture) (weights : List (List Float)) where
   from = record { unrefused = unrefused; contained = tt; passes = refl; inputs = inputs; sigmas = λ on. absurd on }
 
   premises : Premises 3 (documentCalls 3) (smaller p weights) (larger p weights) (calls p weights) (slice p weights)
-  unfolding sigmasFilled stateAfter end started marked advanced bandChecks runFits strayDone bandMissing isDone setupFits bandCount sized someBelow pictured measured place side inside layoutOf plan steps setOf tab
+  unfolding startOutcome startLeaves bandOutcome advanceOutcome pictureChecks badSides badSettings sizesOf tableFits gridsFit gridStart cells badGrid sigmasFilled stateAfter end started marked advanced bandChecks runFits strayDone bandMissing isDone numbersFit setupFits bandCount sized someBelow pictured measured place side inside layoutOf plan steps setOf tab
   premises = record {
-    accepted = accepted;
-    from = from;
-    unaltered = (λ e. refl, (λ e. absurd (omega (arith, e)), (λ e. absurd (omega (arith, e)), (λ e. refl, tt))));
-    ended = tt;
-    room = refl;
+    start-accepted = accepted;
+    cut-from-larger = from;
+    nobody-altered-anything = (λ e. refl, (λ e. absurd (omega (arith, e)), (λ e. absurd (omega (arith, e)), (λ e. refl, tt))));
+    run-finished = tt;
+    slice-fits = refl;
   }
 
 pub premises-met : PremisesMet
@@ -71,11 +70,3 @@ place-clear p weights = (
   record { column = record { from = tt; before = tt }; row = record { from = tt; before = tt } },
   record { left = λ f. tt; right = λ f. tt; top = λ f. absurd (f refl); bottom = λ f. absurd (f refl) },
 )
-
--- and so does what demand 3 says of them
-pub example-demand-3 : (p : Picture) (weights : List (List Float))
-    → let after = resultAfter 3 (documentCalls 3) (smaller p weights) (calls p weights) (slice p weights) in
-    (after .number ≡ 0) × HandsOver 3 (documentCalls 3) (smaller p weights) (larger p weights) (after .out)
-example-demand-3 p weights =
-    let m = premises-met p weights in
-    document-demand-3 (smaller p weights) (larger p weights) (m .accepted) (m .from) (calls p weights) (m .unaltered) (m .ended) (slice p weights) (m .room)

@@ -1,35 +1,35 @@
 -- What a finished run hands over: demand 2's samples, and the first set's outside the filter region. Assumes nothing.
-use mathlib.Core.Path.{_≡_, _∙_}
+use mathlib.Core.Path.{_≡_, ap, _∙_}
 use mathlib.Core.Bool.{Bool, true, false, cond}
-use mathlib.Core.List.{List, []}
+use mathlib.Core.List.{List}
 use Prim.Native.Nat.{ℕ, _+_, _<_}
 use native.Mathlib.Omega.{arith}
-use borrow.Author.Tests.{eq-eqb}
 use lib.Dec.{T, eqb→eq}
-use lib.ListN.{length, drop, drop-of-length-le}
+use lib.ListN.{length}
 use lib.Ieee.{Float}
 use lib.IntN.{ℤ, natAbs, _-ℤ_}
+use Rattle.planes.specs.Picture.{Picture}
 use Rattle.planes.specs.Sets.{of, setOf}
 use Rattle.planes.specs.SetLaws.{of-setOf}
 use Rattle.planes.specs.Band.{inFilter, inner}
 use Rattle.region.specs.Regions.{Holds}
 use Rattle.layout.specs.Outcome.{layoutOf}
-use Rattle.passes.specs.Pass.{passes}
+use Rattle.passes.specs.Pass.{Pass}
+use Rattle.passes.specs.Stages.{stage, stage-last}
 use Rattle.passes.specs.Plan.{plan}
 use Rattle.setup.specs.declared.Setup.{Setup}
-use Rattle.setup.specs.Setup.{layout, area, resultRegion, resultLength}
-use Rattle.record.specs.Record.{passCount, started, finished}
-use Rattle.setup.specs.Laws.{SetupFits}
-use Rattle.runs.specs.Start.{Handed, startNumber}
+use Rattle.setup.specs.Setup.{fullPlanes, layout, area, resultRegion, resultLength}
+use Rattle.record.specs.Record.{passCount, finished}
+use Rattle.setup.specs.Laws.{SetupFits, setup-layout}
+use Rattle.runs.specs.Start.{Handed, startLeaves, sigmasFilled}
 use Rattle.runs.specs.Band.{State, source}
-use Rattle.runs.specs.Result.{resultNumber, resultOf, resultOutcome}
-use Rattle.runs.specs.Laws.{result-accepted}
-use Rattle.calls.specs.Calls.{Calls, startState, end, Unaltered}
-use Rattle.calls.specs.Places.{at, resultAt}
-use Rattle.calls.specs.Theorem.{resultAfter}
-use Rattle.calls.proofs.Rows.{sampleOf, InResult}
-use Rattle.calls.proofs.Sound.{Sound, pass-count, reading}
-use Rattle.calls.proofs.Lists.{after-start}
+use Rattle.runs.specs.Result.{resultOf}
+use Rattle.runs.specs.Laws.{result-accepted, result-number, result-leaves}
+use Rattle.calls.specs.Places.{at, input, smoothed, resultAt}
+use Rattle.calls.specs.Theorem.{resultOn}
+use Rattle.calls.proofs.Rows.{sampleOf, filtered, InResult, filter-in-result, filtered-inside}
+use Rattle.calls.proofs.Sound.{Sound, pass-count}
+use Rattle.calls.proofs.Lists.{KeptFrom}
 use Rattle.calls.proofs.Places.{counted, wider, counted-from, Covered, covered}
 
 -- ---- the result's slice has the samples of the set that it is copied from
@@ -40,7 +40,7 @@ module _ (s : Setup) (fits : SetupFits s) (x y : ℤ) (held : Holds (s .filter) 
 
   -- a place of the filter region lies in the result's region,
   in-result : Holds (resultRegion s) x y
-  in-result = go (s .«preserve_outside»)
+  in-result = go (fullPlanes s)
     where
       go : (full : Bool) → Holds (cond full (s .image) (s .filter)) x y
       go true = record {
@@ -59,7 +59,7 @@ module _ (s : Setup) (fits : SetupFits s) (x y : ℤ) (held : Holds (s .filter) 
 module _ (n : ℕ) (s : Setup) (fits : SetupFits s) (l : List Float) (c : ℕ) (x y : ℤ) (h : c < n) where
   pub result-sample : Holds (resultRegion s) x y → resultAt s (resultOf n (layout s) l) c x y ≡ at (s .image) (sampleOf (layout s) l) c x y
   unfolding resultOf layoutOf
-  result-sample = go (s .«preserve_outside»)
+  result-sample = go (fullPlanes s)
     where
       go : (full : Bool) → Holds (cond full (s .image) (s .filter)) x y
           → of (cond full (s .image) (s .filter) .width) (cond full (s .image) (s .filter) .height)
@@ -81,37 +81,42 @@ module _ (n : ℕ) (s : Setup) (fits : SetupFits s) (l : List Float) (c : ℕ) (
   unfolding inner layoutOf
   filter-sample held = result-sample (in-result s fits x y held) ∙ rw (column-in s fits x y held, row-in s fits x y held)
 
--- ---- a finished run has demand 2's samples in the set that is read
+-- ---- a state kept from a start
 
-no-pass-left : (n : ℕ) (first : List Float) (t : State) → Sound n first t → T (finished (t .run)) → (c x y : ℕ) → c < n → x < t .run .setup .filter .width → y < t .run .setup .filter .height
-    → reading t c x y ≡ passes (area (t .run .setup) (t .sigmas)) (plan n (t .run .setup .settings)) (inner (layout (t .run .setup)) first) c x y
-unfolding passes
-no-pass-left n first t sound z c x y h p q =
-    let e : t .run .pass ≡ passCount (t .run .setup) = eqb→eq (t .run .pass) (passCount (t .run .setup)) z in
-    let none : drop (t .run .pass) (plan n (t .run .setup .settings)) ≡ [] = drop-of-length-le (plan n (t .run .setup .settings)) {i = t .run .pass} (omega (arith, pass-count n (t .run .setup))) in
-    rw none at (sound .left c x y h p q)
+staged-of : (n : ℕ) (first : List Float) (t : State) (s : Setup) (sigmas : List Float) → t .run .setup ≡ s → t .sigmas ≡ sigmas → Sound n first t → (c x y : ℕ) → c < n → InResult (layout s) x y
+    → sampleOf (layout s) (source t) c x y ≡ filtered (layout s) (stage (area s sigmas) (plan n (s .settings)) (inner (layout s) first) (t .run .pass)) first c x y
+staged-of n first t s sigmas e f sound c x y h i = rw (← e, ← f) (sound .reads c x y h (rw e i))
 
-pub run-samples : (n : ℕ) (first : List Float) (t : State) (s : Setup) (sigmas : List Float) → t .run .setup ≡ s → t .sigmas ≡ sigmas → Sound n first t → T (finished (t .run))
-    → (c x y : ℕ) → c < n → x < s .filter .width → y < s .filter .height
-    → inner (layout s) (source t) c x y ≡ passes (area s sigmas) (plan n (s .settings)) (inner (layout s) first) c x y
-run-samples n first t s sigmas e f sound z c x y h p q = rw (← e, ← f) (no-pass-left n first t sound z c x y h (rw e p) (rw e q))
+module _ (n : ℕ) (h : Handed) (t : State) (kept : KeptFrom n h t) where
+  -- the set that is read holds as many passes of the input as are over
+  pub run-staged : (c x y : ℕ) → c < n → InResult (layout (h .setup)) x y
+      → sampleOf (layout (h .setup)) (source t) c x y
+      ≡ filtered (layout (h .setup)) (stage (area (h .setup) (sigmasFilled n h)) (plan n (h .setup .settings)) (input n h) (t .run .pass)) (startLeaves n h) c x y
+  run-staged c x y p i = staged-of n (startLeaves n h) t (h .setup) (sigmasFilled n h) (kept .setup) (kept .sigmas) (kept .sound) c x y p i
 
--- and outside the filter region the first set's
-pub run-outside : (n : ℕ) (first : List Float) (t : State) (s : Setup) → t .run .setup ≡ s → Sound n first t → (c x y : ℕ) → c < n → InResult (layout s) x y → inFilter (layout s) x y ≡ false
-    → sampleOf (layout s) (source t) c x y ≡ sampleOf (layout s) first c x y
-run-outside n first t s e sound c x y h i o = rw (← e) (sound .outside c x y h (rw e i) (rw e o))
+  -- outside the filter region the first set's own samples
+  pub run-outside : (c x y : ℕ) → c < n → InResult (layout (h .setup)) x y → inFilter (layout (h .setup)) x y ≡ false
+      → sampleOf (layout (h .setup)) (source t) c x y ≡ sampleOf (layout (h .setup)) (startLeaves n h) c x y
+  run-outside c x y p i o = run-staged c x y p i ∙ rw o
 
--- ---- what a finished run hands over: the result's part of the set that is read
+  module _ (z : T (finished (t .run))) where
+    -- finished, all of them: demand 2's samples
+    pub run-samples : SetupFits (h .setup) → (c x y : ℕ) → c < n → x < h .setup .filter .width → y < h .setup .filter .height → inner (layout (h .setup)) (source t) c x y ≡ smoothed n h c x y
+    unfolding inner layoutOf
+    run-samples fits c x y p i j =
+        let s : Setup = h .setup in
+        let l = layout s in
+        let lies = setup-layout s fits .fits in
+        let ps : List Pass = plan n (s .settings) in
+        let over : t .run .pass ≡ passCount s = eqb→eq (t .run .pass) (passCount (t .run .setup)) z ∙ ap passCount (kept .setup) in
+        let all : stage (area s (sigmasFilled n h)) ps (input n h) (t .run .pass) ≡ smoothed n h = stage-last _ ps _ (t .run .pass) (omega (arith, pass-count n s)) in
+        run-staged c (l .left + x) (l .top + y) p (filter-in-result l lies x y i j) ∙ filtered-inside l lies (stage (area s (sigmasFilled n h)) ps (input n h) (t .run .pass)) (startLeaves n h) c x y i j ∙ ap (λ (g : Picture). g c x y) all
 
-module _ (n : ℕ) (K : Calls n) (h : Handed) (e : startNumber n h ≡ 0) (cs : List (K .Call)) (u : Unaltered n K (startState n h) cs)
-    (z : T (finished (end n K (startState n h) cs .run))) (out : List Float) (lo : length out ≡ resultLength n (h .setup)) where
-  abbrev last : State
-  last = end n K (startState n h) cs
+    -- the result call is accepted, and hands over the result's part of the set that is read
+    module _ (out : List Float) (room : length out ≡ resultLength n (h .setup)) where
+      result-taken : resultOn n t out .number ≡ 0
+      result-taken = result-number n (t .run) (t .first) (t .second) out ∙
+          result-accepted n (t .run) (t .first) (t .second) out (kept .sound .first-length) (kept .sound .second-length) (rw (kept .setup) room) (kept .sound .run) z
 
-  pub handed-over : (resultAfter n K h cs out .number ≡ 0) × (resultAfter n K h cs out .out ≡ resultOf n (layout (h .setup)) (source last))
-  unfolding started resultOutcome
-  handed-over =
-      let kept = after-start n K h e cs u in
-      let number : resultNumber n (last .run) (last .first) (last .second) out ≡ 0 =
-      result-accepted n (last .run) (last .first) (last .second) out (kept .sound .first-length) (kept .sound .second-length) (rw (kept .setup) lo) (kept .sound .run) z in
-      (number, rw (eq-eqb (resultNumber n (last .run) (last .first) (last .second) out) 0 number, kept .setup))
+      pub handed-over-at : (resultOn n t out .number ≡ 0) × (resultOn n t out .out ≡ resultOf n (layout (h .setup)) (source t))
+      handed-over-at = (result-taken, result-leaves n (t .run) (t .first) (t .second) out result-taken ∙ rw (kept .setup))

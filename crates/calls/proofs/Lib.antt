@@ -1,6 +1,7 @@
 pub mod Rows
 pub mod Sound
 pub mod Lists
+pub mod Refused
 pub mod Count
 pub mod Reached
 pub mod Places
@@ -9,3 +10,6 @@ pub mod Demand3
 pub mod Corollaries
 pub mod Example
 pub mod EdgeExample
+pub mod FourEdges
+pub mod Needed
+pub mod Promises

@@ -1,89 +1,117 @@
--- What accepted calls keep of the state: the passes that are left take the set that is read to demand 2's samples, outside the filter region it has
--- the first set's, and a band that is done has what the pass gives in its rows. Assumes nothing.
-use mathlib.Core.Path.{_≡_, refl, sym, ap, _∙_}
-use mathlib.Core.Bool.{Bool, true, false, false≢true, not, cond}
+-- What accepted calls keep of the state. The set that is read holds as many passes of the input as are over, in the filter region, and the first set's samples
+-- outside it; a band that is done has in its rows of the other set one pass more. Assumes nothing.
+use mathlib.Core.Path.{_≡_, refl, sym, _∙_}
+use mathlib.Core.Bool.{Bool, true, false, true≢false, false≢true, not, cond}
 use mathlib.Core.List.{List, [], _∷_}
+use mathlib.Core.Logic.{inl, inr}
 use Prim.Native.Nat.{ℕ, zero, suc, _+_, _-_, _/_, _%_, _<_}
 use native.Mathlib.Decide.{ℕ-discrete}
 use native.Mathlib.Omega.{arith}
 use borrow.Author.Tests.{eq-eqb, ne-eqb}
 use lib.Dec.{eqb}
-use lib.ListN.{length, getD, drop, length-set, length-replicate}
-use lib.Seq.{getD-set-other, drop-cons}
+use lib.ListN.{length, getD}
 use lib.Ieee.{Float}
 use Rattle.planes.specs.declared.Layout.{Layout}
-use Rattle.planes.specs.Picture.{Picture}
+use Rattle.planes.specs.Picture.{Picture, inRect}
+use Rattle.planes.specs.Rect.{Between, between}
 use Rattle.planes.specs.SetLaws.{length-setOf}
+use Rattle.planes.specs.Stored.{LayoutFits}
 use Rattle.planes.specs.Band.{resultTop, inFilter, written, inner, passed}
 use Rattle.layout.specs.Outcome.{layoutOf}
-use Rattle.passes.specs.Pass.{Area, Pass, gaborLike, pass, passes}
-use Rattle.passes.specs.Cut.{AllSound, passes-cong, plan-sound}
+use Rattle.passes.specs.Pass.{Area, Pass, gaborLike, pass}
+use Rattle.passes.specs.Near.{sound, pass-cong}
+use Rattle.passes.specs.Cut.{AllSound, plan-sound}
+use Rattle.passes.specs.Stages.{stage}
 use Rattle.passes.specs.Plan.{plan}
 use Rattle.passes.specs.PlanLaws.{plan-length}
 use Rattle.setup.specs.declared.Setup.{Setup}
 use Rattle.setup.specs.Setup.{layout, area, bandFrom, bandTo, setLength, sigmaLength}
 use Rattle.record.specs.Record.{passCount, isDone, started, marked, advanced}
-use Rattle.setup.specs.Laws.{SetupFits, setup-fits, setup-layout, band-of}
-use Rattle.record.specs.Laws.{RunFits, Open, Over, none-done, pass-left, started-fits, marked-fits, advanced-fits}
-use Rattle.runs.specs.Start.{Handed}
+use Rattle.record.specs.Done.{started-none, started-flags, marked-other, marked-flags, advanced-none, advanced-flags}
+use Rattle.setup.specs.Laws.{setup-fits, setup-layout, band-of}
+use Rattle.record.specs.Laws.{RunFits, Open, Over, pass-left, started-fits, marked-fits, advanced-fits}
+use Rattle.runs.specs.Start.{Handed, startLeaves, sigmasFilled}
 use Rattle.runs.specs.Band.{State, readsFirst, source, target, nextPass, banded, bandAccepted}
-use Rattle.runs.specs.Laws.{PictureFits, sigmas-length}
-use Rattle.calls.specs.Calls.{startState, advanceAccepted}
+use Rattle.runs.specs.Laws.{PictureFits, leaves-length, sigmas-length}
 use Rattle.calls.proofs.Rows.{sampleOf, filtered, InResult, filter-in-result, filtered-inside, written-at, sample-after}
-
--- two pictures agree in the filter region's n planes
-abbrev pub Same : ℕ → Setup → Picture → Picture → Type 0
-Same n s g G = (c x y : ℕ) → c < n → x < s .filter .width → y < s .filter .height → g c x y ≡ G c x y
-
--- the filter region of the set that is read, and of the one that is written
-abbrev pub reading : State → Picture
-reading t = inner (layout (t .run .setup)) (source t)
-
-abbrev pub writing : State → Picture
-writing t = inner (layout (t .run .setup)) (target t)
 
 abbrev areaOf : State → Area
 areaOf t = area (t .run .setup) (t .sigmas)
 
--- what the pass that runs next gives at a place of the result
-abbrev given : ℕ → State → Picture
-given n t = filtered (layout (t .run .setup)) (pass (areaOf t) (nextPass n (t .run)) (reading t)) (source t)
+-- the input through its first k passes, with the first set's samples outside the filter region; `first` is the first set as start left it
+abbrev pub staged : ℕ → List Float → State → ℕ → Picture
+staged n first t k =
+    let l = layout (t .run .setup) in
+    filtered l (stage (areaOf t) (plan n (t .run .setup .settings)) (inner l first) k) first
 
 -- column x and row y of the image lie in the rows of band k
 abbrev inBand : Setup → ℕ → ℕ → ℕ → Bool
 inBand s k x y = written (layout s) (bandFrom s k) (bandTo s k) x y
 
--- `first` is the first set as start left it
 pub record Sound (n : ℕ) (first : List Float) (t : State) : Type 0 where
   pub run : RunFits (t .run)
   pub flags : length (t .run .done) ≡ 256
   pub first-length : length (t .first) ≡ setLength n (t .run .setup)
   pub second-length : length (t .second) ≡ setLength n (t .run .setup)
   pub sigma-length : length (t .sigmas) ≡ sigmaLength (t .run .setup)
-  -- the passes that are left
-  pub left : Same n (t .run .setup) (passes (areaOf t) (drop (t .run .pass) (plan n (t .run .setup .settings))) (reading t))
-      (passes (areaOf t) (plan n (t .run .setup .settings)) (inner (layout (t .run .setup)) first))
-  -- what the result has beside the filter region
-  pub outside : (c x y : ℕ) → c < n → InResult (layout (t .run .setup)) x y → inFilter (layout (t .run .setup)) x y ≡ false
-      → sampleOf (layout (t .run .setup)) (source t) c x y ≡ sampleOf (layout (t .run .setup)) first c x y
-  -- the bands that are done
+  -- the set that is read
+  pub reads : (c x y : ℕ) → c < n → InResult (layout (t .run .setup)) x y → sampleOf (layout (t .run .setup)) (source t) c x y ≡ staged n first t (t .run .pass) c x y
+  -- the rows of bands that are done, in the other
   pub done : (k : ℕ) → isDone (t .run) k ≡ true → (c x y : ℕ) → c < n → InResult (layout (t .run .setup)) x y → inBand (t .run .setup) k x y ≡ true
-      → sampleOf (layout (t .run .setup)) (target t) c x y ≡ given n t c x y
+      → sampleOf (layout (t .run .setup)) (target t) c x y ≡ staged n first t (suc (t .run .pass)) c x y
+
+-- ---- places of the filter region, as columns and rows of the image
+
+pub record InFilter (l : Layout) (x y : ℕ) : Type 0 where
+  pub left : l .left + (x - l .left) ≡ x
+  pub top : l .top + (y - l .top) ≡ y
+  pub column : x - l .left < l .width
+  pub row : y - l .top < l .height
+
+in-filter : (l : Layout) (x y : ℕ) → inFilter l x y ≡ true → InFilter l x y
+unfolding inFilter inRect
+in-filter l x y e = go (between (l .left) (l .width) x) (between (l .top) (l .height) y)
+  where
+    go : Between (l .left) (l .width) x → Between (l .top) (l .height) y → InFilter l x y
+    go (inl a) (inl b) = record { left = omega (arith, a .0); top = omega (arith, b .0); column = omega (arith, a .0, a .1); row = omega (arith, b .0, b .1) }
+    go (inl a) (inr b) = absurd (true≢false (sym e ∙ rw (a .2, b .1)))
+    go (inr a) b = absurd (true≢false (sym e ∙ rw (a .1)))
+
+-- what is the same in both parts is the same
+filtered-same : (l : Layout) (p q : Picture) (u v : List Float) (c x y : ℕ) → (InFilter l x y → p c (x - l .left) (y - l .top) ≡ q c (x - l .left) (y - l .top))
+    → (inFilter l x y ≡ false → sampleOf l u c x y ≡ sampleOf l v c x y) → filtered l p u c x y ≡ filtered l q v c x y
+filtered-same l p q u v c x y f g = go (inFilter l x y) refl
+  where
+    go : (b : Bool) → inFilter l x y ≡ b → cond b (p c (x - l .left) (y - l .top)) (sampleOf l u c x y) ≡ cond b (q c (x - l .left) (y - l .top)) (sampleOf l v c x y)
+    go true e = f (in-filter l x y e)
+    go false e = g e
 
 -- ---- at the start
 
-pub sound-start : (n : ℕ) (h : Handed) → PictureFits n h → Sound n (h .first) (startState n h)
-unfolding started readsFirst isDone
+-- no pass: the set itself
+none-staged : (l : Layout) (first : List Float) (c x y : ℕ) → sampleOf l first c x y ≡ filtered l (inner l first) first c x y
+unfolding inner
+none-staged l first c x y = go (inFilter l x y) refl
+  where
+    go : (b : Bool) → inFilter l x y ≡ b → sampleOf l first c x y ≡ cond b (sampleOf l first c (l .left + (x - l .left)) (l .top + (y - l .top))) (sampleOf l first c x y)
+    go true e = let i = in-filter l x y e in rw (i .left, i .top)
+    go false e = refl
+
+-- the state as an accepted start leaves it
+abbrev pub begun : ℕ → Handed → State
+begun n h = record { run = started (h .setup); sigmas = sigmasFilled n h; first = startLeaves n h; second = h .second }
+
+pub sound-start : (n : ℕ) (h : Handed) → PictureFits n h → Sound n (startLeaves n h) (begun n h)
+unfolding started readsFirst stage
 sound-start n h f =
     record {
       run = started-fits (h .setup) (f .setup);
-      flags = length-replicate 256 false;
-      first-length = f .first;
+      flags = started-flags (h .setup);
+      first-length = leaves-length n h ∙ f .first;
       second-length = f .second;
       sigma-length = sigmas-length n h f;
-      left = λ c x y p q r. refl;
-      outside = λ c x y p i o. refl;
-      done = λ k d. absurd (false≢true (sym (none-done k) ∙ d));
+      reads = λ c x y p i. none-staged (layout (h .setup)) (startLeaves n h) c x y;
+      done = λ k d. absurd (false≢true (sym (started-none (h .setup) k) ∙ d));
     }
 
 -- ---- a band leaves the set that is read, and its own set in place of the other
@@ -104,37 +132,71 @@ length-banded : (n : ℕ) (t : State) (k : ℕ) → length (banded n t k) ≡ se
 unfolding banded passed layoutOf
 length-banded n t k = length-setOf n (t .run .setup .image .width) (t .run .setup .image .height) _
 
-module _ (n : ℕ) (first : List Float) (t : State) (k : ℕ) (sound : Sound n first t) (free : Open (t .run) k) where
-  -- after the band its own rows have what the pass gives, and the others are as they were
-  done-after : (j : ℕ) → isDone (marked (t .run) k) j ≡ true → (c x y : ℕ) → c < n → InResult (layout (t .run .setup)) x y → inBand (t .run .setup) j x y ≡ true
-      → sampleOf (layout (t .run .setup)) (banded n t k) c x y ≡ given n t c x y
-  unfolding banded isDone marked
-  done-after j d c x y h i b = sample-after (layout s) (setup-layout s (setup-fits s (sound .run .setup)) .fits) x y i n (bandFrom s k) (bandTo s k)
-      (pass (areaOf t) (nextPass n (t .run)) (reading t)) (source t) (target t) c h ∙ go (inBand s k x y) refl
-    where
-      s : Setup
-      s = t .run .setup
+-- a pass of the plan is a sound one
+sound-at : (n : ℕ) (ps : List Pass) (k : ℕ) → AllSound n ps → k < length ps → sound n (getD ps k (gaborLike []))
+sound-at n [] k a h = absurd (omega arith)
+sound-at n (p ∷ ps) zero a h = a .0
+sound-at n (p ∷ ps) (suc k) a h = sound-at n ps k (a .1) (omega arith)
 
-      go : (wrote : Bool) → inBand s k x y ≡ wrote → cond wrote (given n t c x y) (sampleOf (layout s) (target t) c x y) ≡ given n t c x y
-      go true e = refl
-      go false e = sound .done j (sym (getD-set-other (t .run .done) k j true false (λ (z : j ≡ k). false≢true (sym e ∙ (rw z at b)))) ∙ d) c x y h i b
+-- the number of passes is the same for any number of planes
+pub pass-count : (n : ℕ) (s : Setup) → length (plan n (s .settings)) ≡ passCount s
+pass-count n s = plan-length n (s .settings) ∙ sym (plan-length 3 (s .settings))
+
+module _ (n : ℕ) (first : List Float) (t : State) (k : ℕ) (keeps : Sound n first t) (free : Open (t .run) k) where
+  abbrev setup : Setup
+  setup = t .run .setup
+
+  lies : LayoutFits (layout setup)
+  lies = setup-layout setup (setup-fits setup (keeps .run .setup)) .fits
+
+  -- the filter region of the set that is read
+  abbrev reading : Picture
+  reading = inner (layout setup) (source t)
+
+  reading-is : (c x y : ℕ) → c < n → x < setup .filter .width → y < setup .filter .height
+      → reading c x y ≡ stage (areaOf t) (plan n (setup .settings)) (inner (layout setup) first) (t .run .pass) c x y
+  unfolding inner layoutOf
+  reading-is c x y h i j =
+      let l = layout setup in
+      keeps .reads c (l .left + x) (l .top + y) h (filter-in-result l lies x y i j) ∙ filtered-inside l lies (stage (areaOf t) (plan n (setup .settings)) (inner l first) (t .run .pass)) first c x y i j
+
+  -- what the pass gives of it, at a place of the result, is one pass more
+  given-is : (c x y : ℕ) → c < n → InResult (layout setup) x y
+      → filtered (layout setup) (pass (areaOf t) (nextPass n (t .run)) reading) (source t) c x y ≡ staged n first t (suc (t .run .pass)) c x y
+  unfolding stage layoutOf
+  given-is c x y h i =
+      let ps : List Pass = plan n (setup .settings) in
+      let more : t .run .pass < length ps = omega (arith, pass-left (t .run) (keeps .run) (free .unfinished), pass-count n setup) in
+      let so-far : Picture = stage (areaOf t) ps (inner (layout setup) first) (t .run .pass) in
+      filtered-same (layout setup) (pass (areaOf t) (nextPass n (t .run)) reading) (pass (areaOf t) (nextPass n (t .run)) so-far) (source t) first c x y
+      (λ f. pass-cong n (nextPass n (t .run)) (sound-at n ps (t .run .pass) (plan-sound n (setup .settings)) more) (areaOf t) reading so-far reading-is c _ _ h (f .column) (f .row))
+      (λ o. keeps .reads c x y h i ∙ rw o)
+
+  -- after the band its own rows have that, and the others are as they were
+  done-after : (j : ℕ) → isDone (marked (t .run) k) j ≡ true → (c x y : ℕ) → c < n → InResult (layout setup) x y → inBand setup j x y ≡ true
+      → sampleOf (layout setup) (banded n t k) c x y ≡ staged n first t (suc (t .run .pass)) c x y
+  unfolding banded
+  done-after j d c x y h i b = sample-after (layout setup) lies x y i n (bandFrom setup k) (bandTo setup k) (pass (areaOf t) (nextPass n (t .run)) reading) (source t) (target t) c h ∙ go (inBand setup k x y) refl
+    where
+      go : (wrote : Bool) → inBand setup k x y ≡ wrote
+          → cond wrote (filtered (layout setup) (pass (areaOf t) (nextPass n (t .run)) reading) (source t) c x y) (sampleOf (layout setup) (target t) c x y) ≡ staged n first t (suc (t .run .pass)) c x y
+      go true e = given-is c x y h i
+      go false e = keeps .done j (sym (marked-other (t .run) k j (λ (z : j ≡ k). false≢true (sym e ∙ (rw z at b)))) ∙ d) c x y h i b
 
   pub sound-band : Sound n first (bandAccepted n t k)
   unfolding marked readsFirst
   sound-band =
-      let s : Setup = t .run .setup in
       let e : Bool = eqb (t .run .pass % 2) 0 in
       let src : source (bandAccepted n t k) ≡ source t = kept-source e (t .first) (t .second) (banded n t k) in
       let dst : target (bandAccepted n t k) ≡ banded n t k = new-target e (t .first) (t .second) (banded n t k) in
       record {
-        run = marked-fits (t .run) k (sound .run) free;
-        flags = length-set (t .run .done) k true ∙ sound .flags;
-        first-length = cond-length e (t .first) (banded n t k) (setLength n s) (sound .first-length) (length-banded n t k);
-        second-length = cond-length e (banded n t k) (t .second) (setLength n s) (length-banded n t k) (sound .second-length);
-        sigma-length = sound .sigma-length;
-        left = λ c x y h p q. rw src (sound .left c x y h p q);
-        outside = λ c x y h i o. rw src (sound .outside c x y h i o);
-        done = λ j d c x y h i b. rw (src, dst) (done-after j d c x y h i b);
+        run = marked-fits (t .run) k (keeps .run) free;
+        flags = marked-flags (t .run) k ∙ keeps .flags;
+        first-length = cond-length e (t .first) (banded n t k) (setLength n setup) (keeps .first-length) (length-banded n t k);
+        second-length = cond-length e (banded n t k) (t .second) (setLength n setup) (length-banded n t k) (keeps .second-length);
+        sigma-length = keeps .sigma-length;
+        reads = λ c x y h i. rw src (keeps .reads c x y h i);
+        done = λ j d c x y h i b. rw dst (done-after j d c x y h i b);
       }
 
 -- ---- an advance exchanges the sets
@@ -150,56 +212,30 @@ cond-not : (e : Bool) (a b : List Float) → cond (not e) a b ≡ cond e b a
 cond-not true a b = refl
 cond-not false a b = refl
 
-drop-sound : (n k : ℕ) (ps : List Pass) → AllSound n ps → AllSound n (drop k ps)
-drop-sound n zero ps a = a
-drop-sound n (suc k) [] a = a
-drop-sound n (suc k) (p ∷ ps) a = drop-sound n k ps (a .1)
+-- an accepted advance changes the record alone
+abbrev pub turnedOver : State → State
+turnedOver t = record { run = advanced (t .run); sigmas = t .sigmas; first = t .first; second = t .second }
 
--- one pass of those that are left
-passes-drop : (a : Area) (ps : List Pass) (k : ℕ) (g : Picture) → k < length ps → passes a (drop (suc k) ps) (pass a (getD ps k (gaborLike [])) g) ≡ passes a (drop k ps) g
-unfolding passes
-passes-drop a ps k g h = rw (drop-cons ps k (gaborLike []) h)
-
--- the number of passes is the same for any number of planes
-pub pass-count : (n : ℕ) (s : Setup) → length (plan n (s .settings)) ≡ passCount s
-pass-count n s = plan-length n (s .settings) ∙ sym (plan-length 3 (s .settings))
-
-module _ (n : ℕ) (first : List Float) (t : State) (sound : Sound n first t) (over : Over (t .run)) where
-  fits : SetupFits (t .run .setup)
-  fits = setup-fits (t .run .setup) (sound .run .setup)
-
+module _ (n : ℕ) (first : List Float) (t : State) (keeps : Sound n first t) (over : Over (t .run)) where
   -- every row of the result lies in a band that is done
-  all-done : (c x y : ℕ) → c < n → InResult (layout (t .run .setup)) x y → sampleOf (layout (t .run .setup)) (target t) c x y ≡ given n t c x y
+  all-done : (c x y : ℕ) → c < n → InResult (layout (t .run .setup)) x y → sampleOf (layout (t .run .setup)) (target t) c x y ≡ staged n first t (suc (t .run .pass)) c x y
   all-done c x y h i =
       let s : Setup = t .run .setup in
+      let fits = setup-fits s (keeps .run .setup) in
       let row : ℕ = y - resultTop (layout s) in
       let b = band-of s fits row (omega (arith, i .top, i .bottom)) in
-      sound .done (row / s .«band_height») (over .done (row / s .«band_height») (b .0)) c x y h i (written-at (layout s) (setup-layout s fits .fits) x y i _ _ (b .1 .from) (b .1 .to))
+      keeps .done (row / s .«band_height») (over .done (row / s .«band_height») (b .0)) c x y h i (written-at (layout s) (setup-layout s fits .fits) x y i _ _ (b .1 .from) (b .1 .to))
 
-  -- the filter region's among them
-  filter-done : Same n (t .run .setup) (writing t) (pass (areaOf t) (nextPass n (t .run)) (reading t))
-  unfolding inner layoutOf
-  filter-done c x y h p q =
-      let l : Layout = layout (t .run .setup) in
-      let lies = setup-layout (t .run .setup) fits .fits in
-      all-done c (l .left + x) (l .top + y) h (filter-in-result l lies x y p q) ∙ filtered-inside l lies (pass (areaOf t) (nextPass n (t .run)) (reading t)) (source t) c x y p q
-
-  pub sound-advance : Sound n first (advanceAccepted t)
-  unfolding advanced readsFirst isDone
+  pub sound-advance : Sound n first (turnedOver t)
+  unfolding advanced readsFirst
   sound-advance =
-      let s : Setup = t .run .setup in
-      let ps : List Pass = plan n (s .settings) in
-      let more : t .run .pass < length ps = omega (arith, pass-left (t .run) (sound .run) (over .unfinished), pass-count n s) in
-      let src : source (advanceAccepted t) ≡ target t = rw (turned (t .run .pass)) (cond-not (eqb (t .run .pass % 2) 0) (t .first) (t .second)) in
+      let src : source (turnedOver t) ≡ target t = rw (turned (t .run .pass)) (cond-not (eqb (t .run .pass % 2) 0) (t .first) (t .second)) in
       record {
-        run = advanced-fits (t .run) (sound .run) over;
-        flags = length-replicate 256 false;
-        first-length = sound .first-length;
-        second-length = sound .second-length;
-        sigma-length = sound .sigma-length;
-        left = λ c x y h p q. rw src (
-            passes-cong n (areaOf t) (drop (suc (t .run .pass)) ps) (drop-sound n (suc (t .run .pass)) ps (plan-sound n (s .settings))) (writing t) (pass (areaOf t) (nextPass n (t .run)) (reading t)) filter-done c x y h p q
-            ∙ ap (λ (g : Picture). g c x y) (passes-drop (areaOf t) ps (t .run .pass) (reading t) more) ∙ sound .left c x y h p q);
-        outside = λ c x y h i o. rw src (all-done c x y h i ∙ rw o (sound .outside c x y h i o));
-        done = λ k d. absurd (false≢true (sym (none-done k) ∙ d));
+        run = advanced-fits (t .run) (keeps .run) over;
+        flags = advanced-flags (t .run);
+        first-length = keeps .first-length;
+        second-length = keeps .second-length;
+        sigma-length = keeps .sigma-length;
+        reads = λ c x y h i. rw src (all-done c x y h i);
+        done = λ k d. absurd (false≢true (sym (advanced-none (t .run) k) ∙ d));
       }

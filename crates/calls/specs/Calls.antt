@@ -1,4 +1,4 @@
--- A run as a list of calls: the state that is lent, what accepted calls do to it, and that nobody altered anything (document 01, "Runs"). Definitions only.
+-- A run as a list of calls: the state that is lent, what each call answers and leaves, and that nobody altered anything (document 01, "Runs"). Definitions only.
 use mathlib.Core.Path.{_≡_}
 use mathlib.Core.Bool.{cond}
 use mathlib.Core.List.{List, [], _∷_}
@@ -6,23 +6,93 @@ use Prim.Native.Nat.{ℕ, _+_}
 use lib.Dec.{eqb}
 use lib.Ieee.{Float}
 use Rattle.record.specs.declared.Run.{Run}
-use Rattle.record.specs.Record.{started, advanced}
-use Rattle.runs.specs.Start.{Handed, startLeaves, sigmasFilled}
-use Rattle.runs.specs.Band.{State, bandNumber, bandAccepted, advanceNumber}
-use Rattle.runs.specs.Result.{resultNumber}
+use Rattle.runs.specs.declared.RunAnswer.{RunAnswer}
+use Rattle.runs.specs.Start.{Handed, StartOutcome, startOutcome}
+use Rattle.runs.specs.Band.{State, BandOutcome, bandOutcome, advanceOutcome}
+use Rattle.runs.specs.Result.{ResultOutcome, resultOutcome}
 
--- the state as an accepted start leaves it
+-- ---- the start
+
+-- start accepts what it is handed
+abbrev pub StartAccepted : ℕ → Handed → Type 0
+StartAccepted n h = startOutcome n h .answer .number ≡ 0
+
+-- the state that a start leaves: record, block sigmas and first set are its outcome's; the second set, which it is lent to read alone, is as it was
+abbrev pub leftByStart : StartOutcome → List Float → State
+leftByStart o second = record { run = o .answer .run; sigmas = o .sigmas; first = o .first; second = second }
+
 abbrev pub startState : ℕ → Handed → State
-startState n h = record { run = started (h .setup); sigmas = sigmasFilled n h; first = startLeaves n h; second = h .second }
+startState n h = leftByStart (startOutcome n h) (h .second)
 
--- an accepted advance changes the record alone
-abbrev pub advanceAccepted : State → State
-advanceAccepted t = record { run = advanced (t .run); sigmas = t .sigmas; first = t .first; second = t .second }
+-- ---- document 01's calls after it
+
+-- Each with everything that it is handed. Of functions other than these four only the number is told: whatever they are handed, the state itself included.
+pub data DocumentCall : Type 0 where
+  band : State → ℕ → DocumentCall
+  advance : Run → DocumentCall
+  result : Run → List Float → List Float → List Float → DocumentCall
+  start : Handed → DocumentCall
+  other : ℕ → DocumentCall
+
+-- the whole answer of a call, with what it leaves in what it is lent: the outcome that its contract cites
+pub data Answer : Type 0 where
+  ofBand : BandOutcome → Answer
+  ofAdvance : RunAnswer → Answer
+  ofResult : ResultOutcome → Answer
+  ofStart : StartOutcome → Answer
+  ofOther : ℕ → Answer
+
+abbrev pub answer : ℕ → DocumentCall → Answer
+answer n (band t k) = ofBand (bandOutcome n t k)
+answer n (advance r) = ofAdvance (advanceOutcome r)
+answer n (result r first second out) = ofResult (resultOutcome n r first second out)
+answer n (start h) = ofStart (startOutcome n h)
+answer n (other k) = ofOther k
+
+-- the number in an answer
+abbrev pub numberIn : Answer → ℕ
+numberIn (ofBand o) = o .number
+numberIn (ofAdvance o) = o .number
+numberIn (ofResult o) = o .number
+numberIn (ofStart o) = o .answer .number
+numberIn (ofOther k) = k
+
+-- the state after an accepted call that was lent the state t: what the answer has of it, and the rest of t
+abbrev pub leftBy : State → Answer → State
+leftBy t (ofBand o) = o .state
+leftBy t (ofAdvance o) = record { run = o .run; sigmas = t .sigmas; first = t .first; second = t .second }
+leftBy t (ofResult o) = t
+leftBy t (ofStart o) = leftByStart o (t .second)
+leftBy t (ofOther k) = t
+
+-- What the call got of record, block sigmas and both sets is the state's. After the start that begins the run no other start and no other function is accepted.
+abbrev pub LentState : State → DocumentCall → Type 0
+LentState t (band u k) = u ≡ t
+LentState t (advance r) = r ≡ t .run
+LentState t (result r first second out) = (r ≡ t .run) × (first ≡ t .first) × (second ≡ t .second)
+LentState t (start h) = ⊥
+LentState t (other k) = ⊥
+
+abbrev pub asBands : DocumentCall → ℕ
+asBands (band t k) = 1
+asBands (advance r) = 0
+asBands (result r first second out) = 0
+asBands (start h) = 0
+asBands (other k) = 0
+
+abbrev pub asAdvances : DocumentCall → ℕ
+asAdvances (band t k) = 0
+asAdvances (advance r) = 1
+asAdvances (result r first second out) = 0
+asAdvances (start h) = 0
+asAdvances (other k) = 0
+
+-- ---- calls of any kinds, of which document 01's are some
 
 -- What an accepted call may do to the state: finish a band, advance, or nothing. The two numbers count accepted bands and accepted advances.
 pub data Effect (n : ℕ) (t : State) : ℕ → ℕ → State → Type 0 where
-  oneBand : (k : ℕ) → bandNumber n t k ≡ 0 → Effect n t 1 0 (bandAccepted n t k)
-  oneAdvance : advanceNumber (t .run) ≡ 0 → Effect n t 0 1 (advanceAccepted t)
+  oneBand : (k : ℕ) → bandOutcome n t k .number ≡ 0 → Effect n t 1 0 (bandOutcome n t k .state)
+  oneAdvance : advanceOutcome (t .run) .number ≡ 0 → Effect n t 0 1 (leftBy t (ofAdvance (advanceOutcome (t .run))))
   nothing : Effect n t 0 0 t
 
 -- Any kinds of calls: each with the number that it gives, whether it was lent a state, what it leaves of that state when it is accepted, and which effect that is.
@@ -34,6 +104,26 @@ pub record Calls (n : ℕ) : Type 1 where
   pub bands : Call → ℕ
   pub advances : Call → ℕ
   pub effect : (t : State) (c : Call) → number c ≡ 0 → Lent t c → Effect n t (bands c) (advances c) (leaves t c)
+
+unfoldable pub documentEffect : (n : ℕ) (t : State) (c : DocumentCall) → numberIn (answer n c) ≡ 0 → LentState t c → Effect n t (asBands c) (asAdvances c) (leftBy t (answer n c))
+documentEffect n t (band u k) e l = rw l (oneBand k (rw l at e))
+documentEffect n t (advance r) e l = rw l (oneAdvance (rw l at e))
+documentEffect n t (result r first second out) e l = nothing
+documentEffect n t (start h) e l = absurd l
+documentEffect n t (other k) e l = absurd l
+
+abbrev pub documentCalls : (n : ℕ) → Calls n
+documentCalls n = record {
+  Call = DocumentCall;
+  number = λ c. numberIn (answer n c);
+  Lent = LentState;
+  leaves = λ t c. leftBy t (answer n c);
+  bands = asBands;
+  advances = asAdvances;
+  effect = documentEffect n;
+}
+
+-- ---- lists of them: runs of n planes by calls of the kinds K
 
 module _ (n : ℕ) (K : Calls n) where
   -- a refused call changes nothing
@@ -63,46 +153,3 @@ module _ (n : ℕ) (K : Calls n) where
   unfoldable pub advancesIn : List (K .Call) → ℕ
   advancesIn [] = 0
   advancesIn (c ∷ cs) = cond (eqb (K .number c) 0) (K .advances c) 0 + advancesIn cs
-
--- ---- document 01's calls, each with everything that it is lent
-
-pub data Call : Type 0 where
-  band : State → ℕ → Call
-  advance : Run → Call
-  result : Run → List Float → List Float → List Float → Call
-
-module _ (n : ℕ) where
-  abbrev pub number : Call → ℕ
-  number (band t k) = bandNumber n t k
-  number (advance r) = advanceNumber r
-  number (result r first second out) = resultNumber n r first second out
-
-  abbrev pub leaves : State → Call → State
-  leaves t (band u k) = bandAccepted n u k
-  leaves t (advance r) = advanceAccepted (record { run = r; sigmas = t .sigmas; first = t .first; second = t .second })
-  leaves t (result r first second out) = t
-
--- what the call got of record, block sigmas and both sets is the state's
-abbrev pub Lent : State → Call → Type 0
-Lent t (band u k) = u ≡ t
-Lent t (advance r) = r ≡ t .run
-Lent t (result r first second out) = (r ≡ t .run) × (first ≡ t .first) × (second ≡ t .second)
-
-abbrev pub bands : Call → ℕ
-bands (band t k) = 1
-bands (advance r) = 0
-bands (result r first second out) = 0
-
-abbrev pub advances : Call → ℕ
-advances (band t k) = 0
-advances (advance r) = 1
-advances (result r first second out) = 0
-
--- which effect each has
-unfoldable pub effect : (n : ℕ) (t : State) (c : Call) → number n c ≡ 0 → Lent t c → Effect n t (bands c) (advances c) (leaves n t c)
-effect n t (band u k) e l = rw l (oneBand k (rw l at e))
-effect n t (advance r) e l = rw l (oneAdvance (rw l at e))
-effect n t (result r first second out) e l = nothing
-
-abbrev pub documentCalls : (n : ℕ) → Calls n
-documentCalls n = record { Call = Call; number = number n; Lent = Lent; leaves = leaves n; bands = bands; advances = advances; effect = effect n }

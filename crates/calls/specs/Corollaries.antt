@@ -11,15 +11,15 @@ use Rattle.planes.specs.Sets.{of}
 use Rattle.passes.specs.Plan.{margin}
 use Rattle.setup.specs.Setup.{resultRegion, resultLength}
 use Rattle.record.specs.Record.{finished}
-use Rattle.runs.specs.Start.{Handed, startNumber, startLeaves}
+use Rattle.runs.specs.Start.{Handed, startLeaves}
 use Rattle.runs.specs.Result.{ResultOutcome}
-use Rattle.calls.specs.Calls.{Calls, startState, end, Unaltered}
+use Rattle.calls.specs.Calls.{StartAccepted, startState, Calls, end, Unaltered}
 use Rattle.calls.specs.Places.{Clear, at, sampleAt, resultAt}
 use Rattle.calls.specs.Theorem.{CutFrom, resultAfter}
 
 -- a finished run: an accepted start, calls after it that nobody altered and that finish it, and a slice lent for the result
 pub record FinishedRun (n : ℕ) (K : Calls n) (h : Handed) : Type 0 where
-  pub accepted : startNumber n h ≡ 0
+  pub accepted : StartAccepted n h
   pub calls : List (K .Call)
   pub unaltered : Unaltered n K (startState n h) calls
   pub ended : T (finished (end n K (startState n h) calls .run))
@@ -41,6 +41,7 @@ pub record SameButBands (a b : Handed) : Type 0 where
   pub grids : a .grids ≡ b .grids
   pub first : a .first ≡ b .first
 
+-- n is the number of planes, and K has the kinds of calls.
 module _ (n : ℕ) (K : Calls n) where
   -- the result call that ends a finished run
   abbrev pub handedOver : (h : Handed) → FinishedRun n K h → ResultOutcome

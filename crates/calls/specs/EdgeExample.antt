@@ -1,5 +1,4 @@
 -- The same with the edge filter: one iteration, Gabor off. Settings that no pass reads differ, and so do frames, image regions and result kinds. Definitions only.
-use mathlib.Core.Bool.{true, false}
 use mathlib.Core.List.{List, [], _∷_}
 use Prim.Native.Nat.{ℕ, _+_}
 use lib.IntN.{pos}
@@ -13,15 +12,15 @@ use Rattle.passes.specs.declared.Settings.{Settings}
 use Rattle.passes.specs.Plan.{margin}
 use Rattle.record.specs.Record.{started, marked}
 use Rattle.runs.specs.Start.{Handed}
-use Rattle.calls.specs.Calls.{startState, Call, band, advance, documentCalls}
+use Rattle.calls.specs.Calls.{startState, DocumentCall, band, advance, documentCalls}
 use Rattle.calls.specs.Places.{Clear}
-use Rattle.calls.specs.Example.{Premises}
+use Rattle.calls.specs.Theorem.{Premises}
 
 module _ (p : Picture) (scales : List Float) (border sigma : Float) where
   -- `unread` stands where one iteration without Gabor reads nothing
   abbrev settingsOf : Float → Settings
   settingsOf unread = record {
-    gabor = record { enabled = false; weights = (unread ∷ unread ∷ []) ∷ (unread ∷ unread ∷ []) ∷ (unread ∷ unread ∷ []) ∷ [] };
+    gabor = record { enabled = 0; weights = (unread ∷ unread ∷ []) ∷ (unread ∷ unread ∷ []) ∷ (unread ∷ unread ∷ []) ∷ [] };
     epf = record {
       iters = 1;
       «channel_scale» = scales;
@@ -36,7 +35,7 @@ module _ (p : Picture) (scales : List Float) (border sigma : Float) where
   -- columns 0 to 11, the filter region being the image region; no group has a grid, so each block has `sigma_for_modular`
   abbrev pub larger : Handed
   larger = record {
-    setup = record { image = row 0 12; filter = row 0 12; «preserve_outside» = false; settings = settingsOf b0; «band_height» = 64 };
+    setup = record { image = row 0 12; filter = row 0 12; «preserve_outside» = 0; settings = settingsOf b0; «band_height» = 64 };
     frame = record { width = 12; height = 1; upsampling = 1; «lf_level» = 0; «group_size_shift» = 0 };
     table = 0 ∷ 0 ∷ 0 ∷ [];
     grids = [];
@@ -48,7 +47,7 @@ module _ (p : Picture) (scales : List Float) (border sigma : Float) where
   -- columns 8 to 11 of them in an image region of columns 7 to 11: the left edge of the filter region is cut
   abbrev pub smaller : Handed
   smaller = record {
-    setup = record { image = row 7 5; filter = row 8 4; «preserve_outside» = true; settings = settingsOf b1; «band_height» = 1 };
+    setup = record { image = row 7 5; filter = row 8 4; «preserve_outside» = 1; settings = settingsOf b1; «band_height» = 1 };
     frame = record { width = 100; height = 100; upsampling = 2; «lf_level» = 0; «group_size_shift» = 1 };
     table = 0 ∷ 5 ∷ 5 ∷ [];
     grids = [];
@@ -57,7 +56,7 @@ module _ (p : Picture) (scales : List Float) (border sigma : Float) where
     sigmas = b0 ∷ [];
   }
 
-  abbrev pub calls : List Call
+  abbrev pub calls : List DocumentCall
   calls = band (startState 3 smaller) 0 ∷ advance (marked (started (smaller .setup)) 0) ∷ []
 
   abbrev pub slice : List Float

@@ -1,11 +1,7 @@
 -- A smaller and a larger picture with a list of calls for which all premises of demand 3 hold, whatever the samples and the weights. Definitions only.
-use mathlib.Core.Path.{_≡_}
-use mathlib.Core.Bool.{Bool, true, false}
 use mathlib.Core.List.{List, [], _∷_}
 use Prim.Native.Nat.{ℕ, suc}
-use lib.Dec.{T}
 use lib.IntN.{ℤ, pos, negsuc}
-use lib.ListN.{length}
 use lib.Ieee.{Float}
 use Rattle.region.specs.Regions.{Holds}
 use Rattle.planes.specs.Samples.{b0}
@@ -13,32 +9,23 @@ use Rattle.planes.specs.Picture.{Picture}
 use Rattle.planes.specs.Sets.{setOf}
 use Rattle.passes.specs.Plan.{margin}
 use Rattle.setup.specs.declared.Setup.{Setup}
-use Rattle.setup.specs.Setup.{resultLength}
 use Rattle.record.specs.declared.Run.{Run}
-use Rattle.record.specs.Record.{marked, finished}
-use Rattle.runs.specs.Start.{Handed, startNumber, noSetup}
+use Rattle.record.specs.Record.{marked}
+use Rattle.runs.specs.Start.{Handed, noSetup}
 use Rattle.runs.specs.Band.{State}
-use Rattle.calls.specs.Calls.{Calls, startState, end, Unaltered, Call, band, advance, documentCalls}
+use Rattle.calls.specs.Calls.{startState, DocumentCall, band, advance, documentCalls}
 use Rattle.calls.specs.Places.{Clear}
-use Rattle.calls.specs.Theorem.{CutFrom}
-
--- the premises of Demand3, each by its name
-pub record Premises (n : ℕ) (K : Calls n) (small large : Handed) (cs : List (K .Call)) (out : List Float) : Type 0 where
-  pub accepted : startNumber n small ≡ 0
-  pub from : CutFrom n small large
-  pub unaltered : Unaltered n K (startState n small) cs
-  pub ended : T (finished (end n K (startState n small) cs .run))
-  pub room : length out ≡ resultLength n (small .setup)
+use Rattle.calls.specs.Theorem.{Premises}
 
 module _ (p : Picture) (weights : List (List Float)) where
   -- one row of so many columns: Gabor alone, the result the filter region or the full planes, bands of a height
-  abbrev setupOf : ℤ → ℕ → Bool → ℕ → Setup
+  abbrev setupOf : ℤ → ℕ → ℕ → ℕ → Setup
   setupOf left width full height = record {
     image = record { left = left; top = pos 0; width = width; height = 1 };
     filter = record { left = left; top = pos 0; width = width; height = 1 };
     «preserve_outside» = full;
     settings = record {
-      gabor = record { enabled = true; weights = weights };
+      gabor = record { enabled = 1; weights = weights };
       epf = noSetup .settings .epf;
     };
     «band_height» = height;
@@ -58,11 +45,11 @@ module _ (p : Picture) (weights : List (List Float)) where
 
   -- columns −1 to 2
   abbrev pub larger : Handed
-  larger = handedOf (setupOf (negsuc 0) 4 true 64) (setOf 3 4 1 p) (setOf 3 4 1 (λ c x y. b0))
+  larger = handedOf (setupOf (negsuc 0) 4 1 64) (setOf 3 4 1 p) (setOf 3 4 1 (λ c x y. b0))
 
   -- columns 0 to 2 of them: the left edge is cut
   abbrev pub smaller : Handed
-  smaller = handedOf (setupOf (pos 0) 3 false 1) (setOf 3 3 1 (λ c x y. p c (suc x) y)) (setOf 3 3 1 (λ c x y. b0))
+  smaller = handedOf (setupOf (pos 0) 3 0 1) (setOf 3 3 1 (λ c x y. p c (suc x) y)) (setOf 3 3 1 (λ c x y. b0))
 
   abbrev begun : State
   begun = startState 3 smaller
@@ -72,7 +59,7 @@ module _ (p : Picture) (weights : List (List Float)) where
   done = marked (begun .run) 0
 
   -- Band 0; band 0 again, lent the sets as they were before it (10); an advance that is lent the record before it (11); the advance.
-  abbrev pub calls : List Call
+  abbrev pub calls : List DocumentCall
   calls =
       band begun 0
       ∷ band (record { run = done; sigmas = begun .sigmas; first = begun .first; second = begun .second }) 0

@@ -1,6 +1,10 @@
 pub mod Calls
 pub mod Places
 pub mod Theorem
+pub mod Rules
 pub mod Corollaries
 pub mod Example
 pub mod EdgeExample
+pub mod FourEdges
+pub mod Needed
+pub mod Promises

@@ -11,6 +11,7 @@ use lib.ListN.{length}
 use lib.Ieee.{Float}
 use Rattle.numbers.specs.Numbers.{notOnBlocks, wrongLength, outOfRange}
 use Rattle.numbers.specs.Checks.{firstOf}
+use Rattle.numbers.specs.Flags.{flagFits, flagSet}
 use Rattle.region.specs.declared.Region.{Region}
 use Rattle.region.specs.Regions.{inside}
 use Rattle.region.specs.Measures.{pictured}
@@ -31,12 +32,12 @@ use Rattle.epf.specs.Outcome.{epfOver, stepChecks, epfChecks, epfOutcome
 
 -- ---- the tests of a placed filter region
 
-module _ (n : ℕ) (l : Layout) (filter : Region) (step from to sigmas src dst : ℕ) where
+module _ (n : ℕ) (l : Layout) (filter : Region) (full step from to sigmas src dst : ℕ) where
   abbrev size : ℕ
   size = n * l .image .height * l .image .width
 
   abbrev Number : ℕ → Type 0
-  Number k = k ≡ firstOf (stepChecks n l filter step from to sigmas src dst)
+  Number k = k ≡ firstOf (stepChecks n l filter full step from to sigmas src dst)
 
   pub off-blocks : onBlocks filter ≡ false → Number notOnBlocks
   unfolding stepChecks
@@ -60,25 +61,29 @@ module _ (n : ℕ) (l : Layout) (filter : Region) (step from to sigmas src dst :
       unfolding stepChecks
       no-step h = rw (a, eq-eqb src size s, eq-eqb dst size t, eq-eqb sigmas (blockRows l * blockColumns l) u, lt-ltb 2 step h)
 
-      pub no-rows : rowsFit l from to ≡ false → Number outOfRange
-      unfolding stepChecks
-      no-rows h = rw (a, eq-eqb src size s, eq-eqb dst size t, eq-eqb sigmas (blockRows l * blockColumns l) u, h) (go (ltb 2 step))
-        where
-          go : (k : Bool) → outOfRange ≡ cond (true && k) outOfRange outOfRange
-          go true = refl
-          go false = refl
+      module _ (h : step ≤ 2) where
+        pub no-flag : flagFits full ≡ false → Number outOfRange
+        unfolding stepChecks
+        no-flag f = rw (a, eq-eqb src size s, eq-eqb dst size t, eq-eqb sigmas (blockRows l * blockColumns l) u, le-ltb 2 step h, f)
 
-      pub all-held : step ≤ 2 → rowsFit l from to ≡ true → Number 0
-      unfolding stepChecks
-      all-held h r = rw (a, eq-eqb src size s, eq-eqb dst size t, eq-eqb sigmas (blockRows l * blockColumns l) u, le-ltb 2 step h, r)
+        module _ (f : flagFits full ≡ true) where
+          pub no-rows : rowsFit l from to ≡ false → Number outOfRange
+          unfolding stepChecks
+          no-rows r = rw (a, eq-eqb src size s, eq-eqb dst size t, eq-eqb sigmas (blockRows l * blockColumns l) u, le-ltb 2 step h, f, r)
+
+          pub all-held : rowsFit l from to ≡ true → Number 0
+          unfolding stepChecks
+          all-held r = rw (a, eq-eqb src size s, eq-eqb dst size t, eq-eqb sigmas (blockRows l * blockColumns l) u, le-ltb 2 step h, f, r)
 
 -- what the number 0 says
-zero-is : (a b c d : Bool) → cond (true && not a) notOnBlocks (cond (true && not b) wrongLength (cond (true && c) outOfRange (cond (true && not d) outOfRange 0))) ≡ 0 → (a ≡ true) × (b ≡ true) × (c ≡ false) × (d ≡ true)
-zero-is true true false true e = (refl, refl, refl, refl)
-zero-is true true false false e = absurd (omega arith)
-zero-is true true true d e = absurd (omega arith)
-zero-is true false c d e = absurd (omega arith)
-zero-is false b c d e = absurd (omega arith)
+zero-is : (a b c d f : Bool) → cond (true && not a) notOnBlocks (cond (true && not b) wrongLength (cond (true && c) outOfRange (cond (true && not f) outOfRange (cond (f && not d) outOfRange 0)))) ≡ 0
+    → (a ≡ true) × (b ≡ true) × (c ≡ false) × (d ≡ true)
+zero-is true true false true true e = (refl, refl, refl, refl)
+zero-is true true false false true e = absurd (omega arith)
+zero-is true true false d false e = absurd (omega arith)
+zero-is true true true d f e = absurd (omega arith)
+zero-is true false c d f e = absurd (omega arith)
+zero-is false b c d f e = absurd (omega arith)
 
 pub record StepFits (n : ℕ) (l : Layout) (step from to sigmas src dst : ℕ) : Type 0 where
   pub source : src ≡ n * l .image .height * l .image .width
@@ -88,14 +93,14 @@ pub record StepFits (n : ℕ) (l : Layout) (step from to sigmas src dst : ℕ) :
   pub order : from ≤ to
   pub rows : to ≤ resultHeight l
 
-pub step-fits : (n : ℕ) (l : Layout) (filter : Region) (step from to sigmas src dst : ℕ) → firstOf (stepChecks n l filter step from to sigmas src dst) ≡ 0 → StepFits n l step from to sigmas src dst
+pub step-fits : (n : ℕ) (l : Layout) (filter : Region) (full step from to sigmas src dst : ℕ) → firstOf (stepChecks n l filter full step from to sigmas src dst) ≡ 0 → StepFits n l step from to sigmas src dst
 unfolding stepChecks
-step-fits n l filter step from to sigmas src dst e =
+step-fits n l filter full step from to sigmas src dst e =
     let size = n * l .image .height * l .image .width in
     let p = eqb src size in
     let q = eqb dst size in
     let r = eqb sigmas (blockRows l * blockColumns l) in
-    let z = zero-is (onBlocks filter) (p && (q && r)) (ltb 2 step) (rowsFit l from to) e in
+    let z = zero-is (onBlocks filter) (p && (q && r)) (ltb 2 step) (rowsFit l from to) (flagFits full) e in
     let qr = and-second p (q && r) (z .1) in
     record {
       source = eqb-true _ _ (and-first p (q && r) (z .1));
@@ -128,25 +133,25 @@ pub band-passed : (l : Layout) (n from to f t : ℕ) (p : Picture) (src dst a b 
 band-passed l n from to f t p src dst a b fits e u v h = passed-over l n from to src dst fits p b (h ∙ rw (e, fits-copied l n from to src dst fits, u, v))
 
 -- ---- the whole table; a is the answer of `layout_of`
-module _ (image filter : Region) (full : Bool) (s : EpfStep) (sigmas : List Float) (from to : ℕ) (src dst : List Float) (a : LayoutAnswer) (e : a ≡ layoutOutcome image filter full) where
+module _ (image filter : Region) (full : ℕ) (s : EpfStep) (sigmas : List Float) (from to : ℕ) (src dst : List Float) (a : LayoutAnswer) (e : a ≡ layoutOutcome image filter (flagSet full)) where
   abbrev Outcome : ℕ → List Float → Type 0
   Outcome k d = _≡_ {A = PassOutcome} (record { number = k; target = d }) (epfOutcome image filter full s sigmas from to src dst)
 
   pub not-placed : (a .number ≡ 0 → ⊥) → Outcome (a .number) dst
   unfolding epfOutcome epfChecks
-  not-placed h = pass-refused (a .number) _ _ dst (placed-or (pictured image) (pictured filter) (inside image filter) (a .number) _ (answer-number image filter full a e) h) h
+  not-placed h = pass-refused (a .number) _ _ dst (placed-or (pictured image) (pictured filter) (inside image filter) (a .number) _ (answer-number image filter (flagSet full) a e) h) h
 
   module _ (z : a .number ≡ 0) where
     ok : firstOf (placedChecks image filter) ≡ 0
-    ok = sym (answer-number image filter full a e) ∙ z
+    ok = sym (answer-number image filter (flagSet full) a e) ∙ z
 
-    l-is : a .layout ≡ layoutOf image filter full
-    l-is = answer-layout image filter full a e z
+    l-is : a .layout ≡ layoutOf image filter (flagSet full)
+    l-is = answer-layout image filter (flagSet full) a e z
 
     pub layout-held : Accepted (a .layout)
-    layout-held = rw l-is (layout-accepted image filter full ok)
+    layout-held = rw l-is (layout-accepted image filter (flagSet full) ok)
 
-    module _ (k : ℕ) (p : k ≡ firstOf (stepChecks 3 (a .layout) filter (s .step) from to (length sigmas) (length src) (length dst))) where
+    module _ (k : ℕ) (p : k ≡ firstOf (stepChecks 3 (a .layout) filter full (s .step) from to (length sigmas) (length src) (length dst))) where
       number-is : k ≡ firstOf (epfChecks image filter full s sigmas from to src dst)
       unfolding epfChecks
       number-is = rw l-is at p ∙ then (pictured image) (pictured filter) (inside image filter) _ ok

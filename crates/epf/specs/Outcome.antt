@@ -1,12 +1,13 @@
 -- The outcome of an edge-preserving step over rows of its result, for every input: three planes, numbers of document 01. Definitions only; Fits.antt has their laws.
-use mathlib.Core.Bool.{Bool, _&&_, not}
+use mathlib.Core.Bool.{_&&_, not}
 use mathlib.Core.List.{List, [], _∷_, _++_}
 use Prim.Native.Nat.{ℕ, _*_}
 use lib.Dec.{eqb, ltb}
 use lib.ListN.{length}
 use lib.Ieee.{Float}
 use Rattle.numbers.specs.Numbers.{notOnBlocks, wrongLength, outOfRange}
-use Rattle.numbers.specs.Checks.{Check, always, firstOf}
+use Rattle.numbers.specs.Checks.{Check, always, given, firstOf}
+use Rattle.numbers.specs.Flags.{flagFits, flagSet}
 use Rattle.region.specs.declared.Region.{Region}
 use Rattle.placement.specs.Placed.{placedChecks}
 use Rattle.planes.specs.declared.Layout.{Layout}
@@ -26,20 +27,23 @@ settingsOf n s = record { step = s .step; limit = standardLimit; scales = scaled
 abbrev pub epfOver : ℕ → Layout → EpfStep → ℕ → List Float → List Float → Picture
 epfOver n l s top sigmas src = epfPass (settingsOf n s) (l .width) (l .height) top (sigmaOf (blockColumns l) sigmas) (inner l src)
 
--- Which number a placed filter region gives (document 01): 6 for its corner, 7 for the two sets and the sigmas, 9 for the step and the rows.
-unfoldable pub stepChecks : ℕ → Layout → Region → ℕ → ℕ → ℕ → ℕ → ℕ → ℕ → List Check
-stepChecks n l filter step from to sigmas src dst =
+-- Which number a placed filter region gives (document 01): 6 for its corner, 7 for the two sets and the sigmas, 9 for the step, for the flag that says
+-- whether the result is the full planes, and for the rows, which need it.
+unfoldable pub stepChecks : ℕ → Layout → Region → ℕ → ℕ → ℕ → ℕ → ℕ → ℕ → ℕ → List Check
+stepChecks n l filter full step from to sigmas src dst =
     always notOnBlocks (not (onBlocks filter))
     ∷ always wrongLength (not (eqb src (n * l .image .height * l .image .width) && (eqb dst (n * l .image .height * l .image .width) && eqb sigmas (blockRows l * blockColumns l))))
     ∷ always outOfRange (ltb 2 step)
-    ∷ always outOfRange (not (rowsFit l from to)) ∷ []
+    ∷ always outOfRange (not (flagFits full))
+    ∷ given (flagFits full) outOfRange (not (rowsFit l from to)) ∷ []
 
 -- 4 and 5, then those
-unfoldable pub epfChecks : Region → Region → Bool → EpfStep → List Float → ℕ → ℕ → List Float → List Float → List Check
-epfChecks image filter full s sigmas from to src dst = placedChecks image filter ++ stepChecks 3 (layoutOf image filter full) filter (s .step) from to (length sigmas) (length src) (length dst)
+unfoldable pub epfChecks : Region → Region → ℕ → EpfStep → List Float → ℕ → ℕ → List Float → List Float → List Check
+epfChecks image filter full s sigmas from to src dst =
+    placedChecks image filter ++ stepChecks 3 (layoutOf image filter (flagSet full)) filter full (s .step) from to (length sigmas) (length src) (length dst)
 
 -- a refused step leaves dst; an accepted one leaves its samples in the rows from `from` up to `to` of the result, and what it read outside the filter region
-unfoldable pub epfOutcome : Region → Region → Bool → EpfStep → List Float → ℕ → ℕ → List Float → List Float → PassOutcome
+unfoldable pub epfOutcome : Region → Region → ℕ → EpfStep → List Float → ℕ → ℕ → List Float → List Float → PassOutcome
 epfOutcome image filter full s sigmas from to src dst =
     passOutcome (firstOf (epfChecks image filter full s sigmas from to src dst))
-    (passed 3 (layoutOf image filter full) from to (epfOver 3 (layoutOf image filter full) s (ahead (filter .top)) sigmas src) src dst) dst
+    (passed 3 (layoutOf image filter (flagSet full)) from to (epfOver 3 (layoutOf image filter (flagSet full)) s (ahead (filter .top)) sigmas src) src dst) dst

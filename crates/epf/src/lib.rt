@@ -4,6 +4,8 @@ use numbers::ACCEPTED;
 use numbers::NOT_ON_BLOCKS;
 use numbers::OUT_OF_RANGE;
 use numbers::WRONG_LENGTH;
+use numbers::flag_fits;
+use numbers::flag_set;
 use outside::copy_outside;
 use placement::ahead;
 use placement::on_blocks;
@@ -12,7 +14,7 @@ use planes::filter_row;
 use planes::rows_fit;
 use region::Region;
 use tiles::Step;
-use tiles::region::filter_region;
+use tiles::strips::filter_region;
 ghost use mathlib.Core.Path.{_≡_};
 ghost use Prim.Native.Nat.{_≤_};
 ghost use lib.ListN.{length};
@@ -43,10 +45,11 @@ pub struct EpfStep {
     pub border_sad_mul: f32,
 }
 
-// Which number the corner, the lengths, the step and the rows give.
+// Which number the corner, the lengths, the step, the flag and the rows give.
 fn judged(
     l: Layout,
     filter: Region,
+    preserve_outside: u32,
     step: usize,
     from: usize,
     to: usize,
@@ -55,7 +58,7 @@ fn judged(
     dst: usize,
 ) -> u32
     requires { ⌜ LayoutFits l ⌝ }
-    ensures { λ r. ⌜ r ≡ firstOf (stepChecks 3 l filter step from to sigmas src dst) ⌝ }
+    ensures { λ r. ⌜ r ≡ firstOf (stepChecks 3 l filter «preserve_outside» step from to sigmas src dst) ⌝ }
 {
     if !on_blocks(filter) {
         return NOT_ON_BLOCKS;
@@ -71,6 +74,9 @@ fn judged(
         return WRONG_LENGTH;
     }
     if LAST_STEP < step {
+        return OUT_OF_RANGE;
+    }
+    if !flag_fits(preserve_outside) {
         return OUT_OF_RANGE;
     }
     if !rows_fit(l, from, to) {
@@ -114,12 +120,12 @@ fn epf_band(
     filter_region(dst, src, l, n, s, sigmas, top, first, last);
 }
 
-// Rows `from` up to `to` of the result, which is the full planes (`preserve_outside`) or the filter region alone: reads `src` and writes `dst`,
-// sets of three planes. There is a sigma for each block of the filter region, row of blocks after row of blocks; any floats are taken.
+// Rows `from` up to `to` of the result, which is the full planes (`preserve_outside` 1) or the filter region alone (0): reads `src` and writes
+// `dst`, sets of three planes. There is a sigma for each block of the filter region, row of blocks after row of blocks; any floats are taken.
 pub fn epf_pass(
     image: Region,
     filter: Region,
-    preserve_outside: bool,
+    preserve_outside: u32,
     s: EpfStep,
     sigmas: &[f32],
     from: u32,
@@ -129,7 +135,7 @@ pub fn epf_pass(
 ) -> u32
     ensures { λ r. ⌜ _≡_ {A = PassOutcome} (record { number = r; target = now (dst .exit) }) (epfOutcome image filter «preserve_outside» s (now (sigmas .entry)) from to (now (src .entry)) (now (dst .entry))) ⌝ }
 {
-    let answer = layout_of(image, filter, preserve_outside);
+    let answer = layout_of(image, filter, flag_set(preserve_outside));
     let placed = answer.number;
     if placed != ACCEPTED {
         return placed;
@@ -141,6 +147,7 @@ pub fn epf_pass(
     let number = judged(
         l,
         filter,
+        preserve_outside,
         step,
         first,
         last,

@@ -9,7 +9,6 @@ use epf_sigma::EpfSigma;
 use epf_sigma::Sigma;
 use epf_sigma::read_half_if;
 use epf_sigma::read_sigma;
-use epf_tables::Place;
 use epf_tables::read_channel_scale;
 use epf_tables::read_sharp_lut;
 use half::Half;
@@ -120,24 +119,25 @@ fn epf_settings(
 fn epf_parameters(bytes: &[u8], at: usize, encoding: Encoding, iters: u32) -> EpfAnswer
     ensures { λ r. ⌜ r ≡ epfAnswer (read (parameterFields encoding iters) (now (bytes .entry)) at) ⌝ }
 {
-    let mut sharp_lut = SHARP_LUT;
-    match read_sharp_lut(bytes, at, is_var_dct(encoding), &mut sharp_lut) {
-        Place::Next(at) => {
-            let mut channel_scale = CHANNEL_SCALE;
-            match read_channel_scale(bytes, at, &mut channel_scale) {
-                Place::Next(at) => epf_settings(
-                    bytes,
-                    at,
-                    encoding,
-                    iters,
-                    sharp_lut,
-                    channel_scale,
-                ),
-                Place::Refused(number) => epf_refused(number),
-            }
-        }
-        Place::Refused(number) => epf_refused(number),
+    let sharp = read_sharp_lut(bytes, at, is_var_dct(encoding), SHARP_LUT);
+    if sharp.number != numbers::ACCEPTED {
+        return epf_refused(sharp.number);
     }
+    let after = sharp.next;
+    let channels = read_channel_scale(bytes, after, CHANNEL_SCALE);
+    if channels.number != numbers::ACCEPTED {
+        return epf_refused(channels.number);
+    }
+    let sharp_lut = sharp.lut;
+    let channel_scale = channels.scale;
+    epf_settings(
+        bytes,
+        channels.next,
+        encoding,
+        iters,
+        sharp_lut,
+        channel_scale,
+    )
 }
 
 impl EdgePreservingFilter {

@@ -1,16 +1,11 @@
--- The rows of the bundle that fill in an array: each has its defaults, and says whether the header has its own.
+-- The rows of the bundle that fill in an array (document 01, "Header bits"): each has its defaults, and says whether the header has its own.
 use mathlib.Core.Bool.{Bool, true}
-use mathlib.Core.List.{List}
+use mathlib.Core.List.{List, [], _∷_}
 use lib.Ieee.{Float}
-use Rattle.bits.specs.Outcome.{Outcome, accepted, refused}
-use Rattle.fields.specs.Fields.{Fields, bits, halves, bundle, yes}
-use Rattle.epf_tables.specs.declared.Place.{Place}
-use Rattle.epf_tables.specs.declared.Place.the-variants as place
-
--- a place, beside the values that were filled in on the way to it
-abbrev pub placeOutcome : Place → List Float → Outcome (List Float)
-placeOutcome (place.Next next) values = accepted values next
-placeOutcome (place.Refused n) values = refused n
+use Rattle.bits.specs.Outcome.{Outcome, number, value, next}
+use Rattle.fields.specs.Fields.{Fields, bits, halves, bundle, yes, none}
+use Rattle.epf_tables.specs.declared.SharpLut.{SharpLut}
+use Rattle.epf_tables.specs.declared.ChannelScale.{ChannelScale}
 
 -- `present`: the custom bit is there
 unfoldable pub sharpFields : Bool → List Float → Fields (List Float)
@@ -29,3 +24,10 @@ unfoldable pub scaleFields : List Float → Fields (List Float)
 scaleFields defaults =
     bits true 1 0 λ custom.
     customScaleFields (yes custom) defaults
+
+-- number, array and next place; a refusal has 0 in all fields
+abbrev pub sharpAnswer : Outcome (List Float) → SharpLut
+sharpAnswer o = record { number = number o; lut = value (none ∷ none ∷ none ∷ none ∷ none ∷ none ∷ none ∷ none ∷ []) o; next = next o }
+
+abbrev pub scaleAnswer : Outcome (List Float) → ChannelScale
+scaleAnswer o = record { number = number o; scale = value (none ∷ none ∷ none ∷ []) o; next = next o }

@@ -2,14 +2,28 @@
 ghost use mathlib.Core.Path.{_≡_};
 ghost use mathlib.Core.Bool.{true};
 ghost use lib.ListN.{length};
+ghost use Rattle.bits.specs.Outcome.{refused};
 ghost use Rattle.bits.specs.Bits.{u, bitsOutcome};
 ghost use Rattle.fields.specs.Fields.{ifThere, read, f16s};
-ghost use Rattle.epf_tables.specs.Tables.{placeOutcome, sharpFields, customScaleFields, scaleFields};
+ghost use Rattle.epf_tables.specs.Tables.{sharpFields, sharpAnswer, customScaleFields, scaleFields, scaleAnswer};
+ghost use Rattle.epf_tables.specs.Place.{placeOutcome};
 use bits::Bits;
 use half::Half;
 
+pub struct SharpLut {
+    pub number: u32,
+    pub lut: [f32; 8],
+    pub next: usize,
+}
+
+pub struct ChannelScale {
+    pub number: u32,
+    pub scale: [f32; 3],
+    pub next: usize,
+}
+
 // Where a reading that fills in values ends.
-pub enum Place {
+enum Place {
     Next(usize),
     Refused(u32),
 }
@@ -42,47 +56,97 @@ fn read_halves(bytes: &[u8], at: usize, out: &mut [f32]) -> Place
     Place::Next(next)
 }
 
-// The sharpness table: left as it is unless the header, where `present` says that it may, has its own.
-pub fn read_sharp_lut(bytes: &[u8], at: usize, present: bool, lut: &mut [f32]) -> Place
-    ensures { λ r. ⌜ placeOutcome r (now (lut .exit)) ≡ read (sharpFields present (now (lut .entry))) (now (bytes .entry)) at ⌝ }
+fn refused_lut(number: u32) -> SharpLut
+    ensures { λ r. ⌜ r ≡ sharpAnswer (refused number) ⌝ }
+{
+    let lut = [0.0; 8];
+    SharpLut {
+        number,
+        lut,
+        next: 0,
+    }
+}
+
+// The header's own table, which has the room of the defaults.
+fn read_own_lut(bytes: &[u8], at: usize, defaults: [f32; 8]) -> SharpLut
+    ensures { λ r. ⌜ r ≡ sharpAnswer (f16s (length defaults) (now (bytes .entry)) at) ⌝ }
+{
+    let mut lut = defaults;
+    match read_halves(bytes, at, &mut lut) {
+        Place::Next(next) => SharpLut {
+            number: numbers::ACCEPTED,
+            lut,
+            next,
+        },
+        Place::Refused(number) => refused_lut(number),
+    }
+}
+
+// The sharpness table: the defaults unless the header, where `present` says that it may, has its own.
+pub fn read_sharp_lut(bytes: &[u8], at: usize, present: bool, defaults: [f32; 8]) -> SharpLut
+    ensures { λ r. ⌜ r ≡ sharpAnswer (read (sharpFields present defaults) (now (bytes .entry)) at) ⌝ }
 {
     match read_u1_if(bytes, at, present) {
         Bits::Value(custom, next) => {
             if custom == 0 {
-                Place::Next(next)
+                SharpLut {
+                    number: numbers::ACCEPTED,
+                    lut: defaults,
+                    next,
+                }
             } else {
-                read_halves(bytes, next, lut)
+                read_own_lut(bytes, next, defaults)
             }
         }
-        Bits::Refused(number) => Place::Refused(number),
+        Bits::Refused(number) => refused_lut(number),
     }
 }
 
-// The scales and the 32 bits after them, which are ignored.
-fn read_custom_scale(bytes: &[u8], at: usize, scale: &mut [f32]) -> Place
-    ensures { λ r. ⌜ placeOutcome r (now (scale .exit)) ≡ read (customScaleFields true (now (scale .entry))) (now (bytes .entry)) at ⌝ }
+fn refused_scale(number: u32) -> ChannelScale
+    ensures { λ r. ⌜ r ≡ scaleAnswer (refused number) ⌝ }
 {
-    match read_halves(bytes, at, scale) {
-        Place::Next(at) => match bits::read_u32(bytes, at) {
-            Bits::Value(_, next) => Place::Next(next),
-            Bits::Refused(number) => Place::Refused(number),
-        },
-        Place::Refused(number) => Place::Refused(number),
+    let scale = [0.0; 3];
+    ChannelScale {
+        number,
+        scale,
+        next: 0,
     }
 }
 
-// The channel scales: left as they are unless the header has its own.
-pub fn read_channel_scale(bytes: &[u8], at: usize, scale: &mut [f32]) -> Place
-    ensures { λ r. ⌜ placeOutcome r (now (scale .exit)) ≡ read (scaleFields (now (scale .entry))) (now (bytes .entry)) at ⌝ }
+// The header's own scales and the 32 bits after them, which are ignored.
+fn read_own_scale(bytes: &[u8], at: usize, defaults: [f32; 3]) -> ChannelScale
+    ensures { λ r. ⌜ r ≡ scaleAnswer (read (customScaleFields true defaults) (now (bytes .entry)) at) ⌝ }
+{
+    let mut scale = defaults;
+    match read_halves(bytes, at, &mut scale) {
+        Place::Next(at) => match bits::read_u32(bytes, at) {
+            Bits::Value(_, after) => ChannelScale {
+                number: numbers::ACCEPTED,
+                scale,
+                next: after,
+            },
+            Bits::Refused(number) => refused_scale(number),
+        },
+        Place::Refused(number) => refused_scale(number),
+    }
+}
+
+// The channel scales: the defaults unless the header has its own.
+pub fn read_channel_scale(bytes: &[u8], at: usize, defaults: [f32; 3]) -> ChannelScale
+    ensures { λ r. ⌜ r ≡ scaleAnswer (read (scaleFields defaults) (now (bytes .entry)) at) ⌝ }
 {
     match bits::read_u1(bytes, at) {
         Bits::Value(custom, next) => {
             if custom == 0 {
-                Place::Next(next)
+                ChannelScale {
+                    number: numbers::ACCEPTED,
+                    scale: defaults,
+                    next,
+                }
             } else {
-                read_custom_scale(bytes, next, scale)
+                read_own_scale(bytes, next, defaults)
             }
         }
-        Bits::Refused(number) => Place::Refused(number),
+        Bits::Refused(number) => refused_scale(number),
     }
 }

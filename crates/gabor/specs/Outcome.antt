@@ -1,9 +1,9 @@
 -- The outcome of the Gabor-like pass over rows of its result, for every input (document 01, "Gabor pass", "Eleven numbers"). Definitions only; Fits.antt has its laws.
-use mathlib.Core.Bool.{Bool}
 use mathlib.Core.List.{List}
 use Prim.Native.Nat.{ℕ}
 use lib.Ieee.{Float}
 use Rattle.numbers.specs.Checks.{firstOf}
+use Rattle.numbers.specs.Flags.{flagSet}
 use Rattle.region.specs.declared.Region.{Region}
 use Rattle.planes.specs.declared.Layout.{Layout}
 use Rattle.planes.specs.Band.{inner, passed}
@@ -15,6 +15,6 @@ abbrev pub gaborPassed : ℕ → Layout → List (List Float) → ℕ → ℕ �
 gaborPassed n l ws from to src dst = passed n l from to (gaborPass ws (l .width) (l .height) (inner l src)) src dst
 
 -- three planes; the number is 4, 5, 7 or 9, the first that applies, and a refused pass leaves dst
-unfoldable pub gaborOutcome : Region → Region → Bool → List (List Float) → ℕ → ℕ → List Float → List Float → PassOutcome
+unfoldable pub gaborOutcome : Region → Region → ℕ → List (List Float) → ℕ → ℕ → List Float → List Float → PassOutcome
 gaborOutcome image filter full ws from to src dst =
-    passOutcome (firstOf (passChecks image filter full 3 from to src dst)) (gaborPassed 3 (layoutOf image filter full) ws from to src dst) dst
+    passOutcome (firstOf (passChecks image filter full 3 from to src dst)) (gaborPassed 3 (layoutOf image filter (flagSet full)) ws from to src dst) dst

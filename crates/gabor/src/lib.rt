@@ -5,6 +5,8 @@ use layout::layout_of;
 use numbers::ACCEPTED;
 use numbers::OUT_OF_RANGE;
 use numbers::WRONG_LENGTH;
+use numbers::flag_fits;
+use numbers::flag_set;
 use pass::gabor_band;
 use planes::rows_fit;
 use planes::set_fits;
@@ -15,12 +17,12 @@ ghost use Rattle.gabor.specs.Outcome.{gaborOutcome};
 
 const PLANES: usize = 3;
 
-// Rows `from` up to `to` of the result, which is the full planes (`preserve_outside`) or the filter region alone: reads `src` and writes `dst`,
-// sets of three planes. Weights are of the side neighbours and of the diagonal ones, a pair a channel; any floats are taken.
+// Rows `from` up to `to` of the result, which is the full planes (`preserve_outside` 1) or the filter region alone (0): reads `src` and writes
+// `dst`, sets of three planes. Weights are of the side neighbours and of the diagonal ones, a pair a channel; any floats are taken.
 pub fn gabor_pass(
     image: Region,
     filter: Region,
-    preserve_outside: bool,
+    preserve_outside: u32,
     weights: [[f32; 2]; 3],
     from: u32,
     to: u32,
@@ -29,7 +31,7 @@ pub fn gabor_pass(
 ) -> u32
     ensures { λ r. ⌜ _≡_ {A = PassOutcome} (record { number = r; target = now (dst .exit) }) (gaborOutcome image filter «preserve_outside» weights from to (now (src .entry)) (now (dst .entry))) ⌝ }
 {
-    let answer = layout_of(image, filter, preserve_outside);
+    let answer = layout_of(image, filter, flag_set(preserve_outside));
     let number = answer.number;
     if number != ACCEPTED {
         return number;
@@ -40,6 +42,9 @@ pub fn gabor_pass(
     }
     if !set_fits(l, PLANES, dst.len()) {
         return WRONG_LENGTH;
+    }
+    if !flag_fits(preserve_outside) {
+        return OUT_OF_RANGE;
     }
     if !rows_fit(l, from as usize, to as usize) {
         return OUT_OF_RANGE;

@@ -4,4 +4,5 @@ pub mod Formula
 pub mod Gabor
 pub mod Nine
 pub mod Mirrored
+pub mod Exact
 pub mod Local

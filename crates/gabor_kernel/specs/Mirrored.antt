@@ -1,4 +1,4 @@
--- The formulas beside the standard's mirrored 3 × 3 kernel, in exact arithmetic: each read with its coefficient.
+-- The standard's rule for the Gabor-like filter (ISO/IEC 18181-1): a mirrored 3 × 3 kernel. The sixteen formulas beside it, in exact arithmetic: each read with its coefficient.
 use mathlib.Core.Path.{_≡_}
 use mathlib.Core.Bool.{Bool, false, cond, _&&_}
 use mathlib.Core.List.{List, [], _∷_, _++_, map}

@@ -6,6 +6,7 @@ use Prim.Native.Nat.{ℕ}
 use lib.Dec.{eqb}
 use lib.Ieee.{Float}
 use Rattle.numbers.specs.Numbers.{accepted, outOfMeasure, wrongLength, blockNotHeld, outOfRange}
+use Rattle.numbers.specs.Flags.{flagFits, flagSet}
 use Rattle.frame.specs.declared.Frame.{Frame}
 use Rattle.blocks.specs.declared.Blocks.{Blocks}
 use Rattle.grids.specs.Table.{badGrid, badPresence}
@@ -14,7 +15,11 @@ use Rattle.groups.specs.Outcome.{tableFits, someGroup, gridsFit, sigmaCo
 use Rattle.blocks.specs.Measures.{badBlocks}
 use Rattle.groups.specs.Held.{someNotHeld}
 
-module _ (on : Bool) (f : Frame) (b : Blocks) (t : List ℕ) (grids : List Float) (n : ℕ) where
+module _ (on : ℕ) (f : Frame) (b : Blocks) (t : List ℕ) (grids : List Float) (n : ℕ) where
+  -- the count of sigmas is judged by a flag in range
+  abbrev pub wrongCount : Bool
+  wrongCount = flagFits on && not (eqb n (sigmaCount (flagSet on) b))
+
   pub sides-out : badSides f ≡ true → outOfMeasure ≡ sigmaNumber on f b t grids n
   sides-out s = rw s
 
@@ -23,10 +28,10 @@ module _ (on : Bool) (f : Frame) (b : Blocks) (t : List ℕ) (grids : List Float
 
   -- settings out of range: only the count of sigmas is judged
   module _ (s : badSides f ≡ false) (k : badBlocks b ≡ false) (q : badSettings f ≡ true) where
-    pub count-wrong : eqb n (sigmaCount on b) ≡ false → wrongLength ≡ sigmaNumber on f b t grids n
+    pub count-wrong : wrongCount ≡ true → wrongLength ≡ sigmaNumber on f b t grids n
     count-wrong c = rw (s, k, q, c)
 
-    pub settings-out : eqb n (sigmaCount on b) ≡ true → outOfRange ≡ sigmaNumber on f b t grids n
+    pub settings-out : wrongCount ≡ false → outOfRange ≡ sigmaNumber on f b t grids n
     settings-out c = rw (s, k, q, c)
 
   module _ (s : badSides f ≡ false) (k : badBlocks b ≡ false) (q : badSettings f ≡ false) where
@@ -42,16 +47,20 @@ module _ (on : Bool) (f : Frame) (b : Blocks) (t : List ℕ) (grids : List Float
         grids-wrong w = rw (s, k, q, l, g, w)
 
         module _ (w : (not (someGroup f (badPresence t)) && not (gridsFit f t grids)) ≡ false) where
-          pub sigmas-wrong : eqb n (sigmaCount on b) ≡ false → wrongLength ≡ sigmaNumber on f b t grids n
+          pub sigmas-wrong : wrongCount ≡ true → wrongLength ≡ sigmaNumber on f b t grids n
           sigmas-wrong c = rw (s, k, q, l, g, w, c)
 
-          module _ (c : eqb n (sigmaCount on b) ≡ true) where
-            pub block-out : (on && someNotHeld f b t) ≡ true → blockNotHeld ≡ sigmaNumber on f b t grids n
+          module _ (c : wrongCount ≡ false) where
+            pub block-out : (flagSet on && someNotHeld f b t) ≡ true → blockNotHeld ≡ sigmaNumber on f b t grids n
             block-out h = rw (s, k, q, l, g, w, c, h)
 
-            module _ (h : (on && someNotHeld f b t) ≡ false) where
+            module _ (h : (flagSet on && someNotHeld f b t) ≡ false) where
               pub presence-out : someGroup f (badPresence t) ≡ true → outOfRange ≡ sigmaNumber on f b t grids n
               presence-out p = rw (s, k, q, l, g, w, c, h, p)
 
-              pub none-out : someGroup f (badPresence t) ≡ false → accepted ≡ sigmaNumber on f b t grids n
-              none-out p = rw (s, k, q, l, g, w, c, h, p)
+              module _ (p : someGroup f (badPresence t) ≡ false) where
+                pub flag-out : flagFits on ≡ false → outOfRange ≡ sigmaNumber on f b t grids n
+                flag-out o = rw (s, k, q, l, g, w, c, h, p, o)
+
+                pub none-out : flagFits on ≡ true → accepted ≡ sigmaNumber on f b t grids n
+                none-out o = rw (s, k, q, l, g, w, c, h, p, o)

@@ -18,6 +18,7 @@ use Rattle.frame.specs.Laws.{Sound, frame-sound, Bounded, sizes-bounded, split-
 use Rattle.frame.specs.Outcome.{badSides, badSettings, frameChecks, splitOutcome}
 use Rattle.numbers.specs.Numbers.{accepted, outOfMeasure, wrongLength, blockNotHeld, outOfRange}
 use Rattle.numbers.specs.Checks.{always, firstOf}
+use Rattle.numbers.specs.Flags.{flagFits, flagSet}
 use Rattle.blocks.specs.declared.Blocks.{Blocks}
 use Rattle.blocks.specs.Measures.{badBlocks}
 use Rattle.blocks.specs.Laws.{Measured, measured}
@@ -110,25 +111,27 @@ passed true k rest p e = absurd (omega arith)
 passed false k rest p e = (refl, e)
 
 -- What an acceptance says: the frame's and the filter region's numbers are in range, and lengths, grids and blocks fit.
-pub record Accepted (on : Bool) (f : Frame) (b : Blocks) (t : List ℕ) (grids : List Float) (n : ℕ) : Type 0 where
+pub record Accepted (on : ℕ) (f : Frame) (b : Blocks) (t : List ℕ) (grids : List Float) (n : ℕ) : Type 0 where
   pub frame-fits : firstOf (frameChecks f) ≡ accepted
   pub blocks : Measured b
   pub entries : length t ≡ 3 * sizesOf f .«num_groups»
   pub sides : someGroup f (badGrid t) ≡ false
   pub presences : someGroup f (badPresence t) ≡ false
   pub cells-are : length grids ≡ gridStart t (sizesOf f .«num_groups»)
-  pub count : n ≡ sigmaCount on b
-  pub held-all : on ≡ true → someNotHeld f b t ≡ false
+  pub flag : flagFits on ≡ true
+  pub count : n ≡ sigmaCount (flagSet on) b
+  pub held-all : flagSet on ≡ true → someNotHeld f b t ≡ false
 
-module _ (on : Bool) (f : Frame) (b : Blocks) (t : List ℕ) (grids : List Float) (n : ℕ) where
+module _ (on : ℕ) (f : Frame) (b : Blocks) (t : List ℕ) (grids : List Float) (n : ℕ) where
   -- from the tests, once table and settings are known to be read
   accepted-tests : badSides f ≡ false → badBlocks b ≡ false → badSettings f ≡ false → (tableRead f t && someGroup f (badGrid t)) ≡ false
       → (frameFits f && not (tableFits f t)) ≡ false → (tableRead f t && not (someGroup f (badPresence t)) && not (gridsFit f t grids)) ≡ false
-      → (not (badBlocks b) && not (eqb n (sigmaCount on b))) ≡ false → (tableRead f t && not (badBlocks b) && on && someNotHeld f b t) ≡ false
-      → (tableRead f t && someGroup f (badPresence t)) ≡ false → Accepted on f b t grids n
+      → (not (badBlocks b) && flagFits on && not (eqb n (sigmaCount (flagSet on) b))) ≡ false → (tableRead f t && not (badBlocks b) && flagSet on && someNotHeld f b t) ≡ false
+      → (tableRead f t && someGroup f (badPresence t)) ≡ false → not (flagFits on) ≡ false → Accepted on f b t grids n
   unfolding tableFits gridsFit
-  accepted-tests s k q g l c m h p =
+  accepted-tests s k q g l c m h p o =
       let fits : tableFits f t ≡ true = not-false (tableFits f t) (rw (s, q) at l) in
+      let flag : flagFits on ≡ true = not-false (flagFits on) o in
       let clear : someGroup f (badPresence t) ≡ false = rw (s, q, fits) at p in
       record {
         frame-fits = rw (s, q);
@@ -137,8 +140,9 @@ module _ (on : Bool) (f : Frame) (b : Blocks) (t : List ℕ) (grids : List Float
         sides = rw (s, q, fits) at g;
         presences = clear;
         cells-are = eqb-true (length grids) (gridStart t (sizesOf f .«num_groups»)) (not-false (gridsFit f t grids) (rw (s, q, fits, clear) at c));
-        count = eqb-true n (sigmaCount on b) (not-false (eqb n (sigmaCount on b)) (rw k at m));
-        held-all = λ o. rw (s, q, fits, k, o) at h;
+        flag = flag;
+        count = eqb-true n (sigmaCount (flagSet on) b) (not-false (eqb n (sigmaCount (flagSet on) b)) (rw (k, flag) at m));
+        held-all = λ y. rw (s, q, fits, k, y) at h;
       }
 
   pub accepted-fits : sigmaNumber on f b t grids n ≡ 0 → Accepted on f b t grids n
@@ -148,8 +152,9 @@ module _ (on : Bool) (f : Frame) (b : Blocks) (t : List ℕ) (grids : List Float
       let a3 = passed (tableRead f t && someGroup f (badGrid t)) outOfMeasure _ (omega arith) (a2 .1) in
       let a4 = passed (frameFits f && not (tableFits f t)) wrongLength _ (omega arith) (a3 .1) in
       let a5 = passed (tableRead f t && not (someGroup f (badPresence t)) && not (gridsFit f t grids)) wrongLength _ (omega arith) (a4 .1) in
-      let a6 = passed (not (badBlocks b) && not (eqb n (sigmaCount on b))) wrongLength _ (omega arith) (a5 .1) in
-      let a7 = passed (tableRead f t && not (badBlocks b) && on && someNotHeld f b t) blockNotHeld _ (omega arith) (a6 .1) in
+      let a6 = passed (not (badBlocks b) && flagFits on && not (eqb n (sigmaCount (flagSet on) b))) wrongLength _ (omega arith) (a5 .1) in
+      let a7 = passed (tableRead f t && not (badBlocks b) && flagSet on && someNotHeld f b t) blockNotHeld _ (omega arith) (a6 .1) in
       let a8 = passed (badSettings f) outOfRange _ (omega arith) (a7 .1) in
-      let a9 = passed (tableRead f t && someGroup f (badPresence t)) outOfRange 0 (omega arith) (a8 .1) in
-      accepted-tests (a1 .0) (a2 .0) (a8 .0) (a3 .0) (a4 .0) (a5 .0) (a6 .0) (a7 .0) (a9 .0)
+      let a9 = passed (tableRead f t && someGroup f (badPresence t)) outOfRange _ (omega arith) (a8 .1) in
+      let a10 = passed (not (flagFits on)) outOfRange 0 (omega arith) (a9 .1) in
+      accepted-tests (a1 .0) (a2 .0) (a8 .0) (a3 .0) (a4 .0) (a5 .0) (a6 .0) (a7 .0) (a9 .0) (a10 .0)

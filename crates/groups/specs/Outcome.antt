@@ -7,6 +7,7 @@ use lib.ListN.{length}
 use lib.Ieee.{Float}
 use Rattle.numbers.specs.Numbers.{outOfMeasure, wrongLength, blockNotHeld, outOfRange}
 use Rattle.numbers.specs.Checks.{Check, always, given, firstOf}
+use Rattle.numbers.specs.Flags.{flagFits, flagSet}
 use Rattle.frame.specs.declared.Frame.{Frame}
 use Rattle.frame.specs.Sizes.{sizesOf}
 use Rattle.frame.specs.Outcome.{badSides, badSettings}
@@ -66,21 +67,23 @@ presences f t = given (tableRead f t) outOfRange (someGroup f (badPresence t))
 
 -- ---- the table of checks
 
--- Document 01, "Eleven numbers", "Measures" and "Block sigmas", ascending. With the edge filter off all is checked but 8.
+-- Document 01, "Eleven numbers", "Measures" and "Block sigmas", ascending. With the edge filter off all is checked but 8; whether it is on is a flag,
+-- which the count of sigmas and 8 need.
 -- A group whose presence is out of range counts as not present: its sides are passed over, and so is 8 for its grid.
-abbrev pub sigmaChecks : Bool → Frame → Blocks → List ℕ → List Float → ℕ → List Check
+abbrev pub sigmaChecks : ℕ → Frame → Blocks → List ℕ → List Float → ℕ → List Check
 sigmaChecks on f b t grids sigmas =
     frameSides f
     ∷ always outOfMeasure (badBlocks b)
     ∷ gridSides f t
     ∷ tableLength f t
     ∷ gridsLength f t grids
-    ∷ given (not (badBlocks b)) wrongLength (not (eqb sigmas (sigmaCount on b)))
-    ∷ given (tableRead f t && not (badBlocks b) && on) blockNotHeld (someNotHeld f b t)
+    ∷ given (not (badBlocks b) && flagFits on) wrongLength (not (eqb sigmas (sigmaCount (flagSet on) b)))
+    ∷ given (tableRead f t && not (badBlocks b) && flagSet on) blockNotHeld (someNotHeld f b t)
     ∷ frameSettings f
     ∷ presences f t
+    ∷ always outOfRange (not (flagFits on))
     ∷ []
 
 -- the number of the first check that applies
-abbrev pub sigmaNumber : Bool → Frame → Blocks → List ℕ → List Float → ℕ → ℕ
+abbrev pub sigmaNumber : ℕ → Frame → Blocks → List ℕ → List Float → ℕ → ℕ
 sigmaNumber on f b t grids sigmas = firstOf (sigmaChecks on f b t grids sigmas)

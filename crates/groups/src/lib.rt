@@ -7,6 +7,7 @@ ghost use mathlib.Core.Bool.{not, _&&_};
 ghost use Prim.Native.Nat.{ℕ, _+_, _*_, _≤_};
 ghost use lib.Dec.{eqb};
 ghost use lib.ListN.{length};
+ghost use Rattle.numbers.specs.Flags.{flagFits, flagSet};
 ghost use Rattle.grids.specs.Table.{badPresence, lacks, someBelow};
 ghost use Rattle.groups.specs.Held.{notHeld, someNotHeld};
 ghost use Rattle.blocks.specs.Laws.{Measured};
@@ -27,6 +28,17 @@ fn sigma_count(on: bool, blocks: Blocks) -> usize
     let across = blocks::blocks_along(blocks.width);
     let down = blocks::blocks_along(blocks.height);
     (down * across) as usize
+}
+
+// Whether there are not so many sigmas, which a flag out of range leaves open.
+fn wrong_count(on: u32, blocks: Blocks, sigmas: usize) -> bool
+    requires { ⌜ Measured blocks ⌝ }
+    ensures { λ r. ⌜ r ≡ (flagFits on && not (eqb sigmas (sigmaCount (flagSet on) blocks))) ⌝ }
+{
+    if !numbers::flag_fits(on) {
+        return false;
+    }
+    sigmas != sigma_count(numbers::flag_set(on), blocks)
 }
 
 fn bad_presence(table: &[u32], group: usize) -> bool
@@ -157,7 +169,7 @@ fn wrong_grids(faulty: bool, cells: usize, len: usize) -> bool
 
 // The number for a frame and a filter region whose own numbers are in range.
 fn check_table(
-    on: bool,
+    on: u32,
     frame: Frame,
     sizes: GroupSizes,
     blocks: Blocks,
@@ -180,13 +192,16 @@ fn check_table(
     if wrong_grids(bad_presence, end.start, grids.len()) {
         return numbers::WRONG_LENGTH;
     }
-    if sigmas_len != sigma_count(on, blocks) {
+    if wrong_count(on, blocks, sigmas_len) {
         return numbers::WRONG_LENGTH;
     }
-    if touched_not_held(on, frame, sizes, blocks, table) {
+    if touched_not_held(numbers::flag_set(on), frame, sizes, blocks, table) {
         return numbers::BLOCK_NOT_HELD;
     }
     if bad_presence {
+        return numbers::OUT_OF_RANGE;
+    }
+    if !numbers::flag_fits(on) {
         return numbers::OUT_OF_RANGE;
     }
     numbers::ACCEPTED
@@ -194,7 +209,7 @@ fn check_table(
 
 // The number that these inputs get from `block_sigmas` for so many sigmas.
 pub fn check(
-    on: bool,
+    on: u32,
     frame: Frame,
     blocks: Blocks,
     table: &[u32],
@@ -214,7 +229,7 @@ pub fn check(
         let sizes = answer.sizes;
         return check_table(on, frame, sizes, blocks, table, grids, sigmas_len);
     }
-    if sigmas_len != sigma_count(on, blocks) {
+    if wrong_count(on, blocks, sigmas_len) {
         return numbers::WRONG_LENGTH;
     }
     numbers::OUT_OF_RANGE

@@ -1,10 +1,10 @@
 -- One bundle after the other, told apart by the number of its answer. Assumes nothing.
-use Prim.Native.Nat.{ℕ, _<_}
+use Prim.Native.Nat.{ℕ}
 use mathlib.Core.Bool.{Bool, true, false, cond}
 use mathlib.Core.List.{List}
-use mathlib.Core.Path.{_≡_, refl, sym, ap, _∙_}
+use mathlib.Core.Path.{_≡_, sym, ap, _∙_}
 use native.Mathlib.Omega.{arith}
-use Rattle.bits.specs.Outcome.{Outcome, accepted, refused, number, value, next}
+use Rattle.bits.specs.Outcome.{accepted, refused}
 use Rattle.fields.specs.Fields.{bundle, nested, read, yes}
 use Rattle.gabor_channel.specs.Channel.{channelFields}
 use Rattle.gabor_header.specs.Gabor.{channelsFields, weightFields, gaborFields, gaborOff, gaborAnswer}
@@ -16,19 +16,8 @@ use Rattle.gabor_header.specs.declared.GaborAnswer.{GaborAnswer}
 use Rattle.epf_header.specs.declared.EdgePreservingFilter.{EdgePreservingFilter}
 use Rattle.epf_header.specs.declared.EpfAnswer.{EpfAnswer}
 use Rattle.fields.proofs.Rows.{read-nested}
-use Rattle.fields.proofs.Numbered.{Numbered, Told, read-told}
-
--- ---- an outcome from its number
-is-accepted : {A : Type 0} (z : A) (o : Outcome A) → Told o → number o ≡ 0 → o ≡ accepted (value z o) (next o)
-is-accepted z (accepted a q) h e = refl
-is-accepted z (refused n) h e = absurd (none n h e)
-  where
-    none : (n : ℕ) → 0 < n → n ≡ 0 → ⊥
-    none n h e = omega arith
-
-is-refused : {A : Type 0} (o : Outcome A) → (number o ≡ 0 → ⊥) → o ≡ refused (number o)
-is-refused (accepted a q) h = absurd (h refl)
-is-refused (refused n) h = refl
+use Rattle.fields.proofs.Numbered.{Numbered, read-told}
+use Rattle.epf_tables.proofs.Told.{is-accepted, is-refused}
 
 -- ---- the two tables
 numbered-gabor : Numbered gaborFields

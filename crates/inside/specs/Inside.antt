@@ -47,20 +47,21 @@ farAt src plane scales p q =
     b0 ⊕ getD scales 0 nan ⊗ (b0 ⊕ magnitude (getD src p nan ⊖ getD src q nan)) ⊕ getD scales 1 nan ⊗ (b0 ⊕ magnitude (getD src (p + plane) nan ⊖ getD src (q + plane) nan))
     ⊕ getD scales 2 nan ⊗ (b0 ⊕ magnitude (getD src (p + 2 * plane) nan ⊖ getD src (q + 2 * plane) nan))
 
+-- four weights, and 1 plus them
+abbrev pub withSum : Float → Float → Float → Float → Weights
+withSum up down left right = record { up = up; down = down; left = left; right = right; sum = b1 ⊕ up ⊕ down ⊕ left ⊕ right }
+
 -- the weights of the neighbours of the sample whose corner is k
 abbrev pub weightsOf : List Float → ℕ → ℕ → List Float → ℕ → Float → Weights
-weightsOf src stride plane scales k slope = record {
-  up = weightBy slope (farAt src plane scales (k + 1) (k + stride + 1));
-  down = weightBy slope (farAt src plane scales (k + 2 * stride + 1) (k + stride + 1));
-  left = weightBy slope (farAt src plane scales (k + stride) (k + stride + 1));
-  right = weightBy slope (farAt src plane scales (k + stride + 2) (k + stride + 1));
-}
+weightsOf src stride plane scales k slope =
+    withSum (weightBy slope (farAt src plane scales (k + 1) (k + stride + 1))) (weightBy slope (farAt src plane scales (k + 2 * stride + 1) (k + stride + 1)))
+    (weightBy slope (farAt src plane scales (k + stride) (k + stride + 1))) (weightBy slope (farAt src plane scales (k + stride + 2) (k + stride + 1)))
 
 -- the sample whose corner is k and its neighbours, weighted
 abbrev pub mixOf : List Float → ℕ → ℕ → Weights → Float
 mixOf src stride k w =
     (getD src (k + stride + 1) nan ⊕ w .up ⊗ getD src (k + 1) nan ⊕ w .down ⊗ getD src (k + 2 * stride + 1) nan ⊕ w .left ⊗ getD src (k + stride) nan ⊕ w .right ⊗ getD src (k + stride + 2) nan)
-    ⊘ (b1 ⊕ w .up ⊕ w .down ⊕ w .left ⊕ w .right)
+    ⊘ w .sum
 
 -- sample i of a row in channel c; k is the corner of the row's first, and slopes start at index `first`
 unfoldable pub laneIn : List Float → ℕ → ℕ → List Float → List Float → ℕ → ℕ → ℕ → ℕ → Float
@@ -143,7 +144,7 @@ module _ (scales : List Float) (sigma m : Float) (v : Around) (o u d l r : ℕ �
   unfolding farOf blend divisor weightAt distance apart along kernel dists scaledFrom
   crossed c = rw (eo 0, eo 1, eo 2, eu 0, eu 1, eu 2, ed 0, ed 1, ed 2, el 0, el 1, el 2, er 0, er 1, er 2, eo c, eu c, ed c, el c, er c)
 
-far-is : (src : List Float) (plane : ℕ) (scales : List Float) (p q : ℕ) → farAt src plane scales p q ≡ farOf scales (channel src plane p) (channel src plane q)
+pub far-is : (src : List Float) (plane : ℕ) (scales : List Float) (p q : ℕ) → farAt src plane scales p q ≡ farOf scales (channel src plane p) (channel src plane q)
 unfolding farOf channel
 far-is src plane scales p q =
     let a : p + 0 * plane ≡ p = omega arith in

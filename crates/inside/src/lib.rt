@@ -12,6 +12,7 @@ ghost use Prim.Native.Nat.{ℕ, _+_, _-_, _*_, _<_, _≤_};
 ghost use lib.ListN.{length};
 ghost use Rattle.rects.specs.Rects.{rectFilled, RectFits};
 ghost use Rattle.inside.specs.Inside.{farAt, weightsOf, mixOf, laneIn, threeFill, liesInside, Inside, insideOf, insideFilled};
+ghost use Rattle.inside.specs.Divisor.{ThreeScalesBounded};
 
 const PLANES: usize = 3;
 
@@ -20,12 +21,13 @@ const BLOCK: usize = 8;
 // Columns that have slopes.
 const COLUMNS: usize = 64;
 
-// The weights of a sample's neighbours.
+// The weights of a sample's neighbours, and the divisor: 1 plus the weights.
 struct Weights {
     up: f32,
     down: f32,
     left: f32,
     right: f32,
+    sum: f32,
 }
 
 // The distance between places p and q, over three planes.
@@ -39,7 +41,7 @@ fn distance(src: &[f32], plane: usize, scales: &[f32; PLANES], p: usize, q: usiz
     0.0 + scales[0] * d0 + scales[1] * d1 + scales[2] * d2
 }
 
-// The weights of the sample with this corner.
+// The weights of the sample with this corner; their divisor with its bounds.
 fn weights_at(
     src: &[f32],
     stride: usize,
@@ -49,17 +51,23 @@ fn weights_at(
     slope: f32,
 ) -> Weights
     requires { ⌜ (0 < stride) × (corner + 2 * stride + 1 + 2 * plane < length (now src)) ⌝ }
-    ensures { λ r. ⌜ r ≡ weightsOf (now (src .entry)) stride plane (now (scales .entry)) corner slope ⌝ }
+    ensures { λ r. ⌜ (r ≡ weightsOf (now (src .entry)) stride plane (now (scales .entry)) corner slope) × ThreeScalesBounded (now (scales .entry)) slope (r .sum) ⌝ }
 {
     let p = corner + stride + 1;
+    let up = weight(distance(src, plane, scales, corner + 1, p), slope);
+    let down = weight(
+        distance(src, plane, scales, corner + 2 * stride + 1, p),
+        slope,
+    );
+    let left = weight(distance(src, plane, scales, corner + stride, p), slope);
+    let right = weight(distance(src, plane, scales, corner + stride + 2, p), slope);
+    let sum = 1.0 + up + down + left + right;
     Weights {
-        up: weight(distance(src, plane, scales, corner + 1, p), slope),
-        down: weight(
-            distance(src, plane, scales, corner + 2 * stride + 1, p),
-            slope,
-        ),
-        left: weight(distance(src, plane, scales, corner + stride, p), slope),
-        right: weight(distance(src, plane, scales, corner + stride + 2, p), slope),
+        up,
+        down,
+        left,
+        right,
+        sum,
     }
 }
 
@@ -71,8 +79,8 @@ fn mix(src: &[f32], stride: usize, corner: usize, w: Weights) -> f32
     let upright = src[corner + stride + 1]
         + w.up * src[corner + 1]
         + w.down * src[corner + 2 * stride + 1];
-    let sum = upright + w.left * src[corner + stride] + w.right * src[corner + stride + 2];
-    sum / (1.0 + w.up + w.down + w.left + w.right)
+    let all = upright + w.left * src[corner + stride] + w.right * src[corner + stride + 2];
+    all / w.sum
 }
 
 // A row of n samples in each plane, with corners from `corner` on and slopes from `first` on.

@@ -28,13 +28,14 @@ use Rattle.sigma.specs.Sigma.{sigmaIn, frameSigma, aboveAt, blockSigma, blockSi
 use Rattle.layout.specs.Outcome.{layoutOf}
 use Rattle.passes.specs.Pass.{pass}
 use Rattle.passes.specs.Plan.{scaleOf, stepOf, steps, plan}
-use Rattle.setup.specs.Setup.{bandCount, sized, setupFits}
+use Rattle.setup.specs.Setup.{bandCount, sized, numbersFit, setupFits}
 use Rattle.record.specs.Record.{isDone, started, marked, bandMissing, strayDone, runFits}
 use Rattle.runs.specs.Band.{readsFirst, bandChecks, banded, bandOutcome, advanceOutcome}
 use Rattle.instances.specs.Instances.{bytesOf, Table}
+use Rattle.instances.proofs.Any.{copied-below, nan-sigma}
 
 pub table : Table
-unfolding ofBits lt add sub mul div mirror powerBelow place side regionOf shrunkBy alignedTo inside measured pictured regionAnswer u field valueOf halfOf f16 nested read nearZero channelFields channelsFields weightFields gaborFields bytesOf around of setOf tab inRect inFilter written inner passed stands evaluate formula alone gaborBy gaborPass magnitude kernel dists along scaledFrom apart distance positive weightBy copied weightAt blend divisor epf border multiplier epfPass sizesOf cells gridStart someBelow sigmaIn frameSigma aboveAt blockSigma blockSigmas layoutOf pass scaleOf stepOf steps plan bandCount sized setupFits isDone started marked bandMissing strayDone runFits readsFirst bandChecks banded bandOutcome advanceOutcome
+unfolding ofBits lt add sub mul div mirror powerBelow place side regionOf shrunkBy alignedTo inside measured pictured regionAnswer u field valueOf halfOf f16 nested read nearZero channelFields channelsFields weightFields gaborFields bytesOf around of setOf tab inRect inFilter written inner passed stands evaluate formula alone gaborBy gaborPass magnitude kernel dists along scaledFrom apart distance positive weightBy copied weightAt blend divisor epf border multiplier epfPass sizesOf cells gridStart someBelow sigmaIn frameSigma aboveAt blockSigma blockSigmas layoutOf pass scaleOf stepOf steps plan bandCount sized numbersFit setupFits isDone started marked bandMissing strayDone runFits readsFirst bandChecks banded bandOutcome advanceOutcome
 table = record {
   mirrorOfOne = refl;
   mirrorOfTwo = refl;
@@ -55,8 +56,8 @@ table = record {
   aligned = refl;
   impulse = refl;
   singleRow = refl;
-  copiedBelow = refl;
-  nanSigma = refl;
+  copiedBelow = copied-below;
+  nanSigma = nan-sigma;
   repeated = λ grids modular. (refl, refl);
   bandOnce = refl;
   bandTwice = refl;

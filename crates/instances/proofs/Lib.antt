@@ -1,1 +1,4 @@
+pub mod Any
 pub mod Instances
+pub mod Constants
+pub mod Limits

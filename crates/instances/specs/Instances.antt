@@ -22,23 +22,20 @@ use Rattle.planes.specs.Sets.{of, setOf, tab}
 use Rattle.gabor_kernel.specs.Gabor.{gaborPass}
 use Rattle.weights.specs.Steps.{kernel, dists, scaled, copied, standardLimit, epf, multiplier, EpfPass, epfPass}
 use Rattle.sigma.specs.Sigma.{blockSigmas}
+use Rattle.passes.specs.declared.GaborSettings.{GaborSettings}
+use Rattle.passes.specs.Plan.{oneIf}
 use Rattle.setup.specs.declared.Setup.{Setup}
 use Rattle.record.specs.Record.{started}
 use Rattle.runs.specs.Band.{State, bandOutcome, advanceOutcome}
+use Rattle.instances.specs.Any.{oneQuarter, CopiedBelow, NanSigma}
 
 -- ---- numbers that the rows use
 
--- 1/2 and 1/4
+-- 1/2
 abbrev oneHalf : Float
 oneHalf = bits 0x3f00_0000
 
-abbrev oneQuarter : Float
-oneQuarter = bits 0x3e80_0000
-
--- 5.0, 6.0, 12.0, 14.0 and 16.0
-abbrev b5 : Float
-b5 = bits 0x40a0_0000
-
+-- 6.0, 12.0, 14.0 and 16.0
 abbrev b6 : Float
 b6 = bits 0x40c0_0000
 
@@ -153,13 +150,17 @@ middleAs order step = summedAs order step (around 1 5 oneByFive 0 2)
 
 -- ---- runs over three planes of w columns and h rows, the filter region being all of them
 
+-- a bundle as settings have it
+abbrev settingsFrom : Gabor → GaborSettings
+settingsFrom g = record { enabled = oneIf (g .enabled); weights = g .weights }
+
 abbrev setupOf : ℕ → ℕ → Gabor → ℕ → ℕ → Setup
 setupOf w h gabor iters bandHeight = record {
   image = record { left = pos 0; top = pos 0; width = w; height = h };
   filter = record { left = pos 0; top = pos 0; width = w; height = h };
-  «preserve_outside» = true;
+  «preserve_outside» = 1;
   settings = record {
-    gabor = gabor;
+    gabor = settingsFrom gabor;
     epf = record {
       iters = iters;
       «channel_scale» = b1 ∷ b0 ∷ b0 ∷ [];
@@ -241,9 +242,9 @@ pub record Table : Type 0 where
   -- ★ weights 1/2, 1/4 on 0 0 0 / 0 16 0 / 0 0 0: 1 2 1 / 2 4 2 / 1 2 1; on the single row 0 16 0: 4 14 4
   pub impulse : smoothed 3 3 (b0 ∷ b0 ∷ b0 ∷ b0 ∷ b16 ∷ b0 ∷ b0 ∷ b0 ∷ b0 ∷ []) ≡ b1 ∷ b2 ∷ b1 ∷ b2 ∷ b4 ∷ b2 ∷ b1 ∷ b2 ∷ b1 ∷ []
   pub singleRow : smoothed 3 1 (b0 ∷ b16 ∷ b0 ∷ []) ≡ b4 ∷ b14 ∷ b4 ∷ []
-  -- ★ step 2, sigma 0.25: copied; sigma NaN, centre 5: 5
-  pub copiedBelow : stepped 2 oneQuarter 3 1 (b1 ∷ b5 ∷ b2 ∷ []) ≡ b1 ∷ b5 ∷ b2 ∷ []
-  pub nanSigma : stepped 2 nan 3 1 (b1 ∷ b5 ∷ b2 ∷ []) ≡ b1 ∷ b5 ∷ b2 ∷ []
+  -- ★ step 2, one block sigma 0.25: copied; sigma NaN, finite samples, centre 5: 5
+  pub copiedBelow : CopiedBelow
+  pub nanSigma : NanSigma
   -- group row 0 has grids, row 1 none: block row 128 repeats row 127
   pub repeated : (grids : List Float) (modular : Float) → (blockRow grids modular 127 ≡ getD grids 127 nan) × (blockRow grids modular 128 ≡ getD grids 127 nan)
   -- band 0 twice: 10; advance with band 1 missing: 11

@@ -18,6 +18,7 @@ ghost use Rattle.weights.specs.Steps.{kernel, weightBy};
 ghost use Rattle.distances.specs.Taps.{tapOf};
 ghost use Rattle.slopes.specs.Slopes.{firstSlope};
 ghost use Rattle.lanes.specs.Lanes.{weightOf, storedTo, laneOf, lanesOf, Weighed};
+ghost use Rattle.lanes.specs.Divisors.{DivisorsBounded};
 
 // Lanes that are computed, columns of a tile's row and samples of a tile's plane.
 const LANES: usize = 56;
@@ -74,7 +75,7 @@ fn weigh(
     }
 }
 
-// The weights of all neighbours of row r.
+// The weights of all neighbours of row r, and the divisors: 1 plus the weights, with their bounds.
 fn weigh_all(
     stored: &mut [f32; WEIGHTS],
     sum: &mut [f32; STRIDE],
@@ -85,7 +86,7 @@ fn weigh_all(
     first: usize,
 )
     requires { ⌜ (length (now stored) ≡ 768) × (length (now sum) ≡ 64) × (r < 8) × (first ≤ 64) ⌝ }
-    ensures { λ _. ⌜ Weighed (λ (i : ℕ) (q : ℕ). weightOf step (now (fields .entry)) (now (slopes .entry)) first r i q) (now (stored .exit)) (now (sum .exit)) (length (kernel step)) ⌝ }
+    ensures { λ _. ⌜ Weighed (λ (i : ℕ) (q : ℕ). weightOf step (now (fields .entry)) (now (slopes .entry)) first r i q) (now (stored .exit)) (now (sum .exit)) (length (kernel step)) × DivisorsBounded step (now (fields .entry)) (now (slopes .entry)) first r (now (sum .exit)) ⌝ }
 {
     ones(sum);
     let n = kernel_len(step);

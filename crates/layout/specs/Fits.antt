@@ -13,6 +13,7 @@ use lib.Ieee.Fits.{and-l, and-r}
 use lib.Signed.{leZ}
 use Rattle.numbers.specs.Numbers.{outOfMeasure, notInside, wrongLength, outOfRange}
 use Rattle.numbers.specs.Checks.{firstOf}
+use Rattle.numbers.specs.Flags.{flagFits, flagSet}
 use Rattle.overlap.specs.Overlap.{covers}
 use Rattle.interval.specs.Order.{le-to, sum-is, difference-is, size-is, ahead}
 use Rattle.region.specs.declared.Region.{Region}
@@ -99,38 +100,49 @@ not-both : (s : Bool) (m : ℕ) → wrongLength ≡ cond (true && not (s && fals
 not-both true m = refl
 not-both false m = refl
 
-module _ (image filter : Region) (full : Bool) (n from to : ℕ) (src dst : List Float) where
-  pub not-placed : (k : ℕ) → k ≡ firstOf (placedChecks image filter) → (k ≡ 0 → ⊥) → k ≡ firstOf (passChecks image filter full n from to src dst)
+module _ (image filter : Region) (full n from to : ℕ) (src dst : List Float) where
+  abbrev at-full : Layout
+  at-full = layoutOf image filter (flagSet full)
+
+  abbrev Number : ℕ → Type 0
+  Number k = k ≡ firstOf (passChecks image filter full n from to src dst)
+
+  pub not-placed : (k : ℕ) → k ≡ firstOf (placedChecks image filter) → (k ≡ 0 → ⊥) → Number k
   unfolding passChecks
   not-placed k e h = placed-or (pictured image) (pictured filter) (inside image filter) k _ e h
 
   module _ (ok : firstOf (placedChecks image filter) ≡ 0) (few : n ≤ 3) where
-    pub wrong-source : setFits (layoutOf image filter full) n (length src) ≡ false → wrongLength ≡ firstOf (passChecks image filter full n from to src dst)
+    pub wrong-source : setFits at-full n (length src) ≡ false → Number wrongLength
     unfolding passChecks
     wrong-source e =
-        let z : eqb (length src) (n * image .height * image .width) ≡ false = sym (length-judged image filter full ok n (length src) few) ∙ e in
+        let z : eqb (length src) (n * image .height * image .width) ≡ false = sym (length-judged image filter (flagSet full) ok n (length src) few) ∙ e in
         rw z (then (pictured image) (pictured filter) (inside image filter) wrongLength ok)
 
-    pub wrong-target : setFits (layoutOf image filter full) n (length dst) ≡ false → wrongLength ≡ firstOf (passChecks image filter full n from to src dst)
+    pub wrong-target : setFits at-full n (length dst) ≡ false → Number wrongLength
     unfolding passChecks
     wrong-target e =
-        let z : eqb (length dst) (n * image .height * image .width) ≡ false = sym (length-judged image filter full ok n (length dst) few) ∙ e in
+        let z : eqb (length dst) (n * image .height * image .width) ≡ false = sym (length-judged image filter (flagSet full) ok n (length dst) few) ∙ e in
         rw z (not-both (eqb (length src) (n * image .height * image .width)) _ ∙ then (pictured image) (pictured filter) (inside image filter) _ ok)
 
-    module _ (s : setFits (layoutOf image filter full) n (length src) ≡ true) (t : setFits (layoutOf image filter full) n (length dst) ≡ true) where
+    module _ (s : setFits at-full n (length src) ≡ true) (t : setFits at-full n (length dst) ≡ true) where
       source-is : eqb (length src) (n * image .height * image .width) ≡ true
-      source-is = sym (length-judged image filter full ok n (length src) few) ∙ s
+      source-is = sym (length-judged image filter (flagSet full) ok n (length src) few) ∙ s
 
       target-is : eqb (length dst) (n * image .height * image .width) ≡ true
-      target-is = sym (length-judged image filter full ok n (length dst) few) ∙ t
+      target-is = sym (length-judged image filter (flagSet full) ok n (length dst) few) ∙ t
 
-      pub wrong-rows : rowsFit (layoutOf image filter full) from to ≡ false → outOfRange ≡ firstOf (passChecks image filter full n from to src dst)
+      pub wrong-flag : flagFits full ≡ false → Number outOfRange
       unfolding passChecks
-      wrong-rows e = rw (source-is, target-is, e) (then (pictured image) (pictured filter) (inside image filter) outOfRange ok)
+      wrong-flag e = rw (source-is, target-is, e) (then (pictured image) (pictured filter) (inside image filter) outOfRange ok)
 
-      pub pass-accepted : rowsFit (layoutOf image filter full) from to ≡ true → 0 ≡ firstOf (passChecks image filter full n from to src dst)
-      unfolding passChecks
-      pass-accepted e = rw (source-is, target-is, e) (then (pictured image) (pictured filter) (inside image filter) 0 ok)
+      module _ (f : flagFits full ≡ true) where
+        pub wrong-rows : rowsFit at-full from to ≡ false → Number outOfRange
+        unfolding passChecks
+        wrong-rows e = rw (source-is, target-is, f, e) (then (pictured image) (pictured filter) (inside image filter) outOfRange ok)
+
+        pub pass-accepted : rowsFit at-full from to ≡ true → Number 0
+        unfolding passChecks
+        pass-accepted e = rw (source-is, target-is, f, e) (then (pictured image) (pictured filter) (inside image filter) 0 ok)
 
 -- ---- the answer
 

@@ -7,7 +7,8 @@ use lib.ListN.{length}
 use lib.IntN.{natAbs, _-ℤ_}
 use lib.Ieee.{Float}
 use Rattle.numbers.specs.Numbers.{wrongLength, outOfRange}
-use Rattle.numbers.specs.Checks.{Check, always, firstOf}
+use Rattle.numbers.specs.Checks.{Check, always, given, firstOf}
+use Rattle.numbers.specs.Flags.{flagFits, flagSet}
 use Rattle.region.specs.declared.Region.{Region}
 use Rattle.placement.specs.Placed.{placedChecks}
 use Rattle.planes.specs.declared.Layout.{Layout}
@@ -37,12 +38,13 @@ layoutOutcome image filter full = layoutAnswer (firstOf (placedChecks image filt
 
 -- ---- a pass over rows from `from` up to `to` of its result, from one set of n planes to another
 
--- document 01: 4, 5, then 7 for the two sets, then 9 for the rows
-unfoldable pub passChecks : Region → Region → Bool → ℕ → ℕ → ℕ → List Float → List Float → List Check
+-- document 01: 4, 5, then 7 for the two sets, then 9 for the flag that says whether the result is the full planes, and for the rows, which need it
+unfoldable pub passChecks : Region → Region → ℕ → ℕ → ℕ → ℕ → List Float → List Float → List Check
 passChecks image filter full n from to src dst =
     placedChecks image filter
     ++ (always wrongLength (not (eqb (length src) (n * image .height * image .width) && eqb (length dst) (n * image .height * image .width)))
-    ∷ always outOfRange (not (rowsFit (layoutOf image filter full) from to)) ∷ [])
+    ∷ always outOfRange (not (flagFits full))
+    ∷ given (flagFits full) outOfRange (not (rowsFit (layoutOf image filter (flagSet full)) from to)) ∷ [])
 
 -- the number, and what the set written holds
 pub record PassOutcome : Type 0 where

@@ -1,26 +1,24 @@
 -- A filter region cut from a larger one: away from the cut edges each pass, and then any list of passes, gives the larger one's samples. Assumes nothing.
-use mathlib.Core.Path.{_≡_, refl, sym, _∙_}
+use mathlib.Core.Path.{_≡_, sym, _∙_}
 use mathlib.Core.Bool.{Bool, true, false, cond}
 use mathlib.Core.List.{List, [], _∷_}
 use mathlib.Core.Logic.{_⊎_, inl, inr}
-use Prim.Native.Nat.{ℕ, zero, suc, _+_, _-_, _*_, _/_, _%_, _<_, _≤_}
+use Prim.Native.Nat.{ℕ, zero, suc, _+_, _-_, _*_, _/_, _<_, _≤_}
 use native.Mathlib.Omega.{arith}
 use native.Mathlib.Decide.{ℕ-discrete}
 use borrow.Author.Tests.{eq-eqb, ne-eqb}
-use lib.Dec.{T, eqb}
-use lib.Ieee.{Float}
+use lib.Dec.{eqb}
 use lib.IntN.{pos, _+ℤ_}
 use Rattle.mirror.specs.Mirror.{mirror}
 use Rattle.mirror.specs.Cut.{Deep, mirror-cut}
 use Rattle.planes.specs.Picture.{Picture, around}
 use Rattle.gabor_kernel.specs.Ends.{stands}
-use Rattle.gabor_kernel.specs.Gabor.{gaborPass, total, sideWeight, diagonalWeight}
-use Rattle.gabor_kernel.specs.Local.{gaborBy-same}
-use Rattle.weights.specs.Steps.{kernel, dists, border, multiplier, epfPass, reach as stepReach}
-use Rattle.weights.specs.Local.{Alike, channelsBelow, scaled-below, steps-near, epf-same}
+use Rattle.weights.specs.Steps.{reach as stepReach}
+use Rattle.weights.specs.Local.{Alike, scaled-below}
 use Rattle.passes.specs.declared.Settings.{Settings}
 use Rattle.passes.specs.Pass.{Area, Pass, gaborLike, edgePreserving, pass, passes, reach, reaches}
-use Rattle.passes.specs.Plan.{stepOf, step, steps, plan}
+use Rattle.passes.specs.Plan.{gaborOn, stepOf, step, steps, plan}
+use Rattle.passes.specs.Near.{sound, isStep, AlikeAt, pass-alike}
 
 -- ---- where a place stands among its row's or its column's
 
@@ -73,21 +71,6 @@ pub record SameBlocks (a b : Area) (lx ly : ℕ) : Type 0 where
 abbrev pub Agree : ℕ → Area → Area → ℕ → ℕ → ℕ → Picture → Picture → Type 0
 Agree n a b lx ly k g G = (c x y : ℕ) → c < n → Deep k lx (a .width) (b .width) x → Deep k ly (a .height) (b .height) y → g c x y ≡ G c (lx + x) (ly + y)
 
--- a step that there is, on channels of the n planes
-unfoldable pub sound : ℕ → Pass → Type 0
-sound n (gaborLike ws) = Unit {0}
-sound n (edgePreserving e) = (e .step < 3) × T (channelsBelow n (e .scales))
-
--- whether a pass is a step
-unfoldable pub isStep : Pass → Type 0
-isStep (gaborLike ws) = ⊥
-isStep (edgePreserving e) = Unit {0}
-
--- of the column only its remainder by 8 counts
-multiplier-column : (m b : Float) (row x X : ℕ) → x % 8 ≡ X % 8 → multiplier m b row x ≡ multiplier m b row X
-unfolding multiplier border
-multiplier-column m b row x X e = rw e
-
 module _ (n : ℕ) (a b : Area) (lx ly : ℕ) (fits : Fits a b lx ly) (k : ℕ) (g G : Picture) (agree : Agree n a b lx ly k g G) where
   -- what a sample sees within r
   around-same : (r x y : ℕ) → Deep (k + r) lx (a .width) (b .width) x → Deep (k + r) ly (a .height) (b .height) y
@@ -98,22 +81,35 @@ module _ (n : ℕ) (a b : Area) (lx ly : ℕ) (fits : Fits a b lx ly) (k : ℕ) 
       let t = mirror-cut k r ly (a .height) (b .height) y dy j (fits .rows) q in
       agree c (mirror (pos x +ℤ dx) (a .width)) (mirror (pos y +ℤ dy) (a .height)) h (s .deep) (t .deep) ∙ rw (s .same, t .same)
 
-  pub pass-same : (p : Pass) → sound n p → (isStep p → SameBlocks a b lx ly) → Agree n a b lx ly (k + reach p) (pass a p g) (pass b p G)
-  unfolding pass reach sound isStep gaborPass epfPass
-  pass-same (gaborLike ws) u blocks c x y h i j =
-      rw (stands-same k lx (a .width) (b .width) x (fits .columns) i, stands-same k ly (a .height) (b .height) y (fits .rows) j)
-      (gaborBy-same (sideWeight ws c) (diagonalWeight ws c) _ _ (λ dx dy s t. around-same 1 x y i j c dx dy h s t) (total (sideWeight ws c) (diagonalWeight ws c)) _ _)
-  pass-same (edgePreserving e) u blocks c x y h i j =
+  -- what a pass reads there is the same
+  alike : (p : Pass) → (isStep p → SameBlocks a b lx ly) → (x y : ℕ) → Deep (k + reach p) lx (a .width) (b .width) x → Deep (k + reach p) ly (a .height) (b .height) y
+      → AlikeAt n p a b g G x y (lx + x) (ly + y)
+  unfolding reach isStep
+  alike (gaborLike ws) blocks x y i j = record {
+    samples = around-same 1 x y i j;
+    column = λ z. stands-same k lx (a .width) (b .width) x (fits .columns) i;
+    row = λ z. stands-same k ly (a .height) (b .height) y (fits .rows) j;
+    sigma = λ z. absurd z;
+    image-row = λ z. absurd z;
+    in-block = λ z. absurd z;
+  }
+  alike (edgePreserving e) blocks x y i j =
       let k8 : SameBlocks a b lx ly = blocks tt in
       let xin : x < a .width = i .inside in
       let yin : y < a .height = j .inside in
       let col : (lx + x) / 8 ≡ k8 .bx + x / 8 = omega (arith, k8 .eightX) in
       let row : (ly + y) / 8 ≡ k8 .by + y / 8 = omega (arith, k8 .eightY) in
-      let sig : a .sigma (x / 8) (y / 8) ≡ b .sigma (k8 .bx + x / 8) (k8 .by + y / 8) = k8 .sigmas (x / 8) (y / 8) (omega arith) (omega arith) in
-      let place : a .top + y ≡ b .top + (ly + y) = omega (arith, k8 .tops) in
-      let mul : multiplier (e .multiplier) (e .borderMul) (a .top + y) x ≡ multiplier (e .multiplier) (e .borderMul) (b .top + (ly + y)) (lx + x) = rw place (multiplier-column (e .multiplier) (e .borderMul) (b .top + (ly + y)) x (lx + x) (omega (arith, k8 .eightX))) in
-      rw (col, row, sig, mul)
-      (epf-same n (stepReach (e .step)) _ _ (around-same (stepReach (e .step)) x y i j) (e .scales) (kernel (e .step)) (dists (e .step)) _ _ (u .1) (steps-near (e .step) (u .0)) (e .limit) c h)
+      record {
+        samples = around-same (stepReach (e .step)) x y i j;
+        column = λ z. absurd (z tt);
+        row = λ z. absurd (z tt);
+        sigma = λ z. rw (col, row) (k8 .sigmas (x / 8) (y / 8) (omega arith) (omega arith));
+        image-row = λ z. omega (arith, k8 .tops);
+        in-block = λ z. omega (arith, k8 .eightX);
+      }
+
+  pub pass-same : (p : Pass) → sound n p → (isStep p → SameBlocks a b lx ly) → Agree n a b lx ly (k + reach p) (pass a p g) (pass b p G)
+  pass-same p u blocks c x y h i j = pass-alike n p u a b g G x y (lx + x) (ly + y) (alike p blocks x y i j) c h
 
 abbrev pub AllSound : ℕ → List Pass → Type 0
 AllSound n [] = Unit {0}
@@ -143,23 +139,6 @@ cut-same n a b lx ly fits ps ask blocks g G agree c x y h i j =
     let z : 0 + reaches ps ≡ reaches ps = omega arith in
     passes-same n a b lx ly fits 0 ps ask blocks g G (λ c x y h i j. agree c x y h (i .inside) (j .inside)) c x y h (rw z i) (rw z j)
 
--- ---- passes see nothing but the filter region: a picture cut from itself
-
-zero-plus : (x : ℕ) → 0 + x ≡ x
-zero-plus x = omega arith
-
-whole : (k n x : ℕ) → x < n → Deep k 0 n n x
-whole k n x h = record { inside = h; left = λ f. absurd (f refl); right = λ f. absurd (f (zero-plus n)) }
-
-pub passes-cong : (n : ℕ) (a : Area) (ps : List Pass) → AllSound n ps → (g G : Picture)
-    → ((c x y : ℕ) → c < n → x < a .width → y < a .height → g c x y ≡ G c x y)
-    → (c x y : ℕ) → c < n → x < a .width → y < a .height → passes a ps g c x y ≡ passes a ps G c x y
-passes-cong n a ps t g G e c x y h i j =
-    rw (zero-plus x, zero-plus y) at
-    (cut-same n a a 0 0 (record { columns = omega arith; rows = omega arith }) ps t
-    (λ z. record { bx = 0; by = 0; tops = omega arith; eightX = omega arith; eightY = omega arith; sigmas = λ x y h i. rw (zero-plus x, zero-plus y) }) g G
-    (λ c x y h i j. rw (zero-plus x, zero-plus y) (e c x y h i j)) c x y h (whole (reaches ps) (a .width) x i) (whole (reaches ps) (a .height) y j))
-
 -- ---- the passes that settings ask for
 
 step-sound : (n : ℕ) (s : Settings) (k : ℕ) → k < 3 → sound n (step n s k)
@@ -176,7 +155,7 @@ steps-sound n s (suc (suc (suc i))) = (step-sound n s 0 (omega arith), (step-sou
 -- Their steps are 0, 1 or 2, on channels of the n planes.
 pub plan-sound : (n : ℕ) (s : Settings) → AllSound n (plan n s)
 unfolding plan sound
-plan-sound n s = go (s .gabor .enabled)
+plan-sound n s = go (gaborOn s)
   where
     go : (on : Bool) → AllSound n (cond on (gaborLike (s .gabor .weights) ∷ steps n s (s .epf .iters)) (steps n s (s .epf .iters)))
     go true = (tt, steps-sound n s (s .epf .iters))
@@ -190,7 +169,7 @@ some-step n s (suc i) h = omega arith
 -- A step is among them only where there are iterations.
 pub plan-some-step : (n : ℕ) (s : Settings) → SomeStep (plan n s) → 0 < s .epf .iters
 unfolding plan isStep
-plan-some-step n s h = go (s .gabor .enabled) h
+plan-some-step n s h = go (gaborOn s) h
   where
     go : (on : Bool) → SomeStep (cond on (gaborLike (s .gabor .weights) ∷ steps n s (s .epf .iters)) (steps n s (s .epf .iters))) → 0 < s .epf .iters
     go true (inl h) = absurd h

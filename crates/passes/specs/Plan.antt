@@ -1,15 +1,29 @@
 -- The passes that settings ask for (document 01, "Edge-preserving steps" and "Runs"), and the margin of document 01's demand 3. Definitions only.
-use mathlib.Core.Bool.{Bool, cond, _&&_}
+use mathlib.Core.Bool.{Bool, cond, not, _&&_}
 use mathlib.Core.List.{List, [], _∷_}
 use Prim.Native.Nat.{ℕ, zero, suc, _+_, _-_, min}
-use lib.Dec.{eqb, ltb}
+use lib.Dec.{eqb, leb, ltb}
 use lib.Ieee.{Float}
+use Rattle.numbers.specs.Numbers.{outOfRange}
+use Rattle.numbers.specs.Checks.{Check, always, firstOf}
+use Rattle.numbers.specs.Flags.{flagFits, flagSet}
 use Rattle.planes.specs.Samples.{b1}
 use Rattle.epf_sigma.specs.declared.EpfSigma.{EpfSigma}
 use Rattle.epf.specs.declared.EpfStep.{EpfStep}
 use Rattle.epf.specs.Outcome.{settingsOf}
 use Rattle.passes.specs.declared.Settings.{Settings}
+use Rattle.passes.specs.declared.MarginAnswer.{MarginAnswer}
 use Rattle.passes.specs.Pass.{Pass, gaborLike, edgePreserving}
+
+-- the two numbers that say which passes there are: Gabor's flag and the iterations
+abbrev pub gaborFits : Settings → Bool
+gaborFits s = flagFits (s .gabor .enabled)
+
+abbrev pub gaborOn : Settings → Bool
+gaborOn s = flagSet (s .gabor .enabled)
+
+abbrev pub iterationsFit : Settings → Bool
+iterationsFit s = leb (s .epf .iters) 3
 
 -- a step's scale: pass 0's, 1.0, pass 2's
 unfoldable pub scaleOf : EpfSigma → ℕ → Float
@@ -34,7 +48,7 @@ steps n s (suc (suc (suc i))) = step n s 0 ∷ step n s 1 ∷ step n s 2 ∷ []
 
 -- Gabor, if on, and then the steps, on n planes
 unfoldable pub plan : ℕ → Settings → List Pass
-plan n s = cond (s .gabor .enabled) (gaborLike (s .gabor .weights) ∷ steps n s (s .epf .iters)) (steps n s (s .epf .iters))
+plan n s = cond (gaborOn s) (gaborLike (s .gabor .weights) ∷ steps n s (s .epf .iters)) (steps n s (s .epf .iters))
 
 -- 0, 2, 3 or 6 for 0, 1, 2 or 3 iterations
 unfoldable pub stepMargin : ℕ → ℕ
@@ -48,14 +62,25 @@ oneIf b = cond b 1 0
 
 -- the margin, a term of document 01's own: 1 for Gabor, if on, plus that of the iterations
 abbrev pub margin : Settings → ℕ
-margin s = oneIf (s .gabor .enabled) + stepMargin (s .epf .iters)
+margin s = oneIf (gaborOn s) + stepMargin (s .epf .iters)
+
+-- 9 where Gabor's flag or the iterations are out of range; nothing else is judged
+unfoldable pub marginChecks : Settings → List Check
+marginChecks s = always outOfRange (not (gaborFits s)) ∷ always outOfRange (not (iterationsFit s)) ∷ []
+
+abbrev pub marginNumber : Settings → ℕ
+marginNumber s = firstOf (marginChecks s)
+
+-- a refusal has 0 for the margin
+unfoldable pub marginOutcome : Settings → MarginAnswer
+marginOutcome s = record { number = marginNumber s; margin = cond (eqb (marginNumber s) 0) (margin s) 0 }
 
 -- ---- which pass is at a place
 
 -- Gabor, if on, comes first
 unfoldable pub gaborAt : Settings → ℕ → Bool
-gaborAt s p = s .gabor .enabled && eqb p 0
+gaborAt s p = gaborOn s && eqb p 0
 
 -- the step of a pass that is not Gabor's; a pass past the last has step 2
 unfoldable pub stepIndex : Settings → ℕ → ℕ
-stepIndex s p = min (p + oneIf (ltb (s .epf .iters) 3) - oneIf (s .gabor .enabled)) 2
+stepIndex s p = min (p + oneIf (ltb (s .epf .iters) 3) - oneIf (gaborOn s)) 2

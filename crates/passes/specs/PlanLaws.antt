@@ -11,7 +11,7 @@ use lib.ListN.{length, getD}
 use Rattle.epf_sigma.specs.declared.EpfSigma.{EpfSigma}
 use Rattle.passes.specs.declared.Settings.{Settings}
 use Rattle.passes.specs.Pass.{Pass, gaborLike, reach, reaches}
-use Rattle.passes.specs.Plan.{gaborAt, margin, oneIf, plan, scaleOf, step, stepIndex, stepMargin, stepOf, steps}
+use Rattle.passes.specs.Plan.{gaborAt, gaborOn, margin, oneIf, plan, scaleOf, step, stepIndex, stepMargin, stepOf, steps}
 
 -- ---- laws
 
@@ -44,7 +44,7 @@ margin-is n s false (suc (suc (suc i))) = refl
 
 pub plan-reach : (n : ℕ) (s : Settings) → reaches (plan n s) ≡ margin s
 unfolding plan
-plan-reach n s = margin-is n s (s .gabor .enabled) (s .epf .iters)
+plan-reach n s = margin-is n s (gaborOn s) (s .epf .iters)
 
 -- how many passes there are
 pub length-steps : (n : ℕ) (s : Settings) (i : ℕ) → length (steps n s i) ≡ min i 3
@@ -54,9 +54,9 @@ length-steps n s (suc zero) = refl
 length-steps n s (suc (suc zero)) = refl
 length-steps n s (suc (suc (suc i))) = omega arith
 
-pub plan-length : (n : ℕ) (s : Settings) → length (plan n s) ≡ oneIf (s .gabor .enabled) + min (s .epf .iters) 3
+pub plan-length : (n : ℕ) (s : Settings) → length (plan n s) ≡ oneIf (gaborOn s) + min (s .epf .iters) 3
 unfolding plan
-plan-length n s = go (s .gabor .enabled)
+plan-length n s = go (gaborOn s)
   where
     go : (on : Bool) → length (cond on (gaborLike (s .gabor .weights) ∷ steps n s (s .epf .iters)) (steps n s (s .epf .iters))) ≡ oneIf on + min (s .epf .iters) 3
     go true = omega (arith, length-steps n s (s .epf .iters))
@@ -71,7 +71,7 @@ and-true false b e = absurd (false≢true e)
 pub plan-gabor : (n : ℕ) (s : Settings) (p : ℕ) (d : Pass) → gaborAt s p ≡ true → getD (plan n s) p d ≡ gaborLike (s .gabor .weights)
 unfolding gaborAt plan
 plan-gabor n s p d e =
-    let z = and-true (s .gabor .enabled) (eqb p 0) e in
+    let z = and-true (gaborOn s) (eqb p 0) e in
     let q : p ≡ 0 = eqb-true p 0 (z .1) in
     rw (z .0, q)
 
@@ -90,7 +90,7 @@ steps-at n s (suc (suc (suc i))) (suc (suc (suc p))) d h = absurd (omega arith)
 
 pub plan-step : (n : ℕ) (s : Settings) (p : ℕ) (d : Pass) → gaborAt s p ≡ false → p < length (plan n s) → getD (plan n s) p d ≡ step n s (stepIndex s p)
 unfolding gaborAt plan stepIndex
-plan-step n s p d e h = go (s .gabor .enabled) p e h
+plan-step n s p d e h = go (gaborOn s) p e h
   where
     i : ℕ
     i = s .epf .iters

@@ -1,11 +1,22 @@
 // Which passes settings ask for, in order, and how far they read together.
 use epf::EpfStep;
 use epf_sigma::EpfSigma;
-use gabor_header::Gabor;
+use numbers::ACCEPTED;
+use numbers::OUT_OF_RANGE;
+use numbers::flag_fits;
+use numbers::flag_set;
 ghost use mathlib.Core.Path.{_≡_};
 ghost use Prim.Native.Nat.{_≤_};
 ghost use lib.ListN.{length};
-ghost use Rattle.passes.specs.Plan.{plan, oneIf, stepMargin, margin, scaleOf, stepOf, gaborAt, stepIndex};
+ghost use Rattle.numbers.specs.Numbers.{outOfRange};
+ghost use Rattle.passes.specs.Plan.{plan, gaborOn, oneIf, stepMargin, margin, marginOutcome, scaleOf, stepOf, gaborAt, stepIndex};
+
+// The Gabor-like filter: whether it is on, a flag, and three channels (X, Y, B) of two weights, of the side neighbours and of the corners.
+#[repr(C)]
+pub struct GaborSettings {
+    pub enabled: u32,
+    pub weights: [[f32; 2]; 3],
+}
 
 // The edge-preserving filter: it is on where there are iterations.
 #[repr(C)]
@@ -18,12 +29,39 @@ pub struct EpfSettings {
 
 #[repr(C)]
 pub struct Settings {
-    pub gabor: Gabor,
+    pub gabor: GaborSettings,
     pub epf: EpfSettings,
 }
 
+// The margin, or 9 and 0.
+#[repr(C)]
+pub struct MarginAnswer {
+    pub number: u32,
+    pub margin: u32,
+}
+
+pub const MAX_ITERS: u32 = 3;
+
 // Three iterations have all steps; fewer begin with step 1.
 const ALL_STEPS: u32 = 3;
+
+pub fn gabor_settings(enabled: u32, weights: [[f32; 2]; 3]) -> GaborSettings
+    ensures { λ r. ⌜ r ≡ record { enabled = enabled; weights = weights } ⌝ }
+{
+    GaborSettings { enabled, weights }
+}
+
+pub fn weights(gabor: GaborSettings) -> [[f32; 2]; 3]
+    ensures { λ r. ⌜ r ≡ gabor .weights ⌝ }
+{
+    gabor.weights
+}
+
+fn gabor_on(s: Settings) -> bool
+    ensures { λ r. ⌜ r ≡ gaborOn s ⌝ }
+{
+    flag_set(s.gabor.enabled)
+}
 
 fn one_if(b: bool) -> u32
     ensures { λ r. ⌜ (r ≡ oneIf b) × (r ≤ 1) ⌝ }
@@ -31,11 +69,17 @@ fn one_if(b: bool) -> u32
     if b { 1 } else { 0 }
 }
 
+fn gabor_passes(s: Settings) -> u32
+    ensures { λ r. ⌜ (r ≡ oneIf (gaborOn s)) × (r ≤ 1) ⌝ }
+{
+    one_if(gabor_on(s))
+}
+
 // How many passes there are.
 pub fn pass_count(s: Settings) -> u32
     ensures { λ r. ⌜ r ≡ length (plan 3 s) ⌝ }
 {
-    let first = one_if(s.gabor.enabled);
+    let first = gabor_passes(s);
     let iters = s.epf.iters;
     if iters < ALL_STEPS {
         return first + iters;
@@ -58,18 +102,42 @@ fn step_margin(iters: u32) -> u32
     6
 }
 
-// How many samples must lie between a sample and an edge that cuts the picture.
-pub fn margin(s: Settings) -> u32
+fn margin_of(s: Settings) -> u32
     ensures { λ r. ⌜ r ≡ margin s ⌝ }
 {
-    one_if(s.gabor.enabled) + step_margin(s.epf.iters)
+    gabor_passes(s) + step_margin(s.epf.iters)
+}
+
+fn no_margin() -> MarginAnswer
+    ensures { λ r. ⌜ r ≡ record { number = outOfRange; margin = 0 } ⌝ }
+{
+    MarginAnswer {
+        number: OUT_OF_RANGE,
+        margin: 0,
+    }
+}
+
+// How many samples must lie between a sample and an edge that cuts the picture; 9 where one of the two numbers that it depends on is out of range.
+pub fn margin(s: Settings) -> MarginAnswer
+    ensures { λ r. ⌜ r ≡ marginOutcome s ⌝ }
+{
+    if !flag_fits(s.gabor.enabled) {
+        return no_margin();
+    }
+    if MAX_ITERS < s.epf.iters {
+        return no_margin();
+    }
+    MarginAnswer {
+        number: ACCEPTED,
+        margin: margin_of(s),
+    }
 }
 
 // Whether a pass is Gabor's.
 pub fn gabor_at(s: Settings, pass: u32) -> bool
     ensures { λ r. ⌜ r ≡ gaborAt s pass ⌝ }
 {
-    s.gabor.enabled && pass == 0
+    gabor_on(s) && pass == 0
 }
 
 fn scale_of(sigma: EpfSigma, step: u32) -> f32
@@ -87,7 +155,7 @@ fn scale_of(sigma: EpfSigma, step: u32) -> f32
 fn step_index(s: Settings, pass: u32) -> u32
     ensures { λ r. ⌜ r ≡ stepIndex s pass ⌝ }
 {
-    let before = one_if(s.gabor.enabled) as usize;
+    let before = gabor_passes(s) as usize;
     let skipped = one_if(s.epf.iters < ALL_STEPS) as usize;
     let at = pass as usize + skipped;
     if at <= before {

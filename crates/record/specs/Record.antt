@@ -1,14 +1,15 @@
 -- The record of a run, a term of document 01's own ("Runs"): as start gives it, as calls change it, and which pass and done bands accepted calls lead to. Definitions only.
 use mathlib.Core.Path.{_≡_}
-use mathlib.Core.Bool.{Bool, true, false, cond, not, _&&_, _||_}
+use mathlib.Core.Bool.{Bool, false, cond, not, _&&_, _||_}
 use mathlib.Core.List.{List, [], _∷_}
 use Prim.Native.Nat.{ℕ, suc}
-use lib.Dec.{eqb, leb}
+use lib.Dec.{eqb, leb, ltb}
 use lib.ListN.{length, getD, set, replicate}
 use Rattle.numbers.specs.Numbers.{outOfRange, bandNotOpen, passNotDone}
 use Rattle.numbers.specs.Checks.{Check, always}
+use Rattle.numbers.specs.Flags.{flagSet}
 use Rattle.grids.specs.Table.{someBelow}
-use Rattle.passes.specs.Plan.{plan}
+use Rattle.passes.specs.Plan.{oneIf, plan}
 use Rattle.setup.specs.declared.Setup.{Setup}
 use Rattle.record.specs.declared.Run.{Run}
 use Rattle.setup.specs.Setup.{bandCount, setupFits}
@@ -18,21 +19,25 @@ abbrev pub passCount : Setup → ℕ
 passCount s = length (plan 3 (s .settings))
 
 unfoldable pub isDone : Run → ℕ → Bool
-isDone r k = getD (r .done) k false
+isDone r k = flagSet (getD (r .done) k 0)
+
+-- no band is done: 256 zeros
+abbrev pub noneDone : List ℕ
+noneDone = replicate 256 0
 
 -- ---- as calls make it
 
 -- as start gives it
 unfoldable pub started : Setup → Run
-started s = record { setup = s; pass = 0; done = replicate 256 false }
+started s = record { setup = s; pass = 0; done = noneDone }
 
 -- after an accepted band
 unfoldable pub marked : Run → ℕ → Run
-marked r k = record { setup = r .setup; pass = r .pass; done = set (r .done) k true }
+marked r k = record { setup = r .setup; pass = r .pass; done = set (r .done) k 1 }
 
 -- after an accepted advance, a term of document 01's own: the next pass, with no band done
 unfoldable pub advanced : Run → Run
-advanced r = record { setup = r .setup; pass = suc (r .pass); done = replicate 256 false }
+advanced r = record { setup = r .setup; pass = suc (r .pass); done = noneDone }
 
 -- ---- what a call asks of it
 
@@ -58,9 +63,12 @@ notOver r = finished r || bandMissing r
 abbrev pub openBands : Run → ℕ
 openBands r = cond (finished r) 0 (bandCount (r .setup))
 
--- a flag that no accepted call sets
+-- no accepted call gives band k this flag: it may be 1 below the open bands, and 0 from there on
+abbrev pub strayFlag : ℕ → ℕ → ℕ → Bool
+strayFlag bands k flag = ltb (oneIf (ltb k bands)) flag
+
 unfoldable pub strayDone : Run → Bool
-strayDone r = someBelow 256 (λ k. leb (openBands r) k && isDone r k)
+strayDone r = someBelow 256 (λ k. strayFlag (openBands r) k (getD (r .done) k 0))
 
 -- what start was told is in range, and the pass and the done bands are some to which accepted calls lead (Reached, and its two laws)
 unfoldable pub runFits : Run → Bool

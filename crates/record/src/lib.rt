@@ -3,52 +3,53 @@ use numbers::ACCEPTED;
 use numbers::BAND_NOT_OPEN;
 use numbers::OUT_OF_RANGE;
 use numbers::PASS_NOT_DONE;
+use numbers::flag_set;
 use passes::pass_count;
 use setup::MAX_BANDS;
 use setup::Setup;
 use setup::band_count;
 use setup::setup_fits;
 ghost use mathlib.Core.Path.{_≡_};
-ghost use mathlib.Core.Bool.{_&&_, not};
+ghost use mathlib.Core.Bool.{not};
 ghost use Prim.Native.Nat.{ℕ, _<_, _≤_};
-ghost use lib.Dec.{leb};
+ghost use lib.ListN.{getD};
 ghost use Rattle.numbers.specs.Checks.{firstOf};
 ghost use Rattle.grids.specs.Table.{someBelow};
 ghost use Rattle.setup.specs.Setup.{bandCount};
-ghost use Rattle.record.specs.Record.{isDone, finished, openBands, runFits, notOpen, openChecks, overChecks, finishedChecks};
+ghost use Rattle.record.specs.Record.{isDone, strayFlag, finished, openBands, runFits, notOpen, openChecks, overChecks, finishedChecks};
 
-// `pass` counts the passes that are over; `done` has a flag for each band of the next one.
+// `pass` counts the passes that are over; `done` has a flag for each band of the next one: 1 where it is done.
 #[repr(C)]
 pub struct Run {
     pub setup: Setup,
     pub pass: u32,
-    pub done: [bool; 256],
+    pub done: [u8; 256],
 }
 
 fn is_done(r: Run, k: usize) -> bool
     requires { ⌜ k < 256 ⌝ }
     ensures { λ b. ⌜ b ≡ isDone r k ⌝ }
 {
-    r.done[k]
+    flag_set(r.done[k] as u32)
 }
 
-fn stray(from: usize, k: usize, done: bool) -> bool
-    ensures { λ b. ⌜ b ≡ (leb from k && done) ⌝ }
+// Whether no accepted call gives band k this flag where the first `bands` may be done.
+fn stray(bands: usize, k: usize, flag: u8) -> bool
+    ensures { λ b. ⌜ b ≡ strayFlag bands k flag ⌝ }
 {
-    if from <= k {
-        return done;
+    if k < bands {
+        return 1 < flag;
     }
-    false
+    0 < flag
 }
 
-// Whether a band at or past `from` is done.
-fn stray_done(r: Run, from: usize) -> bool
-    ensures { λ b. ⌜ b ≡ someBelow 256 (λ (k : ℕ). leb from k && isDone r k) ⌝ }
+fn stray_done(r: Run, bands: usize) -> bool
+    ensures { λ b. ⌜ b ≡ someBelow 256 (λ (k : ℕ). strayFlag bands k (getD (r .done) k 0)) ⌝ }
 {
     let done = r.done;
     let mut k = 0;
     while k < MAX_BANDS {
-        if stray(from, k, done[k]) {
+        if stray(bands, k, done[k]) {
             return true;
         }
         k += 1;
@@ -64,7 +65,7 @@ fn band_missing(r: Run, n: usize) -> bool
     let done = r.done;
     let mut k = 0;
     while k < n {
-        if !done[k] {
+        if !flag_set(done[k] as u32) {
             return true;
         }
         k += 1;

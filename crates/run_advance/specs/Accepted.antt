@@ -6,7 +6,7 @@ use native.Mathlib.Omega.{arith}
 use borrow.Author.Tests.{ne-eqb}
 use lib.Dec.{eqb}
 use Rattle.numbers.specs.Checks.{firstOf}
-use Rattle.passes.specs.Plan.{oneIf}
+use Rattle.passes.specs.Plan.{gaborOn, oneIf}
 use Rattle.passes.specs.PlanLaws.{plan-length}
 use Rattle.setup.specs.declared.Setup.{Setup}
 use Rattle.record.specs.declared.Run.{Run}
@@ -18,7 +18,7 @@ use Rattle.runs.specs.Laws.{advance-fits}
 
 -- at most four passes
 few-passes : (s : Setup) → passCount s ≤ 4
-few-passes s = omega (arith, plan-length 3 (s .settings), one (s .settings .gabor .enabled))
+few-passes s = omega (arith, plan-length 3 (s .settings), one (gaborOn (s .settings)))
   where
     one : (b : Bool) → oneIf b ≤ 1
     one true = omega arith

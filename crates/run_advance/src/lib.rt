@@ -13,7 +13,7 @@ fn advanced(run: Run) -> Run
     ensures { λ r. ⌜ r ≡ advanced run ⌝ }
 {
     let setup = run.setup;
-    let done = [false; 256];
+    let done = [0; 256];
     Run {
         setup,
         pass: run.pass + 1,

@@ -15,7 +15,7 @@ use Rattle.region.specs.Laws.{pictured-measured, measured-height}
 use Rattle.layout.specs.Outcome.{layoutOf}
 use Rattle.setup.specs.declared.Setup.{Setup}
 use Rattle.record.specs.declared.Run.{Run}
-use Rattle.setup.specs.Setup.{epfOn, rowCount, bandCount, bandFrom, bandTo, sized, itersFit, setLength, sigmaLength}
+use Rattle.setup.specs.Setup.{fullPlanes, epfOn, rowCount, bandCount, bandFrom, bandTo, sized, itersFit, setLength, sigmaLength}
 use Rattle.record.specs.Record.{marked, openChecks}
 use Rattle.numbers.specs.Tables.{of-true, met-given, row-passed}
 use Rattle.setup.specs.Laws.{SetupFits, setup-fits, image-sized, filter-sized}
@@ -70,7 +70,7 @@ module _ (t : State) (k : ℕ) (e : bandNumber 3 t k ≡ 0) where
 
   rows-most : rowCount s ≤ 16384
   unfolding layoutOf
-  rows-most = go (s .«preserve_outside»)
+  rows-most = go (fullPlanes s)
     where
       go : (b : Bool) → cond b (s .image .height) (s .filter .height) ≤ 16384
       go true = measured-height (s .image) (pictured-measured (s .image) (setup .image))

@@ -22,11 +22,11 @@ use Rattle.epf.specs.declared.EpfStep.{EpfStep}
 use Rattle.epf.specs.Outcome.{stepChecks, epfChecks, epfOutcome}
 use Rattle.passes.specs.declared.Settings.{Settings}
 use Rattle.passes.specs.Pass.{gaborLike, pass}
-use Rattle.passes.specs.Plan.{stepOf, oneIf, gaborAt, stepIndex}
+use Rattle.passes.specs.Plan.{gaborOn, stepOf, oneIf, gaborAt, stepIndex}
 use Rattle.passes.specs.PlanLaws.{plan-length, plan-gabor, plan-step}
 use Rattle.setup.specs.declared.Setup.{Setup}
 use Rattle.record.specs.declared.Run.{Run}
-use Rattle.setup.specs.Setup.{layout, epfOn, area, rowCount, setLength, sigmaLength}
+use Rattle.setup.specs.Setup.{fullFits, layout, epfOn, area, rowCount, setLength, sigmaLength}
 use Rattle.record.specs.Record.{passCount}
 use Rattle.numbers.specs.Tables.{is-true}
 use Rattle.setup.specs.Laws.{SetupFits, setup-fits}
@@ -75,6 +75,7 @@ module _ (r : Run) (sigmas src dst : List Float) (from to : ℕ) (fits : RowsFit
     is-true (inside (s .image) (s .filter)) (setup .contained),
     eq-eqb (length src) (setLength 3 s) (fits .source),
     eq-eqb (length dst) (setLength 3 s) (fits .target),
+    is-true (fullFits s) (setup .full),
     rows-true,
   )
 
@@ -92,7 +93,7 @@ module _ (r : Run) (sigmas src dst : List Float) (from to : ℕ) (fits : RowsFit
     -- the edge filter is on, since a pass that is not Gabor's is left
     some-iters : 0 < s .settings .epf .iters
     unfolding gaborAt
-    some-iters = go (s .settings .gabor .enabled) g (omega (arith, fits .left, plan-length 3 (s .settings)))
+    some-iters = go (gaborOn (s .settings)) g (omega (arith, fits .left, plan-length 3 (s .settings)))
       where
         go : (on : Bool) → (on && eqb (r .pass) 0) ≡ false → r .pass < oneIf on + min (s .settings .epf .iters) 3 → 0 < s .settings .epf .iters
         go true e h = after (ℕ-discrete (r .pass) 0)
@@ -123,6 +124,7 @@ module _ (r : Run) (sigmas src dst : List Float) (from to : ℕ) (fits : RowsFit
       eq-eqb (length dst) (setLength 3 s) (fits .target),
       eq-eqb (length sigmas) (blockRows (layout s) * blockColumns (layout s)) sigma-count,
       le-ltb 2 (stepIndex (s .settings) (r .pass)) (index-most (s .settings) (r .pass)),
+      is-true (fullFits s) (setup .full),
       rows-true,
     )
 

@@ -1,11 +1,11 @@
 // The band call of a run.
 use epf::epf_pass;
 use gabor::gabor_pass;
-use gabor_header::weights;
 use numbers::ACCEPTED;
 use numbers::WRONG_LENGTH;
 use passes::gabor_at;
 use passes::step_at;
+use passes::weights;
 use record::Run;
 use record::band_number;
 use runs::RunAnswer;
@@ -85,7 +85,7 @@ fn marked(run: Run, k: usize) -> Run
     ensures { λ r. ⌜ r ≡ marked run k ⌝ }
 {
     let mut r = run;
-    r.done[k] = true;
+    r.done[k] = 1;
     r
 }
 

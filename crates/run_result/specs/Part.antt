@@ -20,7 +20,7 @@ use Rattle.planes.specs.Rect.{rowsFill, planesFill, rows-turn, rows-cong, plane
 use Rattle.planes.specs.Stored.{LayoutFits}
 use Rattle.planes.specs.Band.{resultLeft, resultTop, resultWidth, resultHeight, inner}
 use Rattle.setup.specs.declared.Setup.{Setup}
-use Rattle.setup.specs.Setup.{layout, setLength, resultLength}
+use Rattle.setup.specs.Setup.{fullPlanes, layout, setLength, resultLength}
 use Rattle.setup.specs.Laws.{SetupFits, placed-accepted, setup-layout}
 use Rattle.runs.specs.Result.{resultOf}
 
@@ -58,7 +58,7 @@ part-fits l f = record { wide = f .wide; high = f .high; across = go (l .full); 
 -- the length of the slice, by the part
 pub part-length : (n : ℕ) (s : Setup) → resultLength n s ≡ n * partOf (layout s) .height * partOf (layout s) .width
 unfolding partOf layoutOf
-part-length n s = go (s .«preserve_outside»)
+part-length n s = go (fullPlanes s)
   where
     go : (b : Bool) → n * cond b (s .image) (s .filter) .height * cond b (s .image) (s .filter) .width
         ≡ n * cond b (s .image .height) (s .filter .height) * cond b (s .image .width) (s .filter .width)
@@ -105,11 +105,12 @@ unfolding resultOf inner partOf
 result-copied n l src out b e h = h ∙ whole-set n (resultWidth l) (resultHeight l) (inner (partOf l) src) out e
 
 -- ---- for a setup that fits: a is the answer about its layout, and p the part of that
-module _ (s : Setup) (f : SetupFits s) (a : LayoutAnswer) (e : a ≡ layoutOutcome (s .image) (s .filter) (s .«preserve_outside»)) (p : Layout) (q : p ≡ partOf (a .layout)) where
+module _ (s : Setup) (f : SetupFits s) (full : Bool) (u : full ≡ fullPlanes s) (a : LayoutAnswer) (e : a ≡ layoutOutcome (s .image) (s .filter) full) (p : Layout) (q : p ≡ partOf (a .layout)) where
   part-is : p ≡ partOf (layout s)
   part-is =
-      let z : a .number ≡ 0 = answer-number (s .image) (s .filter) (s .«preserve_outside») a e ∙ placed-accepted s f in
-      q ∙ ap partOf (answer-layout (s .image) (s .filter) (s .«preserve_outside») a e z)
+      let d : a ≡ layoutOutcome (s .image) (s .filter) (fullPlanes s) = e ∙ rw u in
+      let z : a .number ≡ 0 = answer-number (s .image) (s .filter) (fullPlanes s) a d ∙ placed-accepted s f in
+      q ∙ ap partOf (answer-layout (s .image) (s .filter) (fullPlanes s) a d z)
 
   pub setup-part : LayoutFits p
   setup-part = rw part-is (part-fits (layout s) (setup-layout s f .fits))

@@ -10,10 +10,11 @@ use lib.ListN.{length}
 use lib.Ieee.{Float}
 use Rattle.numbers.specs.Numbers.{wrongLength, outOfRange, passNotDone}
 use Rattle.numbers.specs.Checks.{applies, firstOf}
+use Rattle.numbers.specs.Tables.{is-true}
 use Rattle.planes.specs.Stored.{and-first, and-second}
 use Rattle.setup.specs.declared.Setup.{Setup}
 use Rattle.record.specs.declared.Run.{Run}
-use Rattle.setup.specs.Setup.{layout, setLength, resultLength}
+use Rattle.setup.specs.Setup.{fullFits, layout, setLength, resultLength}
 use Rattle.record.specs.Record.{runFits, finished, finishedChecks}
 use Rattle.setup.specs.Laws.{SetupFits, image-sized, result-sized}
 use Rattle.record.specs.Laws.{fits-setup-of}
@@ -66,7 +67,7 @@ module _ (n : ℕ) (r : Run) (first second out : List Float) where
           setup = fits;
           one = eqb-true _ _ (and-first (eqb (length first) (setLength n (r .setup))) (eqb (length second) (setLength n (r .setup))) sets);
           two = eqb-true _ _ (and-second (eqb (length first) (setLength n (r .setup))) (eqb (length second) (setLength n (r .setup))) sets);
-          slice = eqb-true _ _ (not-false _ (sym (rw (result-sized (r .setup) fits) at b)));
+          slice = eqb-true _ _ (not-false _ (sym (rw (is-true (fullFits (r .setup)) (fits .full), result-sized (r .setup) fits) at b)));
         }
 
         pub from-first : r .pass % 2 ≡ 0 → (c : List Float) → c ≡ resultOf n (layout (r .setup)) first

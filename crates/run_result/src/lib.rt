@@ -2,6 +2,7 @@
 use layout::layout_of;
 use numbers::ACCEPTED;
 use numbers::WRONG_LENGTH;
+use numbers::flag_set;
 use planes::Layout;
 use planes::copy_run;
 use record::Run;
@@ -75,7 +76,8 @@ fn copy_result(s: Setup, src: &[f32], out: &mut [f32])
     requires { ⌜ SetupFits s × (length (now src) ≡ setLength 3 s) × (length (now out) ≡ resultLength 3 s) ⌝ }
     ensures { λ _. ⌜ now (out .exit) ≡ resultOf 3 (layout s) (now (src .entry)) ⌝ }
 {
-    let answer = layout_of(s.image, s.filter, s.preserve_outside);
+    let full = flag_set(s.preserve_outside);
+    let answer = layout_of(s.image, s.filter, full);
     let part = part_of(answer.layout);
     copy_planes(src, out, part, PLANES)
 }

@@ -1,6 +1,5 @@
 -- The number that some starts get, computed from the table. Assumes nothing.
 use mathlib.Core.Path.{_≡_, refl}
-use mathlib.Core.Bool.{true}
 use mathlib.Core.List.{[], _∷_}
 use Prim.Native.Nat.{ℕ}
 use lib.IntN.{ℤ, pos}
@@ -19,15 +18,19 @@ use Rattle.setup.specs.declared.Setup.{Setup}
 use Rattle.setup.specs.Setup.{bandCount}
 use Rattle.runs.specs.Start.{Handed, noSetup, pictureChecks, startNumber}
 
--- an image of 8 by 8 samples whose filter region has the given left and width
-abbrev setup : ℤ → ℕ → ℕ → ℕ → Setup
-setup left width iters height = record {
+-- an image of 8 by 8 samples whose filter region has the given left and width, with the result's flag and Gabor's
+abbrev flagged : ℕ → ℕ → ℤ → ℕ → ℕ → ℕ → Setup
+flagged full enabled left width iters height = record {
   image = record { left = pos 0; top = pos 0; width = 8; height = 8 };
   filter = record { left = left; top = pos 0; width = width; height = 8 };
-  «preserve_outside» = true;
-  settings = record { gabor = noSetup .settings .gabor; epf = record { iters = iters; «channel_scale» = []; sigma = noSetup .settings .epf .sigma; «sigma_for_modular» = nan } };
+  «preserve_outside» = full;
+  settings = record { gabor = record { enabled = enabled; weights = noSetup .settings .gabor .weights }; epf = record { iters = iters; «channel_scale» = []; sigma = noSetup .settings .epf .sigma; «sigma_for_modular» = nan } };
   «band_height» = height;
 }
+
+-- full planes, Gabor off
+abbrev setup : ℤ → ℕ → ℕ → ℕ → Setup
+setup = flagged 1 0
 
 -- in a frame of one group whose grid is missing, with sets of a length and so many block sigmas
 abbrev handed : Setup → ℕ → ℕ → Handed
@@ -60,3 +63,8 @@ corner = (refl, refl, refl)
 lengths : (startNumber 3 (handed (setup (pos 0) 8 0 0) 192 1) ≡ 7) × (startNumber 3 (handed (setup (pos 0) 8 0 0) 192 0) ≡ 9)
 unfolding pictureChecks inside pictured measured place side badSides badSettings tableFits sizesOf someBelow badGrid gridsFit gridStart cells someNotHeld notHeld lacks layoutOf bandCount
 lengths = (refl, refl)
+
+-- a flag of 2: the result's, or Gabor's; 0 and 1 are both in range, and a wrong length comes before
+flags : (startNumber 3 (handed (flagged 2 0 (pos 0) 8 0 8) 192 0) ≡ 9) × (startNumber 3 (handed (flagged 0 2 (pos 0) 8 0 8) 192 0) ≡ 9) × (startNumber 3 (handed (flagged 0 1 (pos 0) 8 0 8) 192 0) ≡ 0) × (startNumber 3 (handed (flagged 2 2 (pos 0) 8 0 8) 191 0) ≡ 7)
+unfolding pictureChecks inside pictured measured place side badSides badSettings tableFits sizesOf someBelow badGrid gridsFit gridStart cells someNotHeld notHeld lacks layoutOf bandCount
+flags = (refl, refl, refl, refl)

@@ -10,6 +10,7 @@ use lib.ListN.{length}
 use lib.Ieee.{Float}
 use Rattle.numbers.specs.Numbers.{outOfMeasure, notInside, notOnBlocks, wrongLength, blockNotHeld, outOfRange}
 use Rattle.numbers.specs.Checks.{Check, always, given, applies, firstOf}
+use Rattle.numbers.specs.Flags.{flagFits, flagSet}
 use Rattle.axis.specs.Laws.{place-size}
 use Rattle.region.specs.declared.Region.{Region}
 use Rattle.region.specs.Regions.{inside}
@@ -35,9 +36,9 @@ use Rattle.record.specs.Record.{started}
 use Rattle.setup.specs.Tests.{sized-by-area}
 use Rattle.runs.specs.Tests.{blocks-same}
 use Rattle.runs.specs.Band.{setCheck}
-use Rattle.runs.specs.Start.{Handed, StartOutcome, blocksOf, pictureChecks, startNumber, sigmasFilled, noRun, startOutcome}
+use Rattle.runs.specs.Start.{Handed, StartOutcome, blocksOf, pictureChecks, startNumber, startLeaves, sigmasFilled, noRun, startOutcome}
 use Rattle.run_start.specs.Lowest.{lowest, Parted, none, left, right, first-lowest, lowest-left, lowest-none, ascending-from}
-use Rattle.run_start.specs.Pieces.{runsEpf, sigmasAsked, ownChecks, numberOf, toldChecks}
+use Rattle.run_start.specs.Pieces.{runsEpf, epfFlag, sigmasAsked, ownChecks, numberOf, toldChecks}
 
 -- ---- a region of a picture, as the pieces judge it
 
@@ -74,6 +75,15 @@ count-same : (s : Setup) → blocksDown (blocksOf s) * blocksAcross (blocksOf s)
 unfolding layoutOf
 count-same s = rw (blocks-same (s .filter .height), blocks-same (s .filter .width))
 
+-- whether the edge filter runs, as a flag
+flag-fits : (b : Bool) → flagFits (cond b 1 0) ≡ true
+flag-fits true = refl
+flag-fits false = refl
+
+flag-set : (b : Bool) → flagSet (cond b 1 0) ≡ b
+flag-set true = refl
+flag-set false = refl
+
 -- the row of the block sigmas' length, and that of 8
 sigmas-row : (iters on : Bool) (k c d : ℕ) → c ≡ d → not (eqb (cond iters k 0) (cond (iters && on) c 0)) ≡ (iters && not (eqb k (cond on d 0)))
 sigmas-row true on k c d e = rw e
@@ -93,8 +103,8 @@ third-row false false true rest e = refl
 third-row false false false rest e = absurd (omega arith)
 
 -- what accepted block sigmas are, iterations being in range
-left-is : (number : ℕ) (iters on : Bool) (defined lent : List Float) → number ≡ 0 → iters ≡ true → leftIn number (iters && on) defined lent ≡ cond on defined lent
-left-is number iters on defined lent p q = rw (p, q)
+left-is : (number : ℕ) (set iters on : Bool) (defined lent : List Float) → number ≡ 0 → set ≡ (iters && on) → iters ≡ true → leftIn number set defined lent ≡ cond on defined lent
+left-is number set iters on defined lent p y q = rw (p, y, q)
 
 -- ---- the rows of start's table that each piece judges
 
@@ -135,10 +145,10 @@ module _ (n : ℕ) (h : Handed) where
 
   whole : Parted (pictureChecks n h) placedRows groupRows
   unfolding pictureChecks
-  whole = left (right (right (left (left (left (right (right (right (right (left (right (right (left (left none))))))))))))))
+  whole = left (right (right (left (left (left (right (right (right (right (left (right (right (left (left (left (left none))))))))))))))))
 
   placed-own : Parted placedRows (placedChecks (s .image) (s .filter)) ownRows
-  placed-own = left (left (right (right (right (right (right none))))))
+  placed-own = left (left (right (right (right (right (right (right (right none))))))))
 
   rows-lowest : firstOf (pictureChecks n h) ≡ lowest (lowest (firstOf (placedChecks (s .image) (s .filter))) (firstOf ownRows)) (firstOf groupRows)
   unfolding pictureChecks
@@ -149,11 +159,11 @@ module _ (n : ℕ) (h : Handed) where
   own-number e = rw (is-sized (s .image) e)
 
   abbrev groupsNumber : ℕ → ℕ
-  groupsNumber = sigmaNumber (runsEpf s) f (blocksOf s) t (h .grids)
+  groupsNumber = sigmaNumber (epfFlag s) f (blocksOf s) t (h .grids)
 
   groups-number : pictured (s .filter) ≡ true → firstOf groupRows ≡ groupsNumber (sigmasAsked s (length (h .sigmas)))
   groups-number e =
-      rw (blocks-good s e, sigmas-row (itersFit s) (epfOn s) (length (h .sigmas)) _ _ (count-same s), held-row (tableRead f t) (runsEpf s) (someNotHeld f (blocksOf s) t))
+      rw (blocks-good s e, flag-fits (runsEpf s), flag-set (runsEpf s), sigmas-row (itersFit s) (epfOn s) (length (h .sigmas)) _ _ (count-same s), held-row (tableRead f t) (runsEpf s) (someNotHeld f (blocksOf s) t))
 
   -- ---- start's number is the lowest of the pieces'
 
@@ -168,7 +178,7 @@ module _ (n : ℕ) (h : Handed) where
       go true e = rows-lowest ∙ rw (own-number (and-first (pictured (s .image)) (pictured (s .filter)) e), groups-number (and-second (pictured (s .image)) (pictured (s .filter)) e))
       go false e =
           let own = ownChecks n s (length (h .first)) (length (h .second)) in
-          let groups = sigmaChecks (runsEpf s) f (blocksOf s) t (h .grids) (sigmasAsked s (length (h .sigmas))) in
+          let groups = sigmaChecks (epfFlag s) f (blocksOf s) t (h .grids) (sigmasAsked s (length (h .sigmas))) in
           rw (
             e,
             lowest-left outOfMeasure (firstOf own) (omega arith) (ascending-from outOfMeasure own refl),
@@ -199,11 +209,11 @@ module _ (n : ℕ) (h : Handed) where
       sigmas-fit = let a : length (h .sigmas) ≡ sigmasAsked s (length (h .sigmas)) = rw iters in ap groupsNumber a ∙ pieces .1
 
       pub accepted : (m : ℕ) (filled : List Float)
-          → _≡_ {A = SigmasOutcome} (record { number = m; sigmas = filled }) (sigmasOutcome (runsEpf s) f (blocksOf s) t (h .grids) (s .settings .epf .«sigma_for_modular») (h .sigmas))
+          → _≡_ {A = SigmasOutcome} (record { number = m; sigmas = filled }) (sigmasOutcome (epfFlag s) f (blocksOf s) t (h .grids) (s .settings .epf .«sigma_for_modular») (h .sigmas))
           → (r : Run) → r ≡ started s
           → _≡_ {A = StartOutcome} (record { answer = record { number = m; run = r }; first = h .first; sigmas = filled }) (startOutcome n h)
-      unfolding startOutcome sigmasFilled
+      unfolding startOutcome startLeaves sigmasFilled
       accepted m filled o r q =
           let a : m ≡ 0 = ap (λ (o : SigmasOutcome). o .number) o ∙ sigmas-fit in
-          let l = ap (λ (o : SigmasOutcome). o .sigmas) o ∙ left-is _ (itersFit s) (epfOn s) _ _ sigmas-fit iters in
+          let l = ap (λ (o : SigmasOutcome). o .sigmas) o ∙ left-is _ (flagSet (epfFlag s)) (itersFit s) (epfOn s) _ _ sigmas-fit (flag-set (runsEpf s)) iters in
           rw (number-is, z, a, l, q)

@@ -9,8 +9,9 @@ use Rattle.placement.specs.Placed.{placedChecks}
 use Rattle.frame.specs.declared.Frame.{Frame}
 use Rattle.groups.specs.Outcome.{sigmaNumber}
 use Rattle.placement.specs.Blocks.{onBlocks}
+use Rattle.passes.specs.Plan.{gaborFits}
 use Rattle.setup.specs.declared.Setup.{Setup}
-use Rattle.setup.specs.Setup.{epfOn, itersFit, heightFits, countFits}
+use Rattle.setup.specs.Setup.{epfOn, itersFit, fullFits, heightFits, countFits}
 use Rattle.runs.specs.Band.{setCheck}
 use Rattle.runs.specs.Start.{blocksOf}
 use Rattle.run_start.specs.Lowest.{lowest}
@@ -19,13 +20,23 @@ use Rattle.run_start.specs.Lowest.{lowest}
 abbrev pub runsEpf : Setup → Bool
 runsEpf s = itersFit s && epfOn s
 
+-- the same as a flag
+abbrev pub epfFlag : Setup → ℕ
+epfFlag s = cond (runsEpf s) 1 0
+
 -- the block sigmas' length; with faulty iterations none, which is what is asked with the edge filter off
 abbrev pub sigmasAsked : Setup → ℕ → ℕ
 sigmasAsked s sigmas = cond (itersFit s) sigmas 0
 
--- what is told: iterations, band height and number of bands
+-- what is told: iterations, both flags, band height and number of bands
 abbrev pub toldChecks : Setup → List Check
-toldChecks s = always outOfRange (not (itersFit s)) ∷ always outOfRange (not (heightFits s)) ∷ given (heightFits s) outOfRange (not (countFits s)) ∷ []
+toldChecks s =
+    always outOfRange (not (itersFit s))
+    ∷ always outOfRange (not (fullFits s))
+    ∷ always outOfRange (not (gaborFits (s .settings)))
+    ∷ always outOfRange (not (heightFits s))
+    ∷ given (fullFits s && heightFits s) outOfRange (not (countFits s))
+    ∷ []
 
 -- the corner, both sets' lengths, and the settings that the record holds
 abbrev pub ownChecks : ℕ → Setup → ℕ → ℕ → List Check
@@ -38,4 +49,4 @@ ownChecks n s first second =
 unfoldable pub numberOf : ℕ → Setup → Frame → List ℕ → List Float → ℕ → ℕ → ℕ → ℕ
 numberOf n s f t grids first second sigmas =
     lowest (lowest (firstOf (placedChecks (s .image) (s .filter))) (firstOf (ownChecks n s first second)))
-    (sigmaNumber (runsEpf s) f (blocksOf s) t grids (sigmasAsked s sigmas))
+    (sigmaNumber (epfFlag s) f (blocksOf s) t grids (sigmasAsked s sigmas))

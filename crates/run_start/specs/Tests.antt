@@ -3,8 +3,6 @@ use mathlib.Core.Path.{_≡_, refl, _∙_}
 use mathlib.Core.Bool.{Bool, true, false, cond, not, _&&_}
 use mathlib.Core.List.{List}
 use Prim.Native.Nat.{ℕ, _/_}
-use borrow.Author.Tests.{le-ltb, lt-ltb, leb-true, leb-false}
-use lib.Dec.{leb, ltb}
 use lib.Ieee.{Float}
 use Rattle.numbers.specs.Numbers.{outOfRange}
 use Rattle.frame.specs.declared.Frame.{Frame}
@@ -14,22 +12,18 @@ use Rattle.sigma.specs.Outcome.{sigmasOutcome}
 use Rattle.placement.specs.Blocks.{ahead}
 use Rattle.setup.specs.declared.Setup.{Setup}
 use Rattle.runs.specs.Start.{Handed, blocksOf}
-use Rattle.run_start.specs.Pieces.{runsEpf, sigmasAsked}
+use Rattle.run_start.specs.Pieces.{epfFlag, sigmasAsked}
 
--- more than m, by two tests
-pub more-than : (m k : ℕ) → ltb m k ≡ not (leb k m)
-more-than m k = go (leb k m) refl
-  where
-    go : (t : Bool) → leb k m ≡ t → ltb m k ≡ not t
-    go true e = le-ltb m k (leb-true k m e)
-    go false e = lt-ltb m k (leb-false k m e)
-
--- the last three rows of what is told, by one test
-pub told-row : (iters height count : Bool) → cond (not (iters && (height && count))) outOfRange 0 ≡ cond (not iters) outOfRange (cond (not height) outOfRange (cond (height && not count) outOfRange 0))
-told-row true true true = refl
-told-row true true false = refl
-told-row true false count = refl
-told-row false height count = refl
+-- the last five rows of what is told, by one test
+pub told-row : (iters full gabor height count : Bool)
+    → cond (not (iters && (full && (gabor && (height && count))))) outOfRange 0
+    ≡ cond (not iters) outOfRange (cond (not full) outOfRange (cond (not gabor) outOfRange (cond (not height) outOfRange (cond ((full && height) && not count) outOfRange 0))))
+told-row true true true true true = refl
+told-row true true true true false = refl
+told-row true true true false count = refl
+told-row true true false height count = refl
+told-row true false gabor height count = refl
+told-row false full gabor height count = refl
 
 -- left and top over 8
 pub same-blocks : (s : Setup) (x y : ℕ) → x ≡ ahead (s .filter .left) → y ≡ ahead (s .filter .top)
@@ -37,12 +31,12 @@ pub same-blocks : (s : Setup) (x y : ℕ) → x ≡ ahead (s .filter .left) → 
 same-blocks s x y p q = rw (p, q)
 
 -- equal inputs get equal numbers, and leave equal block sigmas
-pub same-groups : (s : Setup) (f : Frame) (t : List ℕ) (grids : List Float) (sigmas : ℕ) (n : ℕ) (on : Bool) (b : Blocks) (asked : ℕ)
-    → n ≡ sigmaNumber on f b t grids asked → on ≡ runsEpf s → b ≡ blocksOf s → asked ≡ sigmasAsked s sigmas
-    → n ≡ sigmaNumber (runsEpf s) f (blocksOf s) t grids (sigmasAsked s sigmas)
+pub same-groups : (s : Setup) (f : Frame) (t : List ℕ) (grids : List Float) (sigmas : ℕ) (n on : ℕ) (b : Blocks) (asked : ℕ)
+    → n ≡ sigmaNumber on f b t grids asked → on ≡ epfFlag s → b ≡ blocksOf s → asked ≡ sigmasAsked s sigmas
+    → n ≡ sigmaNumber (epfFlag s) f (blocksOf s) t grids (sigmasAsked s sigmas)
 same-groups s f t grids sigmas n on b asked e p q r = e ∙ rw (p, q, r)
 
-pub same-sigmas : (h : Handed) (a : Bool) (b : Blocks) → a ≡ runsEpf (h .setup) → b ≡ blocksOf (h .setup)
+pub same-sigmas : (h : Handed) (a : ℕ) (b : Blocks) → a ≡ epfFlag (h .setup) → b ≡ blocksOf (h .setup)
     → sigmasOutcome a (h .frame) b (h .table) (h .grids) (h .setup .settings .epf .«sigma_for_modular») (h .sigmas)
-    ≡ sigmasOutcome (runsEpf (h .setup)) (h .frame) (blocksOf (h .setup)) (h .table) (h .grids) (h .setup .settings .epf .«sigma_for_modular») (h .sigmas)
+    ≡ sigmasOutcome (epfFlag (h .setup)) (h .frame) (blocksOf (h .setup)) (h .table) (h .grids) (h .setup .settings .epf .«sigma_for_modular») (h .sigmas)
 same-sigmas h a b p q = rw (p, q)

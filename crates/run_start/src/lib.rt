@@ -2,14 +2,15 @@
 use blocks::Blocks;
 use epf_sigma::EpfSigma;
 use frame::Frame;
-use gabor_header::Gabor;
 use groups::check;
 use numbers::ACCEPTED;
 use numbers::NOT_ON_BLOCKS;
 use numbers::OUT_OF_RANGE;
 use numbers::WRONG_LENGTH;
 use passes::EpfSettings;
+use passes::MAX_ITERS;
 use passes::Settings;
+use passes::gabor_settings;
 use placement::ahead;
 use placement::on_blocks;
 use placement::placed;
@@ -17,11 +18,8 @@ use record::Run;
 use region::Region;
 use runs::RunAnswer;
 use runs::sets_wrong;
-use setup::MAX_BANDS;
-use setup::MAX_ITERS;
-use setup::MAX_SIDE;
 use setup::Setup;
-use setup::band_count;
+use setup::numbers_fit;
 use sigma::block_sigmas;
 ghost use mathlib.Core.Path.{_≡_};
 ghost use mathlib.Core.Bool.{_&&_, not};
@@ -29,11 +27,10 @@ ghost use Rattle.numbers.specs.Checks.{firstOf};
 ghost use Rattle.region.specs.Regions.{zeroRegion};
 ghost use Rattle.groups.specs.Outcome.{sigmaNumber};
 ghost use Rattle.placement.specs.Blocks.{onBlocks};
-ghost use Rattle.setup.specs.Setup.{itersFit, heightFits, countFits};
 ghost use Rattle.record.specs.Record.{started};
 ghost use Rattle.runs.specs.Start.{StartOutcome, blocksOf, noSetup, noRun, startOutcome};
 ghost use Rattle.run_start.specs.Lowest.{lowest};
-ghost use Rattle.run_start.specs.Pieces.{runsEpf, sigmasAsked, ownChecks, numberOf};
+ghost use Rattle.run_start.specs.Pieces.{runsEpf, epfFlag, sigmasAsked, ownChecks, numberOf};
 
 const BLOCK_DIM: usize = 8;
 
@@ -61,6 +58,20 @@ fn runs_epf(s: Setup) -> bool
         return false;
     }
     0 < s.settings.epf.iters
+}
+
+const YES: u32 = 1;
+
+const NO: u32 = 0;
+
+// The same, as `block_sigmas` is told it.
+fn epf_flag(s: Setup) -> u32
+    ensures { λ r. ⌜ r ≡ epfFlag s ⌝ }
+{
+    if runs_epf(s) {
+        return YES;
+    }
+    NO
 }
 
 // The filter region on blocks.
@@ -94,22 +105,6 @@ fn off_blocks(s: Setup) -> bool
     false
 }
 
-// Whether iterations, band height or the count of bands is out of range.
-fn told_wrong(s: Setup) -> bool
-    ensures { λ r. ⌜ r ≡ not (itersFit s && (heightFits s && countFits s)) ⌝ }
-{
-    if MAX_ITERS < s.settings.epf.iters {
-        return true;
-    }
-    if s.band_height < 1 {
-        return true;
-    }
-    if MAX_SIDE < s.band_height {
-        return true;
-    }
-    MAX_BANDS < band_count(s)
-}
-
 // What is told by itself, and both sets: 6, 7 or 9.
 fn own_number(s: Setup, first: usize, second: usize) -> u32
     ensures { λ r. ⌜ r ≡ firstOf (ownChecks 3 s first second) ⌝ }
@@ -120,7 +115,7 @@ fn own_number(s: Setup, first: usize, second: usize) -> u32
     if sets_wrong(s, first, second) {
         return WRONG_LENGTH;
     }
-    if told_wrong(s) {
+    if !numbers_fit(s) {
         return OUT_OF_RANGE;
     }
     ACCEPTED
@@ -128,10 +123,10 @@ fn own_number(s: Setup, first: usize, second: usize) -> u32
 
 // The frame, its group table and grids, and the block sigmas: 4, 7, 8 or 9.
 fn groups_number(s: Setup, frame: Frame, table: &[u32], grids: &[f32], sigmas: usize) -> u32
-    ensures { λ r. ⌜ r ≡ sigmaNumber (runsEpf s) frame (blocksOf s) (now (table .entry)) (now (grids .entry)) (sigmasAsked s sigmas) ⌝ }
+    ensures { λ r. ⌜ r ≡ sigmaNumber (epfFlag s) frame (blocksOf s) (now (table .entry)) (now (grids .entry)) (sigmasAsked s sigmas) ⌝ }
 {
     let asked = sigmas_asked(s, sigmas);
-    check(runs_epf(s), frame, blocks_of(s), table, grids, asked)
+    check(epf_flag(s), frame, blocks_of(s), table, grids, asked)
 }
 
 // The lowest of all numbers.
@@ -158,7 +153,7 @@ fn started(setup: Setup) -> Run
     Run {
         setup,
         pass: 0,
-        done: [false; 256],
+        done: [0; 256],
     }
 }
 
@@ -194,7 +189,7 @@ fn no_edge_filter() -> EpfSettings
 fn no_settings() -> Settings
     ensures { λ r. ⌜ r ≡ noSetup .settings ⌝ }
 {
-    let gabor = Gabor::off();
+    let gabor = gabor_settings(0, [[0.0; 2]; 3]);
     Settings {
         gabor,
         epf: no_edge_filter(),
@@ -208,7 +203,7 @@ fn no_run() -> Run
     let setup = Setup {
         image: no_region(),
         filter: no_region(),
-        preserve_outside: false,
+        preserve_outside: 0,
         settings: no_settings(),
         band_height: 0,
     };
@@ -243,7 +238,7 @@ pub fn start(
         };
     }
     let modular = setup.settings.epf.sigma_for_modular;
-    let on = runs_epf(setup);
+    let on = epf_flag(setup);
     let number = block_sigmas(on, frame, blocks_of(setup), table, grids, modular, sigmas);
     RunAnswer {
         number,

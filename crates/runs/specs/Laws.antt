@@ -1,9 +1,9 @@
 -- What accepted calls were lent, and when a call is accepted. Assumes nothing.
-use mathlib.Core.Path.{_≡_, refl}
+use mathlib.Core.Path.{_≡_, refl, sym, _∙_}
 use mathlib.Core.Bool.{Bool, true, false, cond, not, _&&_, _||_}
 use mathlib.Core.List.{List}
 use Prim.Native.Nat.{ℕ, _*_}
-use borrow.Author.Tests.{eq-eqb}
+use borrow.Author.Tests.{eqb-true, eq-eqb, ne-eqb}
 use lib.Dec.{T, eqb, leb, leb→le, eqb→eq}
 use lib.ListN.{length}
 use lib.Ieee.{Float}
@@ -16,15 +16,16 @@ use Rattle.tiles.specs.Blocks.{blockColumns, blockRows}
 use Rattle.sigma.specs.Sigma.{blockSigmas}
 use Rattle.sigma.specs.Laws.{length-sigmas}
 use Rattle.placement.specs.Blocks.{onBlocks}
+use Rattle.passes.specs.Plan.{gaborFits}
 use Rattle.record.specs.declared.Run.{Run}
-use Rattle.setup.specs.Setup.{layout, epfOn, itersFit, heightFits, countFits, bandCount, setupFits, sized, setLength, sigmaLength, resultRegion, resultLength}
-use Rattle.record.specs.Record.{finished, runFits, overChecks}
+use Rattle.setup.specs.Setup.{layout, epfOn, itersFit, fullFits, heightFits, countFits, bandCount, setupFits, sized, setLength, sigmaLength, resultRegion, resultLength}
+use Rattle.record.specs.Record.{advanced, finished, runFits, overChecks}
 use Rattle.numbers.specs.Tables.{is-true, met, met-given, none-zero, row-passed}
 use Rattle.setup.specs.Laws.{fits-setup}
 use Rattle.record.specs.Laws.{RunFits, run-fits, fits-run, Open, band-open, open-band, Over, pass-over, over-pass}
-use Rattle.runs.specs.Start.{Handed, blocksOf, pictureChecks, sigmasFilled}
-use Rattle.runs.specs.Band.{State, bandChecks, bandNumber, advanceNumber}
-use Rattle.runs.specs.Result.{resultChecks, resultNumber}
+use Rattle.runs.specs.Start.{Handed, blocksOf, pictureChecks, startNumber, startLeaves, sigmasFilled, startAccepted, startRefused, startOutcome}
+use Rattle.runs.specs.Band.{State, readsFirst, bandChecks, bandNumber, bandAccepted, bandOutcome, advanceNumber, advanceOutcome}
+use Rattle.runs.specs.Result.{resultChecks, resultNumber, resultOf, resultOutcome}
 
 -- ---- start
 
@@ -43,8 +44,9 @@ picture-fits n h e =
     let pictures = met (pictured (s .image) && pictured (s .filter)) (passed 0) in
     let set = met (eqb (length (h .first)) (setLength n s) && eqb (length (h .second)) (setLength n s)) (passed 5) in
     let iters : T (itersFit s) = met (itersFit s) (passed 10) in
-    let height : T (heightFits s) = met (heightFits s) (passed 13) in
-    let count : T (countFits s) = met-given (heightFits s) (countFits s) (passed 14) height in
+    let full : T (fullFits s) = met (fullFits s) (passed 13) in
+    let height : T (heightFits s) = met (heightFits s) (passed 15) in
+    let count : T (countFits s) = met-given (fullFits s && heightFits s) (countFits s) (passed 16) (and-i (fullFits s) (heightFits s) full height) in
     record {
       setup = fits-setup s (record {
         image = and-l (pictured (s .image)) (pictured (s .filter)) pictures;
@@ -52,6 +54,8 @@ picture-fits n h e =
         contained = met (inside (s .image) (s .filter)) (passed 3);
         blocks = λ on. met-given (itersFit s && epfOn s) (onBlocks (s .filter)) (passed 4) (and-i (itersFit s) (epfOn s) iters on);
         iterations = leb→le (s .settings .epf .iters) 3 iters;
+        full = full;
+        gabor = met (gaborFits (s .settings)) (passed 14);
         height-least = leb→le 1 (s .«band_height») (and-l (leb 1 (s .«band_height»)) (leb (s .«band_height») 16384) height);
         height-most = leb→le (s .«band_height») 16384 (and-r (leb 1 (s .«band_height»)) (leb (s .«band_height») 16384) height);
         count = leb→le (bandCount s) 256 count;
@@ -72,7 +76,71 @@ sigmas-length n h f = go (epfOn (h .setup)) (f .sigmas)
     go true e = length-sigmas (h .frame) (blocksOf (h .setup)) (h .table) (h .grids) (h .setup .settings .epf .«sigma_for_modular»)
     go false e = e
 
--- ---- a band, an advance and the result
+-- what it leaves of the first set has the length of what it was lent
+pub leaves-length : (n : ℕ) (h : Handed) → length (startLeaves n h) ≡ length (h .first)
+unfolding startLeaves
+leaves-length n h = refl
+
+-- a start that is accepted: the picture would not be refused
+pub start-picture : (n : ℕ) (h : Handed) → startNumber n h ≡ 0 → firstOf (pictureChecks n h) ≡ 0
+start-picture n h e = e
+
+-- ---- outcomes: their numbers, and what accepted and refused calls leave
+
+pub start-number : (n : ℕ) (h : Handed) → startOutcome n h .answer .number ≡ startNumber n h
+unfolding startOutcome
+start-number n h = go (eqb (startNumber n h) 0) refl
+  where
+    go : (b : Bool) → eqb (startNumber n h) 0 ≡ b → cond b (startAccepted n h) (startRefused (startNumber n h) h) .answer .number ≡ startNumber n h
+    go true e = sym (eqb-true (startNumber n h) 0 e)
+    go false e = refl
+
+pub start-accepted : (n : ℕ) (h : Handed) → startOutcome n h .answer .number ≡ 0 → startOutcome n h ≡ startAccepted n h
+unfolding startOutcome
+start-accepted n h e = let z : startNumber n h ≡ 0 = sym (start-number n h) ∙ e in rw (eq-eqb (startNumber n h) 0 z)
+
+pub start-refused : (n : ℕ) (h : Handed) → (startOutcome n h .answer .number ≡ 0 → ⊥) → startOutcome n h ≡ startRefused (startNumber n h) h
+unfolding startOutcome
+start-refused n h e = rw (ne-eqb (startNumber n h) 0 (λ z. e (start-number n h ∙ z)))
+
+pub band-number : (n : ℕ) (t : State) (k : ℕ) → bandOutcome n t k .number ≡ bandNumber n t k
+unfolding bandOutcome
+band-number n t k = refl
+
+pub band-leaves : (n : ℕ) (t : State) (k : ℕ) → bandOutcome n t k .number ≡ 0 → bandOutcome n t k .state ≡ bandAccepted n t k
+unfolding bandOutcome
+band-leaves n t k e = rw (eq-eqb (bandNumber n t k) 0 e)
+
+pub band-refused : (n : ℕ) (t : State) (k : ℕ) → (bandOutcome n t k .number ≡ 0 → ⊥) → bandOutcome n t k .state ≡ t
+unfolding bandOutcome
+band-refused n t k e = rw (ne-eqb (bandNumber n t k) 0 e)
+
+pub advance-number : (r : Run) → advanceOutcome r .number ≡ advanceNumber r
+unfolding advanceOutcome
+advance-number r = refl
+
+pub advance-leaves : (r : Run) → advanceOutcome r .number ≡ 0 → advanceOutcome r .run ≡ advanced r
+unfolding advanceOutcome
+advance-leaves r e = rw (eq-eqb (advanceNumber r) 0 e)
+
+pub advance-refused : (r : Run) → (advanceOutcome r .number ≡ 0 → ⊥) → advanceOutcome r .run ≡ r
+unfolding advanceOutcome
+advance-refused r e = rw (ne-eqb (advanceNumber r) 0 e)
+
+pub result-number : (n : ℕ) (r : Run) (first second out : List Float) → resultOutcome n r first second out .number ≡ resultNumber n r first second out
+unfolding resultOutcome
+result-number n r first second out = refl
+
+pub result-leaves : (n : ℕ) (r : Run) (first second out : List Float) → resultOutcome n r first second out .number ≡ 0
+    → resultOutcome n r first second out .out ≡ resultOf n (layout (r .setup)) (cond (readsFirst r) first second)
+unfolding resultOutcome
+result-leaves n r first second out e = rw (eq-eqb (resultNumber n r first second out) 0 e)
+
+pub result-refused : (n : ℕ) (r : Run) (first second out : List Float) → (resultOutcome n r first second out .number ≡ 0 → ⊥) → resultOutcome n r first second out .out ≡ out
+unfolding resultOutcome
+result-refused n r first second out e = rw (ne-eqb (resultNumber n r first second out) 0 e)
+
+-- ---- what a band, an advance and the result were lent, and when they are accepted
 
 -- what an accepted band was lent
 pub record BandFits (n : ℕ) (t : State) (k : ℕ) : Type 0 where
@@ -129,7 +197,7 @@ result-accepted n r first second out p q l fits f =
     none-zero (resultChecks n r first second out) (
       lengths-passed (sized (s .image)) (length first) (length second) (setLength n s) p q,
       (
-        length-passed (sized (resultRegion s)) (length out) (resultLength n s) l,
+        length-passed (fullFits s && sized (resultRegion s)) (length out) (resultLength n s) l,
         (and-none true (runFits r) (fits-run r fits), (and-none true (finished r) f, tt)),
       ),
     )

@@ -1,5 +1,5 @@
 -- The result: which number it gives, and what it leaves in the lent slice (document 01, "Runs"). Definitions only.
-use mathlib.Core.Bool.{cond, not}
+use mathlib.Core.Bool.{cond, not, _&&_}
 use mathlib.Core.List.{List, _∷_}
 use Prim.Native.Nat.{ℕ, _+_}
 use lib.Dec.{eqb}
@@ -12,7 +12,7 @@ use Rattle.planes.specs.Sets.{of, setOf}
 use Rattle.planes.specs.Band.{resultLeft, resultTop, resultWidth, resultHeight}
 use Rattle.setup.specs.declared.Setup.{Setup}
 use Rattle.record.specs.declared.Run.{Run}
-use Rattle.setup.specs.Setup.{layout, sized, resultRegion, resultLength}
+use Rattle.setup.specs.Setup.{fullFits, layout, sized, resultRegion, resultLength}
 use Rattle.record.specs.Record.{finishedChecks}
 use Rattle.runs.specs.Band.{readsFirst, setCheck}
 
@@ -24,7 +24,7 @@ pub record ResultOutcome : Type 0 where
 module _ (n : ℕ) where
   -- the lent slice
   abbrev pub sliceCheck : Setup → ℕ → Check
-  sliceCheck s out = given (sized (resultRegion s)) wrongLength (not (eqb out (resultLength n s)))
+  sliceCheck s out = given (fullFits s && sized (resultRegion s)) wrongLength (not (eqb out (resultLength n s)))
 
   unfoldable pub resultChecks : Run → List Float → List Float → List Float → List Check
   resultChecks r first second out =

@@ -1,5 +1,5 @@
 -- Start: everything that it is handed, which number it gives, and what it leaves (document 01, "Runs", "Eleven numbers", "Block sigmas"). Definitions only.
-use mathlib.Core.Bool.{Bool, false, cond, not, _&&_}
+use mathlib.Core.Bool.{Bool, cond, not, _&&_}
 use mathlib.Core.List.{List, [], _∷_}
 use Prim.Native.Nat.{ℕ, _/_}
 use lib.Dec.{eqb}
@@ -16,9 +16,10 @@ use Rattle.groups.specs.Held.{someNotHeld}
 use Rattle.groups.specs.Outcome.{tableRead, frameSides, gridSides, tableLength, gridsLength, frameSettings, presences}
 use Rattle.sigma.specs.Sigma.{blockSigmas}
 use Rattle.placement.specs.Blocks.{ahead, onBlocks}
+use Rattle.passes.specs.Plan.{gaborFits}
 use Rattle.setup.specs.declared.Setup.{Setup}
 use Rattle.record.specs.declared.Run.{Run}
-use Rattle.setup.specs.Setup.{epfOn, itersFit, heightFits, countFits, setLength, sigmaLength}
+use Rattle.setup.specs.Setup.{epfOn, itersFit, fullFits, heightFits, countFits, setLength, sigmaLength}
 use Rattle.record.specs.Record.{started}
 use Rattle.runs.specs.declared.RunAnswer.{RunAnswer}
 
@@ -60,8 +61,10 @@ module _ (n : ℕ) (h : Handed) where
       ∷ always outOfRange (not (itersFit setup))
       ∷ frameSettings (h .frame)
       ∷ presences (h .frame) (h .table)
+      ∷ always outOfRange (not (fullFits setup))
+      ∷ always outOfRange (not (gaborFits (setup .settings)))
       ∷ always outOfRange (not (heightFits setup))
-      ∷ given (heightFits setup) outOfRange (not (countFits setup))
+      ∷ given (fullFits setup && heightFits setup) outOfRange (not (countFits setup))
       ∷ []
 
   -- what start checks: so far these alone
@@ -72,7 +75,7 @@ module _ (n : ℕ) (h : Handed) where
   startNumber = firstOf startChecks
 
   -- what an accepted start leaves of the first set: the set as lent
-  abbrev pub startLeaves : List Float
+  unfoldable pub startLeaves : List Float
   startLeaves = h .first
 
   -- the block sigmas that an accepted start fills; with the edge filter off there are none
@@ -85,9 +88,9 @@ abbrev pub noSetup : Setup
 noSetup = record {
   image = zeroRegion;
   filter = zeroRegion;
-  «preserve_outside» = false;
+  «preserve_outside» = 0;
   settings = record {
-    gabor = record { enabled = false; weights = (b0 ∷ b0 ∷ []) ∷ (b0 ∷ b0 ∷ []) ∷ (b0 ∷ b0 ∷ []) ∷ [] };
+    gabor = record { enabled = 0; weights = (b0 ∷ b0 ∷ []) ∷ (b0 ∷ b0 ∷ []) ∷ (b0 ∷ b0 ∷ []) ∷ [] };
     epf = record {
       iters = 0;
       «channel_scale» = b0 ∷ b0 ∷ b0 ∷ [];

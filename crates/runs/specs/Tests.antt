@@ -11,7 +11,7 @@ use Rattle.layout.specs.Outcome.{layoutOf}
 use Rattle.planes.specs.Stored.{and-first, and-second}
 use Rattle.frame.specs.Sizes.{dividedUp}
 use Rattle.setup.specs.declared.Setup.{Setup}
-use Rattle.setup.specs.Setup.{sized, resultRegion, setLength, resultLength}
+use Rattle.setup.specs.Setup.{fullFits, sized, resultRegion, setLength, resultLength}
 use Rattle.runs.specs.Band.{setCheck, sigmaCheck}
 use Rattle.runs.specs.Result.{sliceCheck}
 
@@ -64,12 +64,15 @@ module _ (n : ℕ) (s : Setup) (sigmas : ℕ) where
 
 -- ---- the result's slice
 
-module _ (n : ℕ) (s : Setup) (out : ℕ) (r : Region) (p : r ≡ resultRegion s) where
+pub no-result : (n : ℕ) (s : Setup) (out : ℕ) → fullFits s ≡ false → false ≡ applies (sliceCheck n s out)
+no-result n s out f = rw f
+
+module _ (n : ℕ) (s : Setup) (out : ℕ) (f : fullFits s ≡ true) (r : Region) (p : r ≡ resultRegion s) where
   pub slice-unknown : sized r ≡ false → false ≡ applies (sliceCheck n s out)
-  slice-unknown e = let z : sized (resultRegion s) ≡ false = sym (ap sized p) ∙ e in rw z
+  slice-unknown e = let z : sized (resultRegion s) ≡ false = sym (ap sized p) ∙ e in rw (f, z)
 
   pub slice-by-length : sized r ≡ true → (k : ℕ) → k ≡ n * r .height * r .width → not (eqb out k) ≡ applies (sliceCheck n s out)
   slice-by-length e k q =
       let z : sized (resultRegion s) ≡ true = sym (ap sized p) ∙ e in
       let l : k ≡ resultLength n s = q ∙ ap (λ (r : Region). n * r .height * r .width) p in
-      rw (z, l)
+      rw (f, z, l)

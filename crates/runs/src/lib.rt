@@ -1,8 +1,10 @@
 // Runs: what calls answer, and the lengths of what they are lent. The outcomes of start, band, advance and result are defined in specs/.
 use blocks::blocks_along;
+use numbers::flag_fits;
+use numbers::flag_set;
+use passes::MAX_ITERS;
 use record::Run;
 use region::Region;
-use setup::MAX_ITERS;
 use setup::Setup;
 use setup::sized;
 ghost use mathlib.Core.Path.{_≡_};
@@ -32,7 +34,7 @@ fn set_length(r: Region) -> usize
 fn result_region(s: Setup) -> Region
     ensures { λ r. ⌜ r ≡ resultRegion s ⌝ }
 {
-    if s.preserve_outside {
+    if flag_set(s.preserve_outside) {
         return s.image;
     }
     s.filter
@@ -70,10 +72,13 @@ pub fn sigmas_wrong(s: Setup, sigmas: usize) -> bool
     sigmas != down * across
 }
 
-// Whether the result's slice has a wrong length; not known where the sides or the area of the result's region are out of measure.
+// Whether the result's slice has a wrong length; not known where the flag that chooses the result's region, or its sides or area, are out of range.
 pub fn slice_wrong(s: Setup, out: usize) -> bool
     ensures { λ b. ⌜ b ≡ applies (sliceCheck 3 s out) ⌝ }
 {
+    if !flag_fits(s.preserve_outside) {
+        return false;
+    }
     let r = result_region(s);
     if !sized(r) {
         return false;

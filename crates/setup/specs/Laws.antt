@@ -16,9 +16,10 @@ use Rattle.placement.specs.Placed.{placedChecks, placed-inside}
 use Rattle.layout.specs.Fits.{Accepted, layout-accepted}
 use Rattle.grids.specs.Laws.{neither}
 use Rattle.placement.specs.Blocks.{onBlocks}
+use Rattle.passes.specs.Plan.{gaborFits}
 use Rattle.setup.specs.declared.Setup.{Setup}
 use Rattle.numbers.specs.Tables.{is-true}
-use Rattle.setup.specs.Setup.{layout, epfOn, rowCount, bandCount, bandFrom, bandTo, sized, resultRegion, itersFit, blocksFit, heightFits, countFits, setupFits}
+use Rattle.setup.specs.Setup.{fullPlanes, fullFits, numbersFit, layout, epfOn, rowCount, bandCount, bandFrom, bandTo, sized, resultRegion, itersFit, blocksFit, heightFits, countFits, setupFits}
 
 -- what start would not refuse under 4, 5, 6 and 9
 pub record SetupFits (s : Setup) : Type 0 where
@@ -27,6 +28,8 @@ pub record SetupFits (s : Setup) : Type 0 where
   pub contained : T (inside (s .image) (s .filter))
   pub blocks : T (epfOn s) → T (onBlocks (s .filter))
   pub iterations : s .settings .epf .iters ≤ 3
+  pub full : T (fullFits s)
+  pub gabor : T (gaborFits (s .settings))
   pub height-least : 1 ≤ s .«band_height»
   pub height-most : s .«band_height» ≤ 16384
   pub count : bandCount s ≤ 256
@@ -40,36 +43,44 @@ are-blocks true b f = f tt
 are-blocks false b f = tt
 
 pub setup-fits : (s : Setup) → T (setupFits s) → SetupFits s
-unfolding setupFits
+unfolding setupFits numbersFit
 setup-fits s t =
     let pictures = pictured (s .image) && pictured (s .filter) in
     let placed = inside (s .image) (s .filter) && blocksFit s in
-    let numbers = itersFit s && (heightFits s && countFits s) in
-    let p = and-l (pictures && placed) numbers t in
-    let q = and-r (pictures && placed) numbers t in
-    let h = and-l (heightFits s) (countFits s) (and-r (itersFit s) (heightFits s && countFits s) q) in
+    let gabor = gaborFits (s .settings) in
+    let bands = heightFits s && countFits s in
+    let p = and-l (pictures && placed) (numbersFit s) t in
+    let q = and-r (pictures && placed) (numbersFit s) t in
+    let flags = and-r (itersFit s) (fullFits s && (gabor && bands)) q in
+    let u = and-r gabor bands (and-r (fullFits s) (gabor && bands) flags) in
+    let h = and-l (heightFits s) (countFits s) u in
     record {
       image = and-l (pictured (s .image)) (pictured (s .filter)) (and-l pictures placed p);
       filter = and-r (pictured (s .image)) (pictured (s .filter)) (and-l pictures placed p);
       contained = and-l (inside (s .image) (s .filter)) (blocksFit s) (and-r pictures placed p);
       blocks = blocks-are (epfOn s) (onBlocks (s .filter)) (and-r (inside (s .image) (s .filter)) (blocksFit s) (and-r pictures placed p));
-      iterations = leb→le (s .settings .epf .iters) 3 (and-l (itersFit s) (heightFits s && countFits s) q);
+      iterations = leb→le (s .settings .epf .iters) 3 (and-l (itersFit s) (fullFits s && (gabor && bands)) q);
+      full = and-l (fullFits s) (gabor && bands) flags;
+      gabor = and-l gabor bands (and-r (fullFits s) (gabor && bands) flags);
       height-least = leb→le 1 (s .«band_height») (and-l (leb 1 (s .«band_height»)) (leb (s .«band_height») 16384) h);
       height-most = leb→le (s .«band_height») 16384 (and-r (leb 1 (s .«band_height»)) (leb (s .«band_height») 16384) h);
-      count = leb→le (bandCount s) 256 (and-r (heightFits s) (countFits s) (and-r (itersFit s) (heightFits s && countFits s) q));
+      count = leb→le (bandCount s) 256 (and-r (heightFits s) (countFits s) u);
     }
 
 pub fits-setup : (s : Setup) → SetupFits s → T (setupFits s)
-unfolding setupFits
+unfolding setupFits numbersFit
 fits-setup s f =
-    and-i ((pictured (s .image) && pictured (s .filter)) && (inside (s .image) (s .filter) && blocksFit s)) (itersFit s && (heightFits s && countFits s))
+    let gabor = gaborFits (s .settings) in
+    let bands = heightFits s && countFits s in
+    and-i ((pictured (s .image) && pictured (s .filter)) && (inside (s .image) (s .filter) && blocksFit s)) (numbersFit s)
     (and-i (pictured (s .image) && pictured (s .filter)) (inside (s .image) (s .filter) && blocksFit s)
     (and-i (pictured (s .image)) (pictured (s .filter)) (f .image) (f .filter))
     (and-i (inside (s .image) (s .filter)) (blocksFit s) (f .contained) (are-blocks (epfOn s) (onBlocks (s .filter)) (f .blocks))))
-    (and-i (itersFit s) (heightFits s && countFits s) (le→leb (s .settings .epf .iters) 3 (f .iterations))
+    (and-i (itersFit s) (fullFits s && (gabor && bands)) (le→leb (s .settings .epf .iters) 3 (f .iterations))
+    (and-i (fullFits s) (gabor && bands) (f .full) (and-i gabor bands (f .gabor)
     (and-i (heightFits s) (countFits s)
     (and-i (leb 1 (s .«band_height»)) (leb (s .«band_height») 16384) (le→leb 1 (s .«band_height») (f .height-least)) (le→leb (s .«band_height») 16384 (f .height-most)))
-    (le→leb (bandCount s) 256 (f .count))))
+    (le→leb (bandCount s) 256 (f .count))))))
 
 -- sides and area of a picture's region
 pub pictured-sized : (r : Region) → T (pictured r) → sized r ≡ true
@@ -92,7 +103,7 @@ module _ (s : Setup) (f : SetupFits s) where
   filter-sized = pictured-sized (s .filter) (f .filter)
 
   pub result-sized : sized (resultRegion s) ≡ true
-  result-sized = go (s .«preserve_outside»)
+  result-sized = go (fullPlanes s)
     where
       go : (b : Bool) → sized (cond b (s .image) (s .filter)) ≡ true
       go true = image-sized
@@ -104,7 +115,7 @@ module _ (s : Setup) (f : SetupFits s) where
 
   -- its layout has the filter region inside the image region
   pub setup-layout : Accepted (layout s)
-  setup-layout = layout-accepted (s .image) (s .filter) (s .«preserve_outside») placed-accepted
+  setup-layout = layout-accepted (s .image) (s .filter) (fullPlanes s) placed-accepted
 
 -- ---- bands
 

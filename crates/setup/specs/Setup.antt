@@ -4,6 +4,7 @@ use mathlib.Core.List.{List}
 use Prim.Native.Nat.{ℕ, _+_, _-_, _*_, _/_, min}
 use lib.Dec.{leb, ltb}
 use lib.Ieee.{Float}
+use Rattle.numbers.specs.Flags.{flagFits, flagSet}
 use Rattle.region.specs.declared.Region.{Region}
 use Rattle.region.specs.Regions.{inside}
 use Rattle.region.specs.Measures.{areaFits, pictured}
@@ -13,11 +14,16 @@ use Rattle.layout.specs.Outcome.{layoutOf}
 use Rattle.tiles.specs.Blocks.{blockColumns, sigmaOf, blockRows}
 use Rattle.placement.specs.Blocks.{ahead, onBlocks}
 use Rattle.passes.specs.Pass.{Area}
+use Rattle.passes.specs.Plan.{gaborFits, iterationsFit}
 use Rattle.setup.specs.declared.Setup.{Setup}
+
+-- the result is the full planes, or else the filter region's part
+abbrev pub fullPlanes : Setup → Bool
+fullPlanes s = flagSet (s .«preserve_outside»)
 
 -- where the filter region lies in the planes, and the result
 abbrev pub layout : Setup → Layout
-layout s = layoutOf (s .image) (s .filter) (s .«preserve_outside»)
+layout s = layoutOf (s .image) (s .filter) (fullPlanes s)
 
 -- the edge filter is on: the iterations alone say it
 abbrev pub epfOn : Setup → Bool
@@ -49,7 +55,10 @@ unfoldable pub sized : Region → Bool
 sized r = (leb (r .width) 16384 && leb (r .height) 16384) && areaFits (r .width) (r .height)
 
 abbrev pub itersFit : Setup → Bool
-itersFit s = leb (s .settings .epf .iters) 3
+itersFit s = iterationsFit (s .settings)
+
+abbrev pub fullFits : Setup → Bool
+fullFits s = flagFits (s .«preserve_outside»)
 
 -- the filter region starts at multiples of 8 where the edge filter is on
 abbrev pub blocksFit : Setup → Bool
@@ -61,8 +70,12 @@ heightFits s = leb 1 (s .«band_height») && leb (s .«band_height») 16384
 abbrev pub countFits : Setup → Bool
 countFits s = leb (bandCount s) 256
 
+-- the iterations, both flags, the band height and the count of bands
+unfoldable pub numbersFit : Setup → Bool
+numbersFit s = itersFit s && (fullFits s && (gaborFits (s .settings) && (heightFits s && countFits s)))
+
 unfoldable pub setupFits : Setup → Bool
-setupFits s = ((pictured (s .image) && pictured (s .filter)) && (inside (s .image) (s .filter) && blocksFit s)) && (itersFit s && (heightFits s && countFits s))
+setupFits s = ((pictured (s .image) && pictured (s .filter)) && (inside (s .image) (s .filter) && blocksFit s)) && numbersFit s
 
 -- ---- lengths of what is lent, for n planes
 
@@ -76,7 +89,7 @@ sigmaLength s = cond (epfOn s) (blockRows (layout s) * blockColumns (layout s)) 
 
 -- the result's own region
 abbrev pub resultRegion : Setup → Region
-resultRegion s = cond (s .«preserve_outside») (s .image) (s .filter)
+resultRegion s = cond (fullPlanes s) (s .image) (s .filter)
 
 abbrev pub resultLength : ℕ → Setup → ℕ
 resultLength n s = n * resultRegion s .height * resultRegion s .width

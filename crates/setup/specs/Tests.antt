@@ -15,9 +15,10 @@ use Rattle.numbers.specs.Checks.{firstOf}
 use Rattle.layout.specs.Outcome.{layoutOf}
 use Rattle.layout.specs.Fits.{zero-is}
 use Rattle.placement.specs.Blocks.{onBlocks}
+use Rattle.passes.specs.Plan.{gaborFits}
 use Rattle.setup.specs.declared.Setup.{Setup}
 use Rattle.numbers.specs.Tables.{is-true}
-use Rattle.setup.specs.Setup.{rowCount, bandCount, sized, blocksFit, itersFit, heightFits, countFits, setupFits}
+use Rattle.setup.specs.Setup.{fullPlanes, fullFits, rowCount, bandCount, sized, blocksFit, heightFits, numbersFit, setupFits}
 
 -- ---- a region's sides and area
 
@@ -45,11 +46,11 @@ module _ (r : Region) where
 -- ---- a setup
 
 module _ (s : Setup) where
-  pub full-rows : s .«preserve_outside» ≡ true → s .image .height ≡ rowCount s
+  pub full-rows : fullPlanes s ≡ true → s .image .height ≡ rowCount s
   unfolding layoutOf
   full-rows e = rw e
 
-  pub part-rows : s .«preserve_outside» ≡ false → s .filter .height ≡ rowCount s
+  pub part-rows : fullPlanes s ≡ false → s .filter .height ≡ rowCount s
   unfolding layoutOf
   part-rows e = rw e
 
@@ -69,6 +70,29 @@ module _ (s : Setup) where
   pub height-by-most : 1 ≤ s .«band_height» → leb (s .«band_height») 16384 ≡ heightFits s
   height-by-most h = rw (le-leb 1 (s .«band_height») h)
 
+  pub too-many-iters : 3 < s .settings .epf .iters → false ≡ numbersFit s
+  unfolding numbersFit
+  too-many-iters h = rw (lt-leb (s .settings .epf .iters) 3 h)
+
+  module _ (i : s .settings .epf .iters ≤ 3) where
+    pub no-full-fits : fullFits s ≡ false → false ≡ numbersFit s
+    unfolding numbersFit
+    no-full-fits f = rw (le-leb (s .settings .epf .iters) 3 i, f)
+
+    module _ (f : fullFits s ≡ true) where
+      pub no-gabor-fits : gaborFits (s .settings) ≡ false → false ≡ numbersFit s
+      unfolding numbersFit
+      no-gabor-fits g = rw (le-leb (s .settings .epf .iters) 3 i, f, g)
+
+      module _ (g : gaborFits (s .settings) ≡ true) where
+        pub no-height-fits : heightFits s ≡ false → false ≡ numbersFit s
+        unfolding numbersFit
+        no-height-fits h = rw (le-leb (s .settings .epf .iters) 3 i, f, g, h)
+
+        pub fits-by-count : heightFits s ≡ true → leb (bandCount s) 256 ≡ numbersFit s
+        unfolding numbersFit
+        fits-by-count h = rw (le-leb (s .settings .epf .iters) 3 i, f, g, h)
+
 -- ---- what start would refuse
 
 none-placed : (a b c d e : Bool) → (cond (true && not (a && b)) outOfMeasure (cond (true && not c) notInside 0) ≡ 0 → ⊥) → false ≡ (((a && b) && (c && d)) && e)
@@ -85,7 +109,7 @@ module _ (s : Setup) (a : PlacedAnswer) (e : a ≡ placedOutcome (s .image) (s .
   pub not-placed : (a .number ≡ 0 → ⊥) → false ≡ setupFits s
   unfolding setupFits
   not-placed h =
-      none-placed (pictured (s .image)) (pictured (s .filter)) (inside (s .image) (s .filter)) (blocksFit s) (itersFit s && (heightFits s && countFits s))
+      none-placed (pictured (s .image)) (pictured (s .filter)) (inside (s .image) (s .filter)) (blocksFit s) (numbersFit s)
       (λ z. h (number-is ∙ z))
 
   module _ (z : a .number ≡ 0) where
@@ -98,16 +122,6 @@ module _ (s : Setup) (a : PlacedAnswer) (e : a ≡ placedOutcome (s .image) (s .
     unfolding setupFits
     not-on-blocks b = rw (parts .0, parts .1, parts .2, b)
 
-    module _ (b : blocksFit s ≡ true) where
-      pub too-many-iters : 3 < s .settings .epf .iters → false ≡ setupFits s
-      unfolding setupFits
-      too-many-iters h = rw (parts .0, parts .1, parts .2, b, lt-leb (s .settings .epf .iters) 3 h)
-
-      module _ (i : s .settings .epf .iters ≤ 3) where
-        pub no-height-fits : heightFits s ≡ false → false ≡ setupFits s
-        unfolding setupFits
-        no-height-fits h = rw (parts .0, parts .1, parts .2, b, le-leb (s .settings .epf .iters) 3 i, h)
-
-        pub fits-by-count : heightFits s ≡ true → leb (bandCount s) 256 ≡ setupFits s
-        unfolding setupFits
-        fits-by-count h = rw (parts .0, parts .1, parts .2, b, le-leb (s .settings .epf .iters) 3 i, h)
+    pub fits-by-numbers : blocksFit s ≡ true → numbersFit s ≡ setupFits s
+    unfolding setupFits
+    fits-by-numbers b = rw (parts .0, parts .1, parts .2, b)

@@ -1,28 +1,29 @@
 // What start is told and no call of a run changes: which of it is in range, and the rows and bands of the result.
 use numbers::ACCEPTED;
+use numbers::flag_fits;
+use numbers::flag_set;
+use passes::MAX_ITERS;
 use passes::Settings;
 use placement::on_blocks;
 use placement::placed;
 use region::Region;
 ghost use mathlib.Core.Path.{_≡_};
 ghost use Prim.Native.Nat.{_<_};
-ghost use Rattle.setup.specs.Setup.{rowCount, sized, bandCount, blocksFit, heightFits, setupFits};
+ghost use Rattle.setup.specs.Setup.{rowCount, sized, bandCount, blocksFit, heightFits, numbersFit, setupFits};
 
 // Document 01, "Measures" and "Runs".
 pub const MAX_SIDE: u32 = 16384;
 
 const MAX_AREA: u32 = 16777216;
 
-pub const MAX_ITERS: u32 = 3;
-
 pub const MAX_BANDS: usize = 256;
 
-// What start is told and no call changes. `band_height` is in rows of the result.
+// What start is told and no call changes. `preserve_outside` is a flag: the result is the full planes. `band_height` is in rows of the result.
 #[repr(C)]
 pub struct Setup {
     pub image: Region,
     pub filter: Region,
-    pub preserve_outside: bool,
+    pub preserve_outside: u32,
     pub settings: Settings,
     pub band_height: u32,
 }
@@ -50,7 +51,7 @@ pub fn sized(r: Region) -> bool
 pub fn row_count(s: Setup) -> usize
     ensures { λ r. ⌜ (r ≡ rowCount s) × (r < 4294967296) ⌝ }
 {
-    if s.preserve_outside {
+    if flag_set(s.preserve_outside) {
         return s.image.height as usize;
     }
     s.filter.height as usize
@@ -84,6 +85,25 @@ fn height_fits(s: Setup) -> bool
     s.band_height <= MAX_SIDE
 }
 
+// Whether the iterations, both flags, the band height and the count of bands are in range.
+pub fn numbers_fit(s: Setup) -> bool
+    ensures { λ r. ⌜ r ≡ numbersFit s ⌝ }
+{
+    if MAX_ITERS < s.settings.epf.iters {
+        return false;
+    }
+    if !flag_fits(s.preserve_outside) {
+        return false;
+    }
+    if !flag_fits(s.settings.gabor.enabled) {
+        return false;
+    }
+    if !height_fits(s) {
+        return false;
+    }
+    band_count(s) <= MAX_BANDS
+}
+
 // Whether start would refuse none of it under 4, 5, 6 and 9.
 pub fn setup_fits(s: Setup) -> bool
     ensures { λ r. ⌜ r ≡ setupFits s ⌝ }
@@ -95,11 +115,5 @@ pub fn setup_fits(s: Setup) -> bool
     if !blocks_fit(s) {
         return false;
     }
-    if MAX_ITERS < s.settings.epf.iters {
-        return false;
-    }
-    if !height_fits(s) {
-        return false;
-    }
-    band_count(s) <= MAX_BANDS
+    numbers_fit(s)
 }

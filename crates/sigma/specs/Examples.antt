@@ -1,6 +1,5 @@
 -- The sigmas of some blocks, computed. Assumes nothing.
 use mathlib.Core.Path.{_≡_, refl}
-use mathlib.Core.Bool.{true}
 use mathlib.Core.List.{List, [], _∷_}
 use Prim.Native.Nat.{ℕ}
 use lib.ListN.{getD, replicate}
@@ -42,7 +41,7 @@ unfolding sizesOf gridStart cells sigmaIn frameSigma aboveAt blockSigma blockSig
 started grids modular = refl
 
 -- these inputs are accepted
-fits : sigmaNumber true frame (blocks 127 24) table (replicate 128 nan) 3 ≡ 0
+fits : sigmaNumber 1 frame (blocks 127 24) table (replicate 128 nan) 3 ≡ 0
 unfolding sizesOf badSides badSettings badBlocks tableFits gridsFit gridStart cells someBelow badGrid someNotHeld notHeld lacks
 fits = refl
 

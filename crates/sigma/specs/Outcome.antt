@@ -5,6 +5,7 @@ use Prim.Native.Nat.{ℕ}
 use lib.Dec.{eqb}
 use lib.ListN.{length}
 use lib.Ieee.{Float}
+use Rattle.numbers.specs.Flags.{flagSet}
 use Rattle.frame.specs.declared.Frame.{Frame}
 use Rattle.blocks.specs.declared.Blocks.{Blocks}
 use Rattle.groups.specs.Outcome.{sigmaNumber}
@@ -18,9 +19,9 @@ pub record SigmasOutcome : Type 0 where
 abbrev pub leftIn : ℕ → Bool → List Float → List Float → List Float
 leftIn number on defined lent = cond (eqb number 0 && on) defined lent
 
-abbrev pub sigmasOutcome : Bool → Frame → Blocks → List ℕ → List Float → Float → List Float → SigmasOutcome
+abbrev pub sigmasOutcome : ℕ → Frame → Blocks → List ℕ → List Float → Float → List Float → SigmasOutcome
 sigmasOutcome on f b t grids modular lent =
     record {
       number = sigmaNumber on f b t grids (length lent);
-      sigmas = leftIn (sigmaNumber on f b t grids (length lent)) on (blockSigmas f b t grids modular) lent;
+      sigmas = leftIn (sigmaNumber on f b t grids (length lent)) (flagSet on) (blockSigmas f b t grids modular) lent;
     }

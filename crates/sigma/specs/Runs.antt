@@ -15,6 +15,7 @@ use lib.Ieee.{Float, nan}
 use Rattle.planes.specs.Sets.{tab}
 use Rattle.planes.specs.SetLaws.{length-tab, getD-tab}
 use Rattle.planes.specs.Fill.{fill, length-fill, fill-before, fill-at, fill-then}
+use Rattle.numbers.specs.Flags.{flagSet}
 use Rattle.frame.specs.declared.Frame.{Frame}
 use Rattle.frame.specs.declared.GroupSizes.{GroupSizes}
 use Rattle.frame.specs.declared.FrameAnswer.{FrameAnswer}
@@ -252,7 +253,7 @@ row-fits f sizes b t grids h n y q l =
     })
 
 -- an acceptance with the edge filter on, and the sizes that `group_sizes` answers
-pub all-fits : (f : Frame) (b : Blocks) (t : List ℕ) (grids : List Float) (n : ℕ) (on : Bool) (answer : FrameAnswer) → Accepted on f b t grids n → on ≡ true
+pub all-fits : (f : Frame) (b : Blocks) (t : List ℕ) (grids : List Float) (n on : ℕ) (answer : FrameAnswer) → Accepted on f b t grids n → flagSet on ≡ true
     → answer ≡ frameOutcome f → AllFits f (answer .sizes) b t grids
 all-fits f b t grids n on answer h o e =
     record {

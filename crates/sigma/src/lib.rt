@@ -182,7 +182,7 @@ fn fill_rows(
 
 // The sigma of each block of the filter region, row of blocks after row, or the number that the inputs are refused with.
 pub fn block_sigmas(
-    on: bool,
+    on: u32,
     frame: Frame,
     blocks: Blocks,
     table: &[u32],
@@ -196,7 +196,7 @@ pub fn block_sigmas(
     if number != numbers::ACCEPTED {
         return number;
     }
-    if !on {
+    if !numbers::flag_set(on) {
         return number;
     }
     let answer = frame::group_sizes(frame);

@@ -1,5 +1,5 @@
 // An edge-preserving step by tiles of at most eight rows of 56 columns, each within one row of blocks.
-pub mod region;
+pub mod strips;
 mod tile;
 
 // The settings of a step: a scale for each channel, the step's own multiplier as `scale`, the border multiplier as `edge`, and the copying limit.

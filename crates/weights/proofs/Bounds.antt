@@ -7,11 +7,11 @@ use Prim.Native.Nat.{ℕ, zero, suc, _+_, _-_, _*_, _^_, _≤_, _<_}
 use native.Mathlib.Nat.{mul-pos, zero-lt-suc, add-zero}
 use native.Mathlib.Omega.{arith}
 use borrow.Author.Tests.{le-ltb}
-use lib.Dec.{T, ltb, lit≤}
+use lib.Dec.{T, ltb, nltb→le, lit≤}
 use lib.ListN.{length}
 use lib.IntN.{pos, _+ℤ_}
 use lib.Ieee.{Float, nan, inf, fin, binary32, up, down, round, sum, add, sub, mul, lt, ofBits}
-use lib.Ieee.Fits.{down-pos}
+use lib.Ieee.Fits.{up-pos, down-pos}
 use lib.Ieee.Positive.{above}
 use lib.Ieee.Exact.{HasValue}
 use Rattle.planes.specs.Samples.{_⊕_, _⊖_, _⊗_, _⊘_, b0, b1}
@@ -19,8 +19,8 @@ use Rattle.planes.specs.Picture.{Around}
 use Rattle.rounding.specs.Rounded.{Within, round-within, round-signed, add-within, within-le}
 use Rattle.rounding.specs.Side.{Side, of-signed, add-side, mul-side, div-side, not-negative, not-under, either, wider}
 use Rattle.rounding.specs.Magnitude.{magnitude}
-use Rattle.weights.specs.Steps.{Offset, Scaled, kernel, dists, along, apart, distance, positive, falloff, weight, weightBy, copied, weightAt, divisor, border, multiplier}
-use Rattle.weights.specs.Bounds.{notNegative, ScalesNotNegative, most, WeightBounds, DivisorBounds, MultiplierNotNegative, PassBounds}
+use Rattle.weights.specs.Steps.{Offset, Scaled, kernel, dists, along, apart, distance, positive, falloff, weightBy, copied, weightAt, divisor, border, multiplier}
+use Rattle.weights.specs.Bounds.{notNegative, notPositive, ScalesNotNegative, Between, most, WeightBounded, DistanceNotNegative, SlopeNotPositive, WeightBounds, DivisorBounds, MultiplierNotNegative, PassBounds}
 
 -- ---- constants
 
@@ -40,11 +40,6 @@ most-value : (step : ℕ) → HasValue (most step) false (1 + length (kernel ste
 unfolding ofBits kernel
 most-value zero = (refl, refl)
 most-value (suc step) = (refl, refl)
-
-few : (step : ℕ) → 1 + length (kernel step) ≤ 2 ^ 24
-unfolding kernel
-few zero = lit≤ tt
-few (suc step) = lit≤ tt
 
 falloff-side : Side true falloff
 unfolding ofBits mul sub
@@ -67,6 +62,23 @@ of-side (fin true m e) (inl p) = absurd (true≢false p)
 of-side (fin true m e) (inr p) =
     let z : m * up e * 1 + 0 * 1 * down e ≤ 0 = omega (arith, ap (λ (n : ℕ). n * up e) p) in
     rw (le-ltb 0 (m * up e * 1 + 0 * 1 * down e) z) tt
+
+not-positive : (x : Float) → T (notPositive x) → Side true x
+unfolding lt ofBits
+not-positive nan h = tt
+not-positive (inf true) h = refl
+not-positive (inf false) h = absurd h
+not-positive (fin true m e) h = inl refl
+not-positive (fin false zero e) h = inr refl
+not-positive (fin false (suc m) e) h = absurd (omega (arith, nltb→le (0 * down e) (suc m * up e * 1) h, mul-pos (zero-lt-suc m) (up-pos e)))
+
+of-side-below : (x : Float) → Side true x → T (notPositive x)
+unfolding lt ofBits
+of-side-below nan h = tt
+of-side-below (inf s) h = rw h tt
+of-side-below (fin true m e) h = tt
+of-side-below (fin false m e) (inl p) = absurd (false≢true p)
+of-side-below (fin false m e) (inr p) = let z : m * up e * 1 ≤ 0 * down e = omega (arith, ap (λ (n : ℕ). n * up e) p) in rw (le-ltb (0 * down e) (m * up e * 1) z) tt
 
 reached : (sigma limit : Float) → copied sigma limit ≡ false → T (not (lt sigma limit))
 unfolding copied
@@ -130,18 +142,45 @@ positive-within (fin false m e) (inr (inr z)) = either (Within 0 1) (ltb (0 * do
 
 -- ---- the weights, and their sum
 
-weight-within : (limit sigma m d : Float) → T (above limit) → copied sigma limit ≡ false → Side false m → Side false d → Within 0 1 (weight sigma m d)
+-- for crates that form divisors
+pub weight-within : (d slope : Float) → T (notNegative d) → T (notPositive slope) → Within 0 1 (weightBy slope d)
 unfolding weightBy
-weight-within limit sigma m d p h k l =
-    positive-within (b1 ⊕ d ⊗ (falloff ⊘ sigma ⊗ m)) (less (d ⊗ (falloff ⊘ sigma ⊗ m))
-    (mul-side binary32 false true d (falloff ⊘ sigma ⊗ m) l
-    (mul-side binary32 true false (falloff ⊘ sigma) m (div-side binary32 true false falloff sigma falloff-side (not-under limit sigma p (reached sigma limit h))) k)))
+weight-within d slope l k = positive-within (b1 ⊕ d ⊗ slope) (less (d ⊗ slope) (mul-side binary32 false true d slope (side-of d l) (not-positive slope k)))
+
+-- `weight`'s contract
+pub weight-bounded : (d slope w : Float) → w ≡ weightBy slope d → (w ≡ weightBy slope d) × WeightBounded d slope w
+weight-bounded d slope w e = (e, λ l k. rw e (within-le b0 b1 (weightBy slope d) 0 1 zero-value one-value (weight-within d slope l k)))
+
+pub distance-not-negative : DistanceNotNegative
+distance-not-negative cs ds v k p = of-side _ (distance-side v k ds cs p)
+
+pub slope-not-positive : SlopeNotPositive
+slope-not-positive limit sigma m p h k =
+    of-side-below _ (mul-side binary32 true false (falloff ⊘ sigma) m (div-side binary32 true false falloff sigma falloff-side (not-under limit sigma p (reached sigma limit h))) (side-of m k))
+
+-- a sum that starts at 1
+pub one-within : Within 1 1 b1
+unfolding ofBits
+one-within = (refl, lit≤ tt, lit≤ tt)
+
+-- and weights added to it
+pub sum-within : (s w : Float) (b : ℕ) → b + 1 ≤ 2 ^ 24 → Within 1 b s → Within 0 1 w → Within 1 (b + 1) (s ⊕ w)
+sum-within s w b h = add-within binary32 s w 1 b 0 1 h
+
+-- as many as the step has neighbours
+pub most-within : (step : ℕ) (s : Float) → Within 1 (1 + length (kernel step)) s → Between b1 (most step) s
+most-within step s = within-le b1 (most step) s 1 (1 + length (kernel step)) one-value (most-value step)
+
+pub few-weights : (step : ℕ) → 1 + length (kernel step) ≤ 2 ^ 24
+unfolding kernel
+few-weights zero = lit≤ tt
+few-weights (suc step) = lit≤ tt
 
 module _ (cs : List Scaled) (ks ds : List Offset) (limit sigma m : Float) (v : Around)
     (over : T (above limit)) (uncopied : copied sigma limit ≡ false) (gain : T (notNegative m)) (scales : ScalesNotNegative cs) where
   at-within : (k : Offset) → Within 0 1 (weightAt cs ks ds sigma m v k)
   unfolding weightAt
-  at-within k = weight-within limit sigma m (distance cs ds v k) over uncopied (side-of m gain) (distance-side v k ds cs scales)
+  at-within k = weight-within (distance cs ds v k) (falloff ⊘ sigma ⊗ m) (distance-not-negative cs ds v k scales) (slope-not-positive limit sigma m over uncopied gain)
 
   -- the sum so far is at most b, and there are so many weights to come
   more : (s : Float) (b : ℕ) (l : List Offset) → b + length l ≤ 2 ^ 24 → Within 1 b s → Within 1 (b + length l) (along (λ (x : Float) (k : Offset). x ⊕ weightAt cs ks ds sigma m v k) s l)
@@ -149,18 +188,17 @@ module _ (cs : List Scaled) (ks ds : List Offset) (limit sigma m : Float) (v : A
   more s b [] h w = rw add-zero w
   more s b (k ∷ l) h w =
       let e : b + suc (length l) ≡ b + 1 + length l = omega arith in
-      rw e (more (s ⊕ weightAt cs ks ds sigma m v k) (b + 1) l (omega arith) (add-within binary32 s (weightAt cs ks ds sigma m v k) 1 b 0 1 (omega arith) w (at-within k)))
+      rw e (more (s ⊕ weightAt cs ks ds sigma m v k) (b + 1) l (omega arith) (sum-within s (weightAt cs ks ds sigma m v k) b (omega arith) w (at-within k)))
 
   divisor-within : 1 + length ks ≤ 2 ^ 24 → Within 1 (1 + length ks) (divisor cs ks ds sigma m v)
-  unfolding divisor ofBits
-  divisor-within h = more b1 1 ks h (refl, lit≤ tt, lit≤ tt)
+  unfolding divisor
+  divisor-within h = more b1 1 ks h one-within
 
 pub weight-bounds : WeightBounds
 weight-bounds cs ks ds limit sigma m v k p q r s = within-le b0 b1 (weightAt cs ks ds sigma m v k) 0 1 zero-value one-value (at-within cs ks ds limit sigma m v p q r s k)
 
 pub divisor-bounds : DivisorBounds
-divisor-bounds step cs ds limit sigma m v p q r s = within-le b1 (most step) (divisor cs (kernel step) ds sigma m v) 1 (1 + length (kernel step)) one-value (most-value step)
-    (divisor-within cs (kernel step) ds limit sigma m v p q r s (few step))
+divisor-bounds step cs ds limit sigma m v p q r s = most-within step (divisor cs (kernel step) ds sigma m v) (divisor-within cs (kernel step) ds limit sigma m v p q r s (few-weights step))
 
 pub multiplier-not-negative : MultiplierNotNegative
 unfolding multiplier

@@ -3,6 +3,7 @@ ghost use mathlib.Core.Path.{_≡_};
 ghost use lib.ListN.{length};
 ghost use Rattle.planes.specs.Samples.{_⊘_};
 ghost use Rattle.weights.specs.Steps.{kernel, positive as positiveOf, falloff, weightBy, copied as copiedOf, border, multiplier as multiplierOf};
+ghost use Rattle.weights.specs.Bounds.{WeightBounded};
 
 // How many neighbours a step has.
 pub fn kernel_len(step: usize) -> usize
@@ -18,9 +19,9 @@ fn positive(x: f32) -> f32
     if x > 0.0 { x } else { 0.0 }
 }
 
-// A neighbour's weight from its distance.
+// A neighbour's weight from its distance; in 0 to 1 where the distance is not negative and the slope not positive.
 pub fn weight(distance: f32, slope: f32) -> f32
-    ensures { λ r. ⌜ r ≡ weightBy slope distance ⌝ }
+    ensures { λ r. ⌜ (r ≡ weightBy slope distance) × WeightBounded distance slope r ⌝ }
 {
     positive(1.0 + distance * slope)
 }

@@ -105,7 +105,7 @@ fn smoothed(picture: Picture, part: Region, chosen: &Chosen) -> Result<Picture, 
     let settings = smooth::settings(chosen);
     let run = || {
         let filters = Filters::of_one_sigma(picture.region, settings)?;
-        let widened = filters.widened(picture.region, part, filters.margin());
+        let widened = filters.widened(picture.region, part, filters.margin()?);
         Ok(filters.smooth(picture.into_part(widened))?.into_part(part))
     };
     let iters = chosen.iters.as_ref();

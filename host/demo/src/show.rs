@@ -67,7 +67,7 @@ impl Shown {
 
     /// Whether all samples that were compared agree, and the files to write.
     fn files(&mut self) -> Result<(bool, Files), Refusal> {
-        self.say_settings();
+        self.say_settings()?;
         let whole = self.whole()?;
         let rectangles = self.in_rectangles(&whole)?;
         let original = self.by_original(&whole);
@@ -81,20 +81,21 @@ impl Shown {
         Ok((rectangles && original, files))
     }
 
-    fn say_settings(&mut self) {
+    fn say_settings(&mut self) -> Result<(), Refusal> {
         let Region { width, height, .. } = self.picture.region;
         let loupe::Settings { gabor, epf } = self.filters.settings;
         let ([side, corner], iters) = (gabor.weights[0], epf.iters);
         let sigmas = self.filters.grids.iter().copied();
         let least = sigmas.clone().fold(f32::INFINITY, f32::min);
         let most = sigmas.fold(0.0, f32::max);
-        let margin = self.filters.margin();
+        let margin = self.filters.margin()?;
         self.lines.extend([
             format!("picture     {width} x {height}, three planes: noisy sky, hatching, lettering"),
             format!("settings    Gabor-like filter: weights {side} and {corner}"),
             format!("            edge-preserving filter: {iters} iterations, sigma {least} to {most} by block"),
             format!("            margin: {margin} samples"),
         ]);
+        Ok(())
     }
 
     fn whole(&mut self) -> Result<Picture, Refusal> {
@@ -104,7 +105,7 @@ impl Shown {
     }
 
     fn in_rectangles(&mut self, whole: &Picture) -> Result<bool, Refusal> {
-        let margin = self.filters.margin();
+        let margin = self.filters.margin()?;
         let (laid, time) = timed(|| lay(&self.picture, &self.filters, margin));
         let count = rectangles(self.picture.region).len();
         let (width, height) = SIDES;
@@ -140,7 +141,7 @@ impl Shown {
 
     /// What a margin one too small leaves, over the smoothed picture made dark.
     fn seams(&mut self, whole: &Picture) -> Result<Vec<[u8; CHANNELS]>, Refusal> {
-        let margin = self.filters.margin() - 1;
+        let margin = self.filters.margin()? - 1;
         let laid = lay(&self.picture, &self.filters, margin)?;
         let apart: Vec<f32> = laid.pixels().zip(whole.pixels()).map(apart).collect();
         let most = apart.iter().copied().fold(0.0, f32::max);

@@ -37,8 +37,8 @@ impl Filters {
     }
 
     /// How far the passes read beyond a sample.
-    pub fn margin(&self) -> u32 {
-        loupe::margin(self.settings)
+    pub fn margin(&self) -> Result<u32, Refusal> {
+        loupe::margin(self.settings).value()
     }
 
     /// All passes over a picture or a part of it by itself.
@@ -82,7 +82,7 @@ impl Filters {
 pub fn settings(chosen: &Chosen) -> Settings {
     let mut settings = header(DEFAULTS);
     match chosen.gabor {
-        Some(GaborChoice::Off) => settings.gabor.enabled = false,
+        Some(GaborChoice::Off) => settings.gabor.enabled = 0,
         Some(GaborChoice::Weights(weights)) => settings.gabor.weights = weights,
         None => {}
     }
@@ -93,7 +93,7 @@ pub fn settings(chosen: &Chosen) -> Settings {
 }
 
 fn header(bits: u8) -> Settings {
-    let read = loupe::read_filters(&[bits], 0, false).value();
+    let read = loupe::read_filters_vardct(&[bits], 0).value();
     let (filter, _) = read.expect("a header of seven bits");
     filter.into()
 }
@@ -123,7 +123,7 @@ fn setup(image: Region, filter: Region, settings: Settings) -> Setup {
     Setup {
         image,
         filter,
-        preserve_outside: false,
+        preserve_outside: 0,
         settings,
         band_height: BAND_HEIGHT,
     }

@@ -60,13 +60,14 @@ entries! {
     /// assert_eq!(loupe::split_block(300, 0).value()?, (2, 44));
     /// # Ok::<(), loupe::Refusal>(())
     /// ```
-    group_sizes = loupe_group_sizes(frame: Frame) -> FrameAnswer;
+    group_sizes = loupe_group_sizes(f: Frame) -> FrameAnswer;
 
     /// The group of a block's column or row, and the cell in it.
     split_block = loupe_split_block(block: u32, group_size_shift: u32) -> SplitAnswer;
 
-    /// Fills in one sigma a block. The table has three numbers a group: whether it has a grid, the
-    /// grid's width and its height; the grids lie one after another.
+    /// Fills in one sigma per block where the edge filter is on (1); there are none where it is off
+    /// (0). The table has three numbers a group: whether it has a grid, the grid's width and its
+    /// height; the grids lie one after another.
     ///
     /// ```
     /// // Document 01, "Instances": group row 0 has grids, row 1 none: block row 128 repeats row 127.
@@ -81,13 +82,13 @@ entries! {
     /// let grid: Vec<f32> = (0..128).map(|row| row as f32).collect();
     /// let mut sigmas = [0.0; 129];
     /// let table = [1, 1, 128, 0, 0, 0];
-    /// let number = loupe::block_sigmas(true, frame, blocks, &table, &grid, 1.0, &mut sigmas);
+    /// let number = loupe::block_sigmas(1, frame, blocks, &table, &grid, 1.0, &mut sigmas);
     /// loupe::accepted(number)?;
     /// assert_eq!(sigmas[126..], [126.0, 127.0, 127.0]);
     /// # Ok::<(), loupe::Refusal>(())
     /// ```
     block_sigmas = loupe_block_sigmas(
-        on: bool, frame: Frame, blocks: Blocks, table: &[u32], grids: &[f32],
+        on: u32, frame: Frame, blocks: Blocks, table: &[u32], grids: &[f32],
         sigma_for_modular: f32, sigmas: &mut [f32]
     ) -> u32;
 }

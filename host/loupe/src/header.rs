@@ -1,4 +1,4 @@
-//! Reading a filter header, from a bit place of a slice; the encoding is Modular or else VarDct.
+//! Reading a filter header, from a bit place of a slice.
 
 use crate::boundary::{answers, entries};
 
@@ -37,6 +37,13 @@ pub struct RestorationFilter {
     pub epf: EdgePreservingFilter,
 }
 
+/// How a frame is encoded: the edge-preserving filter's bundle has other fields in each.
+#[derive(Debug, Clone, Copy, PartialEq, Eq)]
+pub enum Encoding {
+    VarDct,
+    Modular,
+}
+
 answers! {
     HalfAnswer { value: f32, next: usize }
     GaborAnswer { gabor: Gabor, next: usize }
@@ -53,7 +60,7 @@ entries! {
     /// assert_eq!(refused, Err(loupe::Refusal::HalfNotFinite));
     /// # Ok::<(), loupe::Refusal>(())
     /// ```
-    read_half = loupe_read_half(bytes: &[u8], place: usize) -> HalfAnswer;
+    read_half = loupe_read_half(bytes: &[u8], at: usize) -> HalfAnswer;
 
     /// ```
     /// // Document 01, "Instances": weights -1/8, -1/8 and 1/4, 0, after the enabled and custom bits.
@@ -67,22 +74,42 @@ entries! {
     /// assert_eq!((gabor.weights, next), ([[0.25, 0.0]; 3], 98));
     /// # Ok::<(), loupe::Refusal>(())
     /// ```
-    read_gabor = loupe_read_gabor(bytes: &[u8], place: usize) -> GaborAnswer;
-    read_epf = loupe_read_epf(bytes: &[u8], place: usize, modular: bool) -> EpfAnswer;
+    read_gabor = loupe_read_gabor(bytes: &[u8], at: usize) -> GaborAnswer;
+    read_epf_vardct = loupe_read_epf_vardct(bytes: &[u8], at: usize) -> EpfAnswer;
+    read_epf_modular = loupe_read_epf_modular(bytes: &[u8], at: usize) -> EpfAnswer;
+    read_filters_vardct =
+        loupe_read_filters_vardct(bytes: &[u8], at: usize) -> RestorationAnswer;
+    read_filters_modular =
+        loupe_read_filters_modular(bytes: &[u8], at: usize) -> RestorationAnswer;
+}
 
-    /// Both filters, the Gabor-like one first.
-    ///
-    /// ```
-    /// // The Gabor-like bundle is an enabled and a custom bit here; the edge filter's follows.
-    /// let bytes = [0b000_11_01];
-    /// let (gabor, after) = loupe::read_gabor(&bytes, 0).value()?;
-    /// let (epf, end) = loupe::read_epf(&bytes, after, false).value()?;
-    /// let (filter, next) = loupe::read_filters(&bytes, 0, false).value()?;
-    /// assert_eq!((filter.gabor, filter.epf, next), (gabor, epf, end));
-    /// let refused = loupe::read_filters(&bytes, next, false).value();
-    /// assert_eq!(refused, Err(loupe::Refusal::BitsRunOut));
-    /// # Ok::<(), loupe::Refusal>(())
-    /// ```
-    read_filters =
-        loupe_read_filters(bytes: &[u8], place: usize, modular: bool) -> RestorationAnswer;
+/// The edge-preserving filter of a header.
+#[must_use = "a refusal is told by the number alone"]
+pub fn read_epf(bytes: &[u8], place: usize, encoding: Encoding) -> EpfAnswer {
+    match encoding {
+        Encoding::VarDct => read_epf_vardct(bytes, place),
+        Encoding::Modular => read_epf_modular(bytes, place),
+    }
+}
+
+/// Both filters, the Gabor-like one first.
+///
+/// ```
+/// use loupe::Encoding::VarDct;
+/// // The Gabor-like bundle is an enabled and a custom bit here; the edge filter's follows.
+/// let bytes = [0b000_11_01];
+/// let (gabor, after) = loupe::read_gabor(&bytes, 0).value()?;
+/// let (epf, end) = loupe::read_epf(&bytes, after, VarDct).value()?;
+/// let (filter, next) = loupe::read_filters(&bytes, 0, VarDct).value()?;
+/// assert_eq!((filter.gabor, filter.epf, next), (gabor, epf, end));
+/// let refused = loupe::read_filters(&bytes, next, VarDct).value();
+/// assert_eq!(refused, Err(loupe::Refusal::BitsRunOut));
+/// # Ok::<(), loupe::Refusal>(())
+/// ```
+#[must_use = "a refusal is told by the number alone"]
+pub fn read_filters(bytes: &[u8], place: usize, encoding: Encoding) -> RestorationAnswer {
+    match encoding {
+        Encoding::VarDct => read_filters_vardct(bytes, place),
+        Encoding::Modular => read_filters_modular(bytes, place),
+    }
 }

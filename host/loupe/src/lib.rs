@@ -5,19 +5,19 @@
 //! [`Refusal`]. [`Smoothing`] is a run with everything that it needs:
 //!
 //! ```
-//! use loupe::{Frame, Gabor, Region, Settings, Setup, Smoothing};
+//! use loupe::{Frame, GaborSettings, Region, Settings, Setup, Smoothing};
 //!
 //! // The Gabor-like filter alone, on three planes of one row.
-//! let (off, _) = loupe::read_filters(&[0], 0, false).value()?;
+//! let (off, _) = loupe::read_filters_vardct(&[0], 0).value()?;
 //! let settings = Settings {
-//!     gabor: Gabor { enabled: true, weights: [[0.5, 0.25]; 3] },
+//!     gabor: GaborSettings { enabled: 1, weights: [[0.5, 0.25]; 3] },
 //!     epf: off.epf.into(),
 //! };
 //! let image = Region { left: 0, top: 0, width: 3, height: 1 };
 //! let setup = Setup {
 //!     image,
 //!     filter: image,
-//!     preserve_outside: true,
+//!     preserve_outside: 1,
 //!     settings,
 //!     band_height: 64,
 //! };
@@ -40,6 +40,7 @@
 mod boundary;
 mod frame;
 mod header;
+mod layout;
 mod pass;
 mod refusal;
 mod region;

@@ -1,8 +1,8 @@
-//! One pass over some rows of its result, which is the full planes or, where `preserve_outside` is
-//! false, the filter region.
+//! One pass over some rows of its result, which is the full planes (`preserve_outside` 1) or the filter
+//! region alone (0).
 
 use crate::{
-    Gabor, Region,
+    GaborSettings, Region,
     boundary::{answers, entries},
 };
 
@@ -31,23 +31,23 @@ entries! {
     /// ```
     mirror = loupe_mirror(offset: isize, len: usize) -> MirrorAnswer;
 
-    /// The Gabor-like pass; whether the settings are on is not asked.
+    /// The Gabor-like pass; `enabled` is ignored.
     ///
     /// ```
     /// // Document 01, "Instances": weights 1/2, 1/4 on a single sample of 16.
     /// let image = loupe::Region { left: 0, top: 0, width: 3, height: 3 };
-    /// let settings = loupe::Gabor { enabled: true, weights: [[0.5, 0.25]; 3] };
+    /// let settings = loupe::GaborSettings { enabled: 1, weights: [[0.5, 0.25]; 3] };
     /// let plane = [0.0, 0.0, 0.0, 0.0, 16.0, 0.0, 0.0, 0.0, 0.0];
     /// let (source, mut target) = ([plane; 3].concat(), [0.0; 27]);
-    /// let number = loupe::gabor_pass(image, image, true, settings, 0, 3, &source, &mut target);
+    /// let number = loupe::gabor_pass(image, image, 1, settings, 0, 3, &source, &mut target);
     /// loupe::accepted(number)?;
     /// let smooth = [1.0, 2.0, 1.0, 2.0, 4.0, 2.0, 1.0, 2.0, 1.0];
     /// assert_eq!(target[..], [smooth; 3].concat());
     /// # Ok::<(), loupe::Refusal>(())
     /// ```
     gabor_pass = loupe_gabor_pass(
-        image: Region, filter: Region, preserve_outside: bool, settings: Gabor,
-        from: u32, to: u32, source: &[f32], target: &mut [f32]
+        image: Region, filter: Region, preserve_outside: u32, settings: GaborSettings,
+        from: u32, to: u32, src: &[f32], dst: &mut [f32]
     ) -> u32;
 
     /// An edge-preserving step.
@@ -64,7 +64,7 @@ entries! {
     /// let source = [5.0, 5.0625, 1.0, 1.0, 1.0, 1.0];
     /// let pass = |sigma| {
     ///     let mut target = [0.0; 6];
-    ///     let number = loupe::epf_pass(image, image, true, step, &[sigma], 0, 1, &source, &mut target);
+    ///     let number = loupe::epf_pass(image, image, 1, step, &[sigma], 0, 1, &source, &mut target);
     ///     loupe::accepted(number).map(|()| target)
     /// };
     /// assert_eq!(pass(0.25)?, source);
@@ -72,7 +72,7 @@ entries! {
     /// # Ok::<(), loupe::Refusal>(())
     /// ```
     epf_pass = loupe_epf_pass(
-        image: Region, filter: Region, preserve_outside: bool, settings: EpfStep, sigmas: &[f32],
-        from: u32, to: u32, source: &[f32], target: &mut [f32]
+        image: Region, filter: Region, preserve_outside: u32, s: EpfStep, sigmas: &[f32],
+        from: u32, to: u32, src: &[f32], dst: &mut [f32]
     ) -> u32;
 }

@@ -28,17 +28,34 @@ impl From<EdgePreservingFilter> for EpfSettings {
     }
 }
 
+/// The Gabor-like filter's settings, with a flag: 0 is off, 1 is on, and another number is 9.
+#[repr(C)]
+#[derive(Debug, Clone, Copy, PartialEq)]
+pub struct GaborSettings {
+    pub enabled: u32,
+    pub weights: [[f32; 2]; 3],
+}
+
+impl From<Gabor> for GaborSettings {
+    fn from(read: Gabor) -> Self {
+        Self {
+            enabled: read.enabled.into(),
+            weights: read.weights,
+        }
+    }
+}
+
 #[repr(C)]
 #[derive(Debug, Clone, Copy, PartialEq)]
 pub struct Settings {
-    pub gabor: Gabor,
+    pub gabor: GaborSettings,
     pub epf: EpfSettings,
 }
 
 impl From<RestorationFilter> for Settings {
     fn from(read: RestorationFilter) -> Self {
         Self {
-            gabor: read.gabor,
+            gabor: read.gabor.into(),
             epf: read.epf.into(),
         }
     }
@@ -49,8 +66,8 @@ impl From<RestorationFilter> for Settings {
 pub struct Setup {
     pub image: Region,
     pub filter: Region,
-    /// Whether the result is the full planes, or the filter region alone.
-    pub preserve_outside: bool,
+    /// 1 where the result is the full planes, 0 where it is the filter region alone.
+    pub preserve_outside: u32,
     pub settings: Settings,
     pub band_height: u32,
 }
@@ -62,13 +79,14 @@ pub struct Run {
     pub setup: Setup,
     /// How many passes are over.
     pub pass: u32,
-    /// Which bands of this pass are done.
-    pub done: [bool; 256],
+    /// 1 for each band of this pass that is done.
+    pub done: [u8; 256],
 }
 
 impl fmt::Debug for Run {
     fn fmt(&self, f: &mut fmt::Formatter) -> fmt::Result {
-        let done: Vec<usize> = (0..self.done.len()).filter(|&k| self.done[k]).collect();
+        let flags = (0..).zip(self.done);
+        let done: Vec<(usize, u8)> = flags.filter(|&(_, flag)| flag > 0).collect();
         f.debug_struct("Run")
             .field("setup", &self.setup)
             .field("pass", &self.pass)
@@ -78,30 +96,32 @@ impl fmt::Debug for Run {
 }
 
 answers! {
+    MarginAnswer { margin: u32 }
     RunAnswer { run: Run }
 }
 
 entries! {
-    /// How far the passes of a run read beyond a sample.
+    /// How far the passes of a run read beyond a sample; 9 where Gabor's flag or the iterations are
+    /// out of range.
     ///
     /// ```
     /// // The Gabor-like filter and three iterations with default settings, in seven bits. The margin
     /// // is 1 + 6 (`crates/passes/specs/Plan.antt`).
-    /// let (filter, next) = loupe::read_filters(&[0b000_11_01], 0, false).value()?;
-    /// assert_eq!((next, loupe::margin(filter.into())), (7, 7));
+    /// let (filter, next) = loupe::read_filters_vardct(&[0b000_11_01], 0).value()?;
+    /// assert_eq!((next, loupe::margin(filter.into()).value()), (7, Ok(7)));
     /// # Ok::<(), loupe::Refusal>(())
     /// ```
-    margin = loupe_margin(settings: Settings) -> u32;
+    margin = loupe_margin(settings: Settings) -> MarginAnswer;
 
     /// Checks everything and fills in the block sigmas; table and grids as in [`crate::block_sigmas`].
     ///
     /// ```
     /// # use loupe::*;
-    /// # let (off, _) = read_filters(&[0], 0, false).value()?;
-    /// # let gabor = Gabor { enabled: true, weights: [[0.5, 0.25]; 3] };
+    /// # let (off, _) = read_filters_vardct(&[0], 0).value()?;
+    /// # let gabor = GaborSettings { enabled: 1, weights: [[0.5, 0.25]; 3] };
     /// # let settings = Settings { gabor, epf: off.epf.into() };
     /// # let image = Region { left: 0, top: 0, width: 3, height: 3 };
-    /// # let (filter, preserve_outside, band_height) = (image, true, 1);
+    /// # let (filter, preserve_outside, band_height) = (image, 1, 1);
     /// # let setup = Setup { image, filter, preserve_outside, settings, band_height };
     /// # let (width, height, upsampling, lf_level, group_size_shift) = (3, 3, 1, 0, 0);
     /// # let frame = Frame { width, height, upsampling, lf_level, group_size_shift };

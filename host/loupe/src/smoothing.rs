@@ -6,8 +6,8 @@ use crate::{BLOCK, Frame, Refusal, Region, Run, Setup, accepted, advance, band, 
 ///
 /// ```
 /// # let region = |width, height| loupe::Region { left: 0, top: 0, width, height };
-/// # let settings = loupe::read_filters(&[0b01], 0, false).value()?.0.into();
-/// # let (image, filter, preserve_outside) = (region(2, 2), region(2, 2), true);
+/// # let settings = loupe::read_filters_vardct(&[0b01], 0).value()?.0.into();
+/// # let (image, filter, preserve_outside) = (region(2, 2), region(2, 2), 1);
 /// # let (width, height, upsampling, lf_level, group_size_shift) = (2, 2, 1, 0, 0);
 /// # let frame = loupe::Frame { width, height, upsampling, lf_level, group_size_shift };
 /// // Document 01, "Instances": two bands; band 0 twice, and advance with band 1 missing.
@@ -16,7 +16,7 @@ use crate::{BLOCK, Frame, Refusal, Region, Run, Setup, accepted, advance, band, 
 /// let mut smoothing = loupe::Smoothing::start(setup, frame, &[0; 3], &[], planes)?;
 /// let whole = smoothing.clone().finish()?;
 /// smoothing.band(0)?;
-/// assert_eq!(smoothing.run().done[..2], [true, false]);
+/// assert_eq!(smoothing.run().done[..2], [1, 0]);
 /// assert_eq!(smoothing.band(0), Err(loupe::Refusal::BandNotOpen));
 /// assert_eq!(smoothing.advance(), Err(loupe::Refusal::PassNotDone));
 /// // What is left.
@@ -94,7 +94,7 @@ impl Smoothing {
     /// The bands of this pass that are not done. The first of these that is 10 is past the last band.
     fn open_bands(&mut self) -> Result<(), Refusal> {
         let done = self.run.done;
-        for k in (0..).filter(|&k| done.get(k as usize) != Some(&true)) {
+        for k in (0..).filter(|&k| done.get(k as usize) != Some(&1)) {
             match self.band(k) {
                 Err(Refusal::BandNotOpen) => break,
                 answer => answer?,
@@ -105,7 +105,7 @@ impl Smoothing {
 }
 
 fn result_region(setup: &Setup) -> Region {
-    if setup.preserve_outside {
+    if setup.preserve_outside == 1 {
         setup.image
     } else {
         setup.filter

@@ -2,10 +2,12 @@
 //! random ones and on wide ones, all of them with block sigmas against `apply_epf`, and refusals.
 //! What is not written must keep its bits.
 
+mod scaled;
 mod tiled;
 mod whole;
 
 use crate::{
+    bits,
     expected::epf::{Handed, number},
     pass::{self, by_bands, one_call},
     picture::{self, Rows, any_len, plain, region, samples, special, wide},
@@ -41,6 +43,8 @@ const NUMBERS: [u32; 6] = [0, 4, 5, 6, 7, 9];
 #[derive(Debug)]
 struct Pass<'a> {
     place: oracle::Place,
+    /// Whether the result is the full planes, as the library is told it.
+    full: u32,
     step: u32,
     settings: oracle::Edge,
     sigmas: &'a [f32],
@@ -54,11 +58,14 @@ impl pass::Pass for Pass<'_> {
     fn ours(&self, (from, to): Rows, source: &[f32], target: &mut [f32]) -> u32 {
         let place = self.place;
         let (image, filter) = (region(place.image), region(place.filter));
-        let outside = place.preserve_outside;
         let settings = step_of(self.step, self.settings);
         loupe::epf_pass(
-            image, filter, outside, settings, self.sigmas, from, to, source, target,
+            image, filter, self.full, settings, self.sigmas, from, to, source, target,
         )
+    }
+
+    fn sigmas(&self) -> &[f32] {
+        self.sigmas
     }
 
     /// The result's planes by the original's row function.
@@ -92,7 +99,7 @@ impl pass::Pass for Pass<'_> {
         number(Handed {
             image: wide(self.place.image),
             filter: wide(self.place.filter),
-            preserve_outside: self.place.preserve_outside,
+            preserve_outside: self.full,
             step: self.step,
             rows: (rows.0.into(), rows.1.into()),
             sigmas: self.sigmas.len(),
@@ -145,6 +152,7 @@ pub fn compare(amount: Amount, report: &mut Report) {
         let mut row = Row::new(name, "wide pictures");
         tiled::compare(step, amount, &mut random, &mut row);
         report.add(row);
+        scaled::compare(step, amount, &mut random, report);
     }
     whole::compare(amount, report);
     refusals(amount, report);
@@ -156,6 +164,7 @@ fn named(step: u32, random: &mut Random, row: &mut Row) {
         for (sigma, source) in two_samples() {
             let pass = Pass {
                 place,
+                full: place.preserve_outside.into(),
                 step,
                 settings: DEFAULTS,
                 sigmas: &[sigma],
@@ -167,6 +176,7 @@ fn named(step: u32, random: &mut Random, row: &mut Row) {
         for settings in signed_and_infinite() {
             let pass = Pass {
                 place,
+                full: place.preserve_outside.into(),
                 step,
                 settings,
                 sigmas: &[1.0; 4],
@@ -303,6 +313,7 @@ fn with_sigmas(
 ) {
     let pass = Pass {
         place,
+        full: place.preserve_outside.into(),
         step,
         settings: settings(random),
         sigmas,
@@ -337,18 +348,23 @@ fn wrong(random: &mut Random, row: &mut Row) {
     let rows = (picture::any_row(random), picture::any_row(random));
     let source = samples(picture::any_set_len(image, random), random);
     let before = samples(picture::any_set_len(image, random), random);
-    let sigmas = vec![1.0; any_len(1, random)];
+    let mut sigmas = vec![1.0; any_len(1, random)];
+    if random.once_in(2) {
+        bits::sprinkle(&mut sigmas, random);
+    }
+    let full = picture::any_flag(random);
     let pass = Pass {
         place: oracle::Place {
             image,
             filter,
-            preserve_outside: random.once_in(2),
+            preserve_outside: full == 1,
         },
+        full,
         step: random.one_of(&[0, 1, 2, 0, 1, 2, 0, 1, 3, u32::MAX]),
         settings: settings(random),
         sigmas: &sigmas,
     };
-    one_call(&pass, rows, &source, before, row);
+    one_call(&pass, rows, [source, before], random, row);
 }
 
 /// The default settings of a header.

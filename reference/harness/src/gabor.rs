@@ -7,10 +7,13 @@ use crate::{
     picture::{self, Rows, plain, region, samples, special, wide},
     random::Random,
     report::{Amount, Report, Row},
+    scaled::ENDS,
 };
 
 /// Random pictures, before `--scale`.
 const PICTURES: u64 = 10_000;
+/// Pictures that are wholly subnormal, and as many near overflow, before `--scale`.
+const SCALED: u64 = 2_000;
 /// Draws of wrong inputs, before `--scale`.
 const DRAWS: u64 = 200_000;
 /// Sides of small pictures.
@@ -29,6 +32,8 @@ const NUMBERS: [u32; 5] = [0, 4, 5, 7, 9];
 #[derive(Debug, Clone, Copy)]
 struct Pass {
     place: oracle::Place,
+    /// Whether the result is the full planes, as the library is told it.
+    full: u32,
     weights: oracle::Weights,
 }
 
@@ -40,12 +45,11 @@ impl pass::Pass for Pass {
     fn ours(&self, (from, to): Rows, source: &[f32], target: &mut [f32]) -> u32 {
         let place = self.place;
         let (image, filter) = (region(place.image), region(place.filter));
-        let outside = place.preserve_outside;
-        let settings = loupe::Gabor {
-            enabled: true,
+        let settings = loupe::GaborSettings {
+            enabled: 1,
             weights: self.weights,
         };
-        loupe::gabor_pass(image, filter, outside, settings, from, to, source, target)
+        loupe::gabor_pass(image, filter, self.full, settings, from, to, source, target)
     }
 
     fn rust(&self, source: &[f32]) -> oracle::Planes {
@@ -56,7 +60,7 @@ impl pass::Pass for Pass {
         number(
             wide(self.place.image),
             wide(self.place.filter),
-            self.place.preserve_outside,
+            self.full,
             (rows.0.into(), rows.1.into()),
             sets,
         )
@@ -74,9 +78,20 @@ pub fn compare(amount: Amount, report: &mut Report) {
     report.add(row);
     let mut row = Row::new(NAME, "random");
     while row.draws(PICTURES, amount) {
-        random_picture(&mut random, &mut row);
+        let (pass, band) = random_pass(&mut random);
+        any_picture(&pass, band, &mut random, &mut row);
     }
     report.add(row);
+    for end in ENDS {
+        let mut row = Row::new(NAME, end.name());
+        while row.draws(SCALED, amount) {
+            let (pass, band) = random_pass(&mut random);
+            let scale = end.draw(&mut random);
+            let source = scale.samples(picture::set_len(&pass.place), &mut random);
+            by_bands(&pass, band, &source, &mut random, &mut row);
+        }
+        report.add(row);
+    }
     refusals(amount, &mut random, report);
 }
 
@@ -121,6 +136,7 @@ fn all_bands(
                     filter,
                     preserve_outside,
                 },
+                full: preserve_outside.into(),
                 weights: weights(random),
             };
             any_picture(&pass, band, random, row);
@@ -128,7 +144,8 @@ fn all_bands(
     }
 }
 
-fn random_picture(random: &mut Random, row: &mut Row) {
+/// A pass anywhere in the measures, and a band height.
+fn random_pass(random: &mut Random) -> (Pass, u32) {
     let mut side = |most| random.within(1, most) as u32;
     let (width, height) = (side(70), side(70));
     let (columns, rows) = (side(width.into()), side(height.into()));
@@ -148,15 +165,17 @@ fn random_picture(random: &mut Random, row: &mut Row) {
         width: columns,
         height: rows,
     };
+    let preserve_outside = random.once_in(2);
     let pass = Pass {
         place: oracle::Place {
             image,
             filter,
-            preserve_outside: random.once_in(2),
+            preserve_outside,
         },
+        full: preserve_outside.into(),
         weights: weights(random),
     };
-    any_picture(&pass, band, random, row);
+    (pass, band)
 }
 
 /// Any picture by bands.
@@ -183,18 +202,20 @@ fn wrong(random: &mut Random, row: &mut Row) {
     } else {
         picture::any_region(random)
     };
+    let full = picture::any_flag(random);
     let pass = Pass {
         place: oracle::Place {
             image,
             filter,
-            preserve_outside: random.once_in(2),
+            preserve_outside: full == 1,
         },
+        full,
         weights: weights(random),
     };
     let rows = (picture::any_row(random), picture::any_row(random));
     let source = samples(picture::any_set_len(image, random), random);
     let before = samples(picture::any_set_len(image, random), random);
-    one_call(&pass, rows, &source, before, row);
+    one_call(&pass, rows, [source, before], random, row);
 }
 
 /// The default weights, plain ones, or any float.

@@ -1,6 +1,8 @@
 //! Reading filter headers: all halves, all short headers, and built ones, whole and cut short.
 
-use loupe::{EdgePreservingFilter, Gabor};
+use core::hint::black_box;
+
+use loupe::{EdgePreservingFilter, Encoding, Gabor};
 
 use crate::{
     epf::sigma_settings,
@@ -91,7 +93,7 @@ pub const READERS: [Reader; 4] = [
         encoded: true,
         kernel: false,
         ours: |(bytes, place, modular)| {
-            let a = loupe::read_epf(bytes, place, modular);
+            let a = loupe::read_epf(bytes, place, encoding(modular));
             given(a.number, epf_fields(&a.epf), a.next)
         },
         rule: |(bytes, place, modular)| expected::epf(bytes, place, modular),
@@ -106,7 +108,7 @@ pub const READERS: [Reader; 4] = [
         encoded: true,
         kernel: true,
         ours: |(bytes, place, modular)| {
-            let a = loupe::read_filters(bytes, place, modular);
+            let a = loupe::read_filters(bytes, place, encoding(modular));
             let fields = [gabor_fields(&a.filter.gabor), epf_fields(&a.filter.epf)].concat();
             given(a.number, fields, a.next)
         },
@@ -117,6 +119,14 @@ pub const READERS: [Reader; 4] = [
         },
     },
 ];
+
+fn encoding(modular: bool) -> Encoding {
+    if modular {
+        Encoding::Modular
+    } else {
+        Encoding::VarDct
+    }
+}
 
 fn given(number: u32, fields: Vec<u32>, next: usize) -> Reading {
     Reading {
@@ -187,8 +197,11 @@ impl Reader {
             Err(number) => self.refused(number),
         };
         row.count(rule.number);
+        let read = (rule.number != 0).then(|| case.0.to_vec());
         let ours = (self.ours)(case);
-        if ours != rule {
+        if read.is_some_and(|read| read != black_box(case.0)) {
+            row.differs(&case, &"changed bytes", &"left");
+        } else if ours != rule {
             row.differs(&case, &ours, &rule);
         } else if rule.number != 7 {
             // The original takes slices of any length; else its refusals are these.

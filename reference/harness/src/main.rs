@@ -7,6 +7,7 @@
 //! `harness record` a sample of the original's answers as text.
 
 mod bench;
+mod bits;
 mod epf;
 mod expected;
 mod frame;
@@ -22,6 +23,7 @@ mod rectangles;
 mod region;
 mod report;
 mod runs;
+mod scaled;
 mod sigma;
 mod subject;
 

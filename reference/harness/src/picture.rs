@@ -59,6 +59,16 @@ pub fn runs(
         .map(move |row| row * width + left..row * width + left + columns)
 }
 
+/// Whether a place of a set of the image lies in rows of the result.
+pub fn is_written(place: &oracle::Place, (from, to): Rows, at: usize) -> bool {
+    let (image, part) = (place.image, result(place));
+    let (width, height) = (image.width as usize, image.height as usize);
+    let left = part.left.abs_diff(image.left) as usize;
+    let top = part.top.abs_diff(image.top) as usize;
+    (left..left + part.width as usize).contains(&(at % width))
+        && (top + from as usize..top + to as usize).contains(&(at / width % height))
+}
+
 /// Writes rows of the result where they lie in a set of the image.
 pub fn store(
     place: &oracle::Place,
@@ -77,18 +87,24 @@ pub fn store(
     }
 }
 
-/// A number and a set are what is due.
+/// A number and a set are what is due. Places that were to be written may have another NaN, all others
+/// keep their bits.
 pub fn judge(
     case: &dyn core::fmt::Debug,
     rows: Rows,
     ours: (u32, &[f32]),
     due: (u32, &[f32]),
+    written: &dyn Fn(usize) -> bool,
     row: &mut Row,
 ) {
     row.count(due.0);
-    let first = ours.1.iter().zip(due.1).position(|(a, b)| !agree(*a, *b));
-    if let Some(at) = first {
-        row.differs(&(case, rows, at), &ours.1[at], &due.1[at]);
+    let differs = |&at: &usize| {
+        let (a, b) = (ours.1[at], due.1[at]);
+        a.to_bits() != b.to_bits() && !(agree(a, b) && written(at))
+    };
+    if let Some(at) = (0..due.1.len()).find(differs) {
+        let bits = [ours.1[at], due.1[at]].map(f32::to_bits);
+        row.differs(&(case, rows, at), &bits[0], &bits[1]);
     } else if ours.0 != due.0 {
         row.differs(&(case, rows), &ours.0, &due.0);
     }
@@ -135,6 +151,14 @@ pub fn any_region(random: &mut Random) -> oracle::Region {
         _ => {}
     }
     r
+}
+
+/// A yes or no, or in one draw of eight a number that is neither.
+pub fn any_flag(random: &mut Random) -> u32 {
+    match random.within(0, 7) {
+        0 => random.one_of(&[2, 255, u32::MAX]),
+        n => n as u32 % 2,
+    }
 }
 
 pub fn any_row(random: &mut Random) -> u32 {

@@ -7,6 +7,7 @@ mod regroup;
 use loupe::{Region, Settings};
 
 use crate::{
+    bits,
     epf::textured,
     expected::runs::samples as count,
     picture::{self, agree, samples},
@@ -117,7 +118,7 @@ impl Pair {
     }
 
     /// Both results, by lists of calls of their own.
-    fn results(&self, random: &mut Random) -> Result<[Vec<f32>; 2], u32> {
+    fn results(&self, random: &mut Random) -> Result<[Vec<f32>; 2], Stopped> {
         let smaller = finished(&self.smaller, random)?;
         Ok([smaller, finished(&self.larger, random)?])
     }
@@ -145,13 +146,13 @@ impl Pair {
         row.count(0);
         let case = (&self.smaller, &self.larger);
         let answered = loupe::margin(self.smaller.setup.settings);
-        if answered != self.margin {
+        if answered.value() != Ok(self.margin) {
             row.differs(&case, &answered, &self.margin);
         }
         let results = match self.results(random) {
             Ok(results) => results,
-            Err(number) => {
-                row.differs(&case, &number, &0);
+            Err(stopped) => {
+                row.differs(&case, &stopped, &0);
                 return 0;
             }
         };
@@ -168,7 +169,7 @@ impl Pair {
     }
 
     /// The edges at which some sample with one sample less than the margin differs.
-    fn wrong_edges(&self, random: &mut Random) -> Result<[bool; 4], u32> {
+    fn wrong_edges(&self, random: &mut Random) -> Result<[bool; 4], Stopped> {
         let results = self.results(random)?;
         let differs = |at| {
             let samples = self.samples(&results, at);
@@ -194,7 +195,7 @@ fn tight(passes: Passes, random: &mut Random, row: &mut Row) {
         let pair = Pair::cut(larger, random);
         match pair.wrong_edges(random) {
             Ok(wrong) => found = core::array::from_fn(|edge| found[edge] || wrong[edge]),
-            Err(number) => row.differs(&(&pair.smaller, &pair.larger), &number, &0),
+            Err(stopped) => row.differs(&(&pair.smaller, &pair.larger), &stopped, &0),
         }
         if found == [true; 4] {
             break;
@@ -246,8 +247,8 @@ fn cut_picture(larger: &Handed, filter: Region, random: &mut Random) -> Handed {
     let mut setup = larger.setup;
     setup.filter = filter;
     setup.image = runs::around(filter, SIDES, random);
-    setup.preserve_outside = random.once_in(2);
-    let part = if setup.preserve_outside {
+    setup.preserve_outside = random.once_in(2).into();
+    let part = if setup.preserve_outside == 1 {
         setup.image
     } else {
         filter
@@ -292,7 +293,7 @@ fn alike(sample: f32, random: &mut Random) -> f32 {
 /// Settings that agree in all that the passes read, and in nothing else.
 fn agreeing(settings: Settings, random: &mut Random) -> Settings {
     let passes = Passes {
-        gabor: settings.gabor.enabled,
+        gabor: settings.gabor.enabled == 1,
         iterations: settings.epf.iters,
     };
     let other = runs::settings(passes, sigma(random), random);
@@ -313,37 +314,55 @@ fn agreeing(settings: Settings, random: &mut Random) -> Settings {
     own
 }
 
-/// The result after a random list of calls, refused ones among them; a number where start or all
-/// of a long list is refused.
-fn finished(handed: &Handed, random: &mut Random) -> Result<Vec<f32>, u32> {
+/// Why there is no result, and the last call's number.
+type Stopped = (&'static str, u32);
+
+/// The result after a random list of calls, refused ones among them, which leave every bit.
+fn finished(handed: &Handed, random: &mut Random) -> Result<Vec<f32>, Stopped> {
     let mut lent = handed.clone();
     let answer = lent.start();
     if answer.number != 0 {
-        return Err(answer.number);
+        return Err(("start was refused", answer.number));
     }
     let mut state = State::new(answer.run, &lent);
+    let mut left = state.clone();
     let rule = setup_rule(&lent.setup);
     let mut out = samples(count(rule.result()) as usize, random);
+    bits::sprinkle(&mut out, random);
+    let out_before = out.clone();
     let mut number = 0;
     // Each band is drawn many times in so many calls.
     for _ in 0..1_000 * (1 + rule.bands()) {
-        match random.within(0, 1 + rule.bands()) {
-            0 => state.run = loupe::advance(state.run).run,
-            1 => {
-                number = loupe::result(state.run, &state.first, &state.second, &mut out);
-                if number == 0 {
-                    return Ok(out);
-                }
-            }
+        let call = random.within(0, 1 + rule.bands());
+        number = match call {
+            0 => advance(&mut state),
+            1 => loupe::result(state.run, &state.first, &state.second, &mut out),
             _ => any_band(&mut state, rule.bands(), random),
+        };
+        if number != 0 {
+            if !state.same_bits(&left) || !bits::same(&out, &out_before) {
+                return Err(("a refused call changed something", number));
+            }
+        } else if call == 1 {
+            return Ok(out);
+        } else {
+            left.clone_from(&state);
         }
     }
-    Err(number)
+    Err(("no result after many calls", number))
+}
+
+fn advance(state: &mut State) -> u32 {
+    let answer = loupe::advance(state.run);
+    state.run = answer.run;
+    answer.number
 }
 
 /// A band, or the one past the last.
-fn any_band(state: &mut State, bands: i128, random: &mut Random) {
+fn any_band(state: &mut State, bands: i128, random: &mut Random) -> u32 {
     let k = random.within(0, bands) as u32;
     let (first, second) = (&mut state.first, &mut state.second);
-    state.run = loupe::band(state.run, &state.sigmas, first, second, k).run;
+    let answer = loupe::band(state.run, &state.sigmas, first, second, k);
+    state.run = answer.run;
+    answer.number
 }

@@ -117,6 +117,11 @@ impl Row {
         }
     }
 
+    #[cfg(test)]
+    pub fn differing(&self) -> u64 {
+        self.differ
+    }
+
     /// Each number with how often it was due, and a mark where that had to be often enough.
     fn due(&self) -> String {
         let due: Vec<String> = (0..)

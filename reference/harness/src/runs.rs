@@ -6,7 +6,9 @@ mod damage;
 mod draw;
 mod handed;
 mod instances;
+mod nans;
 mod refusals;
+mod scaled;
 
 use calls::Tally;
 use damage::MOST_SAMPLES;
@@ -14,6 +16,7 @@ pub use draw::{Passes, around, band_height, defaults, passes, settings, with_pas
 pub use handed::{Handed, State, place, setup_rule};
 
 use crate::{
+    bits,
     expected::runs::samples as count,
     picture::{agree, samples},
     random::Random,
@@ -49,6 +52,7 @@ pub fn compare(amount: Amount, report: &mut Report) {
         whole(handed, &mut random, &mut row, &mut tally);
     }
     report.add(row);
+    scaled::compare(amount, &mut random, report, &mut tally);
     tally.require(amount);
     tally.report(report);
 }
@@ -101,7 +105,8 @@ fn stray(handed: &Handed, state: &State, random: &mut Random, tally: &mut Tally)
     if !random.once_in(3) {
         damage::state(&mut lent, random);
     }
-    match random.within(0, 8) {
+    nans::in_state(&mut lent, random);
+    match random.within(0, 9) {
         0 => stray_start(handed, random, tally),
         1..=3 => {
             let k = stray_band(&lent, random);
@@ -109,6 +114,10 @@ fn stray(handed: &Handed, state: &State, random: &mut Random, tally: &mut Tally)
         }
         4 | 5 => {
             calls::advance(&mut lent.run, tally);
+        }
+        6 => {
+            damage::passes(&mut lent.run.setup.settings, random);
+            calls::margin(&lent.run.setup, tally);
         }
         _ => {
             // Of the damaged record, or of the run's own where that is too much.
@@ -121,6 +130,7 @@ fn stray(handed: &Handed, state: &State, random: &mut Random, tally: &mut Tally)
             if random.once_in(3) {
                 damage::resize(&mut out, random);
             }
+            bits::sprinkle(&mut out, random);
             calls::result(&mut lent, &mut out, tally);
         }
     }
@@ -130,6 +140,7 @@ fn stray(handed: &Handed, state: &State, random: &mut Random, tally: &mut Tally)
 fn stray_start(handed: &Handed, random: &mut Random, tally: &mut Tally) {
     let mut wrong = handed.clone();
     damage::handed(&mut wrong, random);
+    nans::in_handed(&mut wrong, random);
     calls::start(&mut wrong, tally);
 }
 
@@ -138,7 +149,7 @@ fn stray_band(state: &State, random: &mut Random) -> u32 {
     match random.within(0, 3) {
         0 => random.one_of(&[0, 255, 256, u32::MAX]),
         1 | 2 => (0..256)
-            .find(|&k| state.run.done[k as usize])
+            .find(|&k| state.run.done[k as usize] == 1)
             .unwrap_or(256),
         _ => random.within(0, 41) as u32,
     }

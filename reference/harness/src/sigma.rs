@@ -1,11 +1,12 @@
 //! Block sigmas: frames of 1 to 4 groups each way with filter regions where groups meet, grids that
 //! are missing or too narrow, and refusals.
 
-use core::fmt;
+use core::{fmt, hint::black_box};
 
 use crate::{
+    bits,
     expected::{self, sigma as rule},
-    picture::{agree, any_len, judge, plain, special},
+    picture::{agree, any_flag, any_len, judge, plain, special},
     random::Random,
     report::{Amount, Report, Row},
 };
@@ -62,7 +63,7 @@ impl fmt::Debug for Case {
 }
 
 impl Case {
-    pub fn ours(&self, on: bool, sigmas: &mut [f32]) -> u32 {
+    pub fn ours(&self, on: u32, sigmas: &mut [f32]) -> u32 {
         let frame = loupe::Frame {
             width: self.frame.width,
             height: self.frame.height,
@@ -75,7 +76,7 @@ impl Case {
         )
     }
 
-    fn handed(&self, on: bool, sigmas: usize) -> rule::Handed<'_> {
+    fn handed(&self, on: u32, sigmas: usize) -> rule::Handed<'_> {
         rule::Handed {
             on,
             frame: rule::Frame {
@@ -95,6 +96,11 @@ impl Case {
             grids: self.grids.len(),
             sigmas,
         }
+    }
+
+    /// Table and grids have the bits that they had.
+    fn is_left_as(&self, before: &Self) -> bool {
+        *black_box(&self.table) == before.table && bits::same(&self.grids, &before.grids)
     }
 
     /// The filter region of a case that is accepted.
@@ -155,7 +161,7 @@ pub fn compare(amount: Amount, report: &mut Report) {
             let groups = (1 + groups % most, 1 + groups / most);
             for _ in 0..amount.few(cases) {
                 let case = meeting(shift, groups, false, &mut random);
-                check(&case, true, case.count(), &mut random, &mut row);
+                check(&case, 1, case.count(), &mut random, &mut row);
             }
         }
     }
@@ -166,7 +172,7 @@ pub fn compare(amount: Amount, report: &mut Report) {
         let mut groups = || random.within(1, GROUPS[shift as usize].into()) as u32;
         let groups = (groups(), groups());
         let case = meeting(shift, groups, true, &mut random);
-        check(&case, true, case.count(), &mut random, &mut row);
+        check(&case, 1, case.count(), &mut random, &mut row);
     }
     report.add(row);
     whole_frames(&mut random, report);
@@ -183,7 +189,7 @@ fn whole_frames(random: &mut Random, report: &mut Report) {
     for (width, height) in [(16_384, 64), (64, 16_384), (2_040, 1_500), (1_500, 2_044)] {
         for shift in 0..4 {
             let case = whole(shift, width, height, random);
-            check(&case, true, case.count(), random, &mut row);
+            check(&case, 1, case.count(), random, &mut row);
         }
     }
     report.add(row);
@@ -191,18 +197,24 @@ fn whole_frames(random: &mut Random, report: &mut Report) {
 
 /// The number and the sigmas are the rule's, and the sigmas are the original's in all rows that it
 /// shows.
-fn check(case: &Case, on: bool, lent: usize, random: &mut Random, row: &mut Row) {
-    let before: Vec<f32> = (0..lent).map(|_| special(random)).collect();
+fn check(case: &Case, on: u32, lent: usize, random: &mut Random, row: &mut Row) {
+    let mut before: Vec<f32> = (0..lent).map(|_| special(random)).collect();
+    bits::sprinkle(&mut before, random);
     let mut ours = before.clone();
-    let given = case.ours(on, &mut ours);
     let handed = case.handed(on, lent);
     let number = rule::number(handed);
-    if number != 0 || !on {
-        judge(case, (0, 0), (given, &ours), (number, &before), row);
+    let read = (number != 0).then(|| case.clone());
+    let given = case.ours(on, &mut ours);
+    if number != 0 || on == 0 {
+        let due = (number, &before[..]);
+        judge(case, (0, 0), (given, &ours), due, &|_| false, row);
+        if read.is_some_and(|read| !case.is_left_as(&read)) {
+            row.differs(case, &"a changed table or grid", &"left");
+        }
         return;
     }
     let due = rule::sigmas(handed, &case.grids, case.modular);
-    judge(case, (0, 0), (given, &ours), (0, &due), row);
+    judge(case, (0, 0), (given, &ours), (0, &due), &|_| true, row);
     let shown = oracle::sigma_rows(
         case.filter(),
         case.frame,
@@ -261,9 +273,9 @@ pub fn carried(shift: u32, random: &mut Random) -> [Case; 4] {
 
 /// Blocks of group row 1 repeat the last row above, where the filter region has it.
 fn carry(case: &Case, random: &mut Random, row: &mut Row) {
-    check(case, true, case.count(), random, row);
+    check(case, 1, case.count(), random, row);
     let mut sigmas = vec![0.0; case.count()];
-    case.ours(true, &mut sigmas);
+    case.ours(1, &mut sigmas);
     let (dim, top) = (case.grids.len(), case.blocks.top as usize);
     let above = if top < dim {
         case.grids[dim - 1]
@@ -404,8 +416,8 @@ fn wrong(random: &mut Random, row: &mut Row) {
     let groups = (random.within(1, 2) as u32, random.within(1, 2) as u32);
     let narrow = random.once_in(4);
     let mut case = meeting(0, groups, narrow, random);
-    let mut on = !random.once_in(8);
-    let mut lent = if on { case.count() } else { 0 };
+    let mut on = u32::from(!random.once_in(8));
+    let mut lent = on as usize * case.count();
     for _ in 0..random.within(1, 3) {
         match random.within(0, 4) {
             0 => wrong_frame(&mut case.frame, random),
@@ -420,10 +432,13 @@ fn wrong(random: &mut Random, row: &mut Row) {
             }
             _ => {
                 lent = any_len(lent, random);
-                on ^= random.once_in(4);
+                if random.once_in(4) {
+                    on = any_flag(random);
+                }
             }
         }
     }
+    bits::sprinkle(&mut case.grids, random);
     check(&case, on, lent, random, row);
 }
 

@@ -1,5 +1,5 @@
 -- `epf::epf_pass` meets its contract. Each test gives its number and leaves `dst`, and else the band is what the definition says. Assumes nothing.
-use mathlib.Core.Path.{sym, ap, _∙_}
+use mathlib.Core.Path.{_≡_, sym, ap, _∙_}
 use native.Mathlib.Omega.{arith}
 use borrow.Author.Needs.{needs}
 use mir.Facts.{toZ-ofZ}
@@ -8,48 +8,58 @@ use lib.ListN.{length}
 use Rattle.planes.specs.declared.Layout.{Layout}
 use Rattle.tiles.specs.declared.Step.{Step}
 use Rattle.tiles.specs.Tile.{stepOver}
+use Rattle.numbers.specs.Flags.{flagSet}
+use Rattle.layout.specs.Outcome.{layoutOutcome}
 use Rattle.layout.specs.Fits.{Accepted}
 use Rattle.epf.specs.Fits.{StepFits, step-fits, band-fits, not-placed, layout-held, refused, done}
 use Rattle.epf.proofs.epf_pass.Statement.{statement}
 use Rattle.epf.proofs.epf_pass.Tie as tie
 
--- the regions are placed
-module _ (c : tie.Else1) where
+module _ (c : tie.After-layout-of) where
   abbrev start : tie.Start
   start = c .before .before .before .before .before
 
+  laid : c .layout-of .result ≡ layoutOutcome (start .args .image) (start .args .filter) (flagSet (start .args .preserve-outside))
+  laid = rw (c .before .flag-set .ensures) at (c .layout-of .ensures)
+
+-- the regions are placed
+module _ (c : tie.Else1) where
   held : Accepted (c .before .layout-of .result .layout)
-  held = layout-held (start .args .image) (start .args .filter) (start .args .preserve-outside) (start .args .s) (now (start .args .sigmas)) (start .args .from) (start .args .to) (now (start .args .src)) (now (start .args .dst)) (c .before .layout-of .result) (c .before .layout-of .ensures) (c .if1 .left)
+  held = let s = start (c .before) .args in layout-held (s .image) (s .filter) (s .preserve-outside) (s .s) (now (s .sigmas)) (s .from) (s .to) (now (s .src)) (now (s .dst)) (c .before .layout-of .result) (laid (c .before)) (c .if1 .left)
 
 -- and every other test held
 module _ (c : tie.Else2) where
+  abbrev placed : tie.After-layout-of
+  placed = c .before .before .before .before .before
+
   abbrev first : tie.Start
-  first = c .before .before .before .before .before .before .before .before .before
+  first = start placed
 
   abbrev layout : Layout
-  layout = c .before .before .before .before .before .layout-of .result .layout
+  layout = placed .layout-of .result .layout
 
   fits : StepFits 3 layout (first .args .s .step) (first .args .from) (first .args .to) (length (now (first .args .sigmas))) (length (now (first .args .src))) (length (now (first .args .dst)))
-  fits = step-fits 3 layout (first .args .filter) (first .args .s .step) (first .args .from) (first .args .to) _ _ _ (sym (c .before .judged .ensures) ∙ c .if2 .left)
+  fits = step-fits 3 layout (first .args .filter) (first .args .preserve-outside) (first .args .s .step) (first .args .from) (first .args .to) _ _ _ (sym (c .before .judged .ensures) ∙ c .if2 .left)
 
 returns-3 : tie.Need-returns-3
 unfolding stepOver
 returns-3 c =
     let d = c .before .before .before .before .before .before .before in
     let a = first d .args in
-    let l = d .before .before .before .before .before .layout-of in
+    let l = placed d .layout-of in
     let j = d .before .judged in
-    done (a .image) (a .filter) (a .preserve-outside) (a .s) (now (a .sigmas)) (a .from) (a .to) (now (a .src)) (now (a .dst)) (l .result) (l .ensures) (d .before .before .before .before .if1 .left) (j .result) (j .ensures) (d .if2 .left) _
+    done (a .image) (a .filter) (a .preserve-outside) (a .s) (now (a .sigmas)) (a .from) (a .to) (now (a .src)) (now (a .dst)) (l .result) (laid (placed d)) (d .before .before .before .before .if1 .left) (j .result) (j .ensures) (d .if2 .left) _
     (rw (c .before .before .before .ahead .ensures .0, toZ-ofZ (record { sfits = c .before .before .before .before .struct-told .given .1 .0 .1 }), c .before .before .before .before .before .before .step-of .ensures) at (c .before .before .epf-band .ensures))
 
 pub epf-pass-spec : {M : Type 1} → statement M
 epf-pass-spec = tie.close
     (tie.spec
     (λ c κs. search needs)
-    (λ c. let s = c .before .before .before .before .before .args in not-placed (s .image) (s .filter) (s .preserve-outside) (s .s) (now (s .sigmas)) (s .from) (s .to) (now (s .src)) (now (s .dst)) (c .before .layout-of .result) (c .before .layout-of .ensures) (c .if1 .taken))
+    (λ c κs. search needs)
+    (λ c. let s = start (c .before) .args in not-placed (s .image) (s .filter) (s .preserve-outside) (s .s) (now (s .sigmas)) (s .from) (s .to) (now (s .src)) (now (s .dst)) (c .before .layout-of .result) (laid (c .before)) (c .if1 .taken))
     (λ c. search needs)
     (λ c κs. held (c .before .before) .fits)
-    (λ c. let s = c .before .before .before .before .before .before .before .before .before .args in let l = c .before .before .before .before .before .layout-of in refused (s .image) (s .filter) (s .preserve-outside) (s .s) (now (s .sigmas)) (s .from) (s .to) (now (s .src)) (now (s .dst)) (l .result) (l .ensures) (c .before .before .before .before .if1 .left) (c .before .judged .result) (c .before .judged .ensures) (c .if2 .taken))
+    (λ c. let l = c .before .before .before .before .before in let s = start l .args in refused (s .image) (s .filter) (s .preserve-outside) (s .s) (now (s .sigmas)) (s .from) (s .to) (now (s .src)) (now (s .dst)) (l .layout-of .result) (laid l) (c .before .before .before .before .if1 .left) (c .before .judged .result) (c .before .judged .ensures) (c .if2 .taken))
     (λ c κs. search needs)
     (λ c κs. search needs)
     (λ c κs. let d = c .before .before .before .before in let f = fits d in let g = held (d .before .before .before .before) .fits in

@@ -2,46 +2,47 @@
 use borrow.Author.Needs.{needs}
 use mathlib.Core.Path.{ap, _∙_}
 use Rattle.epf_header.specs.EdgeFilter.{epfAnswer}
-use Rattle.epf_tables.proofs.Told.{told-place}
+use Rattle.epf_tables.proofs.Told.{sharp-accepted, sharp-refused, scale-accepted, scale-refused}
 use Rattle.epf_header.proofs.EpfCases.{parameters-refused, parameters-short, parameters}
 use Rattle.epf_header.proofs.epf_parameters.Statement.{statement}
 use Rattle.epf_header.proofs.epf_parameters.Tie as tie
 
 returns : tie.Need-returns
 returns c =
-    c .epf-settings .ensures
-    ∙ ap epfAnswer
-    (parameters _ _ _ _ _ (c .before .before .before .before .before .before .before .before .before .before .before .before .before .is-var-dct .ensures)
-    (told-place _ (c .before .before .before .before .before .before .before .before .at .given .1) (c .before .before .before .before .before .before .before .before .before .before .before .read-sharp-lut .ensures))
-    (told-place _ (c .before .before .at2 .given .1) (c .before .before .before .before .before .read-channel-scale .ensures)))
+    let sharp = c .before .before .before in
+    c .epf-refused .ensures
+    ∙ ap epfAnswer (parameters-refused _ _ _ _ _ (sharp .before .is-var-dct .ensures) (sharp-refused _ _ _ _ _ (sharp .read-sharp-lut .ensures) (c .before .if1 .taken)))
 
 returns-2 : tie.Need-returns-2
 returns-2 c =
-    c .epf-refused .ensures
+    let scale = c .before .before .before in
+    let sharp = scale .before .before .before in
+    c .epf-refused2 .ensures
     ∙ ap epfAnswer
-    (parameters-short _ _ _ _ _ (c .before .before .before .before .before .before .before .before .before .before .before .before .before .is-var-dct .ensures)
-    (told-place _ (c .before .before .before .before .before .before .before .before .at .given .1) (c .before .before .before .before .before .before .before .before .before .before .before .read-sharp-lut .ensures))
-    (told-place _ (c .before .before .number .given .1) (c .before .before .before .before .before .read-channel-scale .ensures)))
+    (parameters-short _ _ _ _ _ (sharp .before .is-var-dct .ensures)
+    (sharp-accepted _ _ _ _ _ (sharp .read-sharp-lut .ensures) (scale .before .if1 .left))
+    (scale-refused _ _ _ _ (scale .read-channel-scale .ensures) (c .before .if2 .taken)))
 
 returns-3 : tie.Need-returns-3
-returns-3 c = c .epf-refused2 .ensures ∙ ap epfAnswer (parameters-refused _ _ _ _ _ (c .before .before .before .before .before .before .before .is-var-dct .ensures) (told-place _ (c .before .before .number2 .given .1) (c .before .before .before .before .before .read-sharp-lut .ensures)))
+returns-3 c =
+    let scale = c .before .before .before .before .before in
+    let sharp = scale .before .before .before in
+    c .epf-settings .ensures
+    ∙ ap epfAnswer
+    (parameters _ _ _ _ _ (sharp .before .is-var-dct .ensures)
+    (sharp-accepted _ _ _ _ _ (sharp .read-sharp-lut .ensures) (scale .before .if1 .left))
+    (scale-accepted _ _ _ _ (scale .read-channel-scale .ensures) (c .before .before .before .if2 .left)))
 
 pub epf-parameters-spec : {M : Type 1} → statement M
 epf-parameters-spec =
     tie.close
     (tie.spec
     (λ c κs. search needs)
-    (λ c. search needs)
     (λ c κs. search needs)
-    (λ c. search needs)
-    (λ c. search needs)
-    (λ c κs. search needs)
-    (λ c. search needs)
-    (λ c κs. search needs)
-    (λ c. search needs)
-    (λ c κs. search needs)
-    (λ c. search needs)
     (λ c κs. search needs)
     returns
+    (λ c κs. search needs)
+    (λ c κs. search needs)
     returns-2
+    (λ c κs. search needs)
     returns-3)

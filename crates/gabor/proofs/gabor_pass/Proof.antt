@@ -5,70 +5,104 @@ use borrow.Author.Needs.{needs}
 use borrow.Author.Tests.{not-true, not-false}
 use denote.Ref.{now}
 use lib.ListN.{length}
+use Rattle.numbers.specs.Flags.{flagFits, flagSet}
 use Rattle.planes.specs.Band.{setFits, rowsFit}
-use Rattle.gabor.specs.Fits.{outcome-placed, outcome-source, outcome-target, outcome-rows, outcome-fits, outcome-sides, outcome-passed}
+use Rattle.layout.specs.Outcome.{layoutOutcome}
+use Rattle.gabor.specs.Fits.{outcome-placed, outcome-source, outcome-target, outcome-flag, outcome-rows, outcome-fits, outcome-sides, outcome-passed}
 use Rattle.gabor.proofs.gabor_pass.Statement.{statement}
 use Rattle.gabor.proofs.gabor_pass.Tie as tie
 
+module _ (c : tie.After-layout-of) where
+  abbrev start : tie.Start
+  start = c .before .before .before .before
+
+  laid : c .layout-of .result ≡ layoutOutcome (start .args .image) (start .args .filter) (flagSet (start .args .preserve-outside))
+  laid = rw (c .before .flag-set .ensures) at (c .layout-of .ensures)
+
 returns : tie.Need-returns
 returns c =
-    let s = c .before .before .before .before in
-    outcome-placed (s .args .image) (s .args .filter) (s .args .preserve-outside) (s .args .weights) (s .args .from) (s .args .to) (now (s .args .src)) (now (s .args .dst)) (c .before .layout-of .result) (c .before .layout-of .ensures) (c .if1 .taken)
+    let l = c .before in
+    let s = start l .args in
+    outcome-placed (s .image) (s .filter) (s .preserve-outside) (s .weights) (s .from) (s .to) (now (s .src)) (now (s .dst)) (l .layout-of .result) (laid l) (c .if1 .taken)
 
 returns-2 : tie.Need-returns-2
 returns-2 c =
-    let s = c .before .before .before .before .before .before .before in
-    let a = c .before .before .before .before .layout-of in
-    outcome-source (s .args .image) (s .args .filter) (s .args .preserve-outside) (s .args .weights) (s .args .from) (s .args .to) (now (s .args .src)) (now (s .args .dst)) (a .result) (a .ensures) (c .before .before .before .if1 .left) (sym (c .before .set-fits .ensures) ∙ not-true _ (c .if2 .taken))
+    let l = c .before .before .before .before in
+    let s = start l .args in
+    outcome-source (s .image) (s .filter) (s .preserve-outside) (s .weights) (s .from) (s .to) (now (s .src)) (now (s .dst)) (l .layout-of .result) (laid l) (c .before .before .before .if1 .left) (sym (c .before .set-fits .ensures) ∙ not-true _ (c .if2 .taken))
 
 returns-3 : tie.Need-returns-3
 returns-3 c =
-    let s = c .before .before .before .before .before .before .before .before .before in
-    let a = c .before .before .before .before .before .before .layout-of in
-    outcome-target (s .args .image) (s .args .filter) (s .args .preserve-outside) (s .args .weights) (s .args .from) (s .args .to) (now (s .args .src)) (now (s .args .dst)) (a .result) (a .ensures) (c .before .before .before .before .before .if1 .left) (sym (c .before .set-fits2 .ensures) ∙ not-true _ (c .if3 .taken))
+    let l = c .before .before .before .before .before .before in
+    let s = start l .args in
+    outcome-target (s .image) (s .filter) (s .preserve-outside) (s .weights) (s .from) (s .to) (now (s .src)) (now (s .dst)) (l .layout-of .result) (laid l) (c .before .before .before .before .before .if1 .left) (sym (c .before .set-fits2 .ensures) ∙ not-true _ (c .if3 .taken))
+
+-- both sets have their length
+module _ (c : tie.Else3) where
+  abbrev layout : tie.After-layout-of
+  layout = c .before .before .before .before .before .before
+
+  placed : layout .layout-of .result .number ≡ 0
+  placed = c .before .before .before .before .before .if1 .left
+
+  source : setFits (layout .layout-of .result .layout) 3 (length (now (start layout .args .src))) ≡ true
+  source = sym (c .before .before .before .set-fits .ensures) ∙ not-false _ (c .before .before .if2 .left)
+
+  target : setFits (layout .layout-of .result .layout) 3 (length (now (start layout .args .dst))) ≡ true
+  target = sym (c .before .set-fits2 .ensures) ∙ not-false _ (c .if3 .left)
 
 returns-4 : tie.Need-returns-4
 returns-4 c =
-    let s = c .before .before .before .before .before .before .before .before .before .before .before in
-    let a = c .before .before .before .before .before .before .before .before .layout-of in
-    outcome-rows (s .args .image) (s .args .filter) (s .args .preserve-outside) (s .args .weights) (s .args .from) (s .args .to) (now (s .args .src)) (now (s .args .dst)) (a .result) (a .ensures) (c .before .before .before .before .before .before .before .if1 .left)
-    (sym (c .before .before .before .before .before .set-fits .ensures) ∙ not-false _ (c .before .before .before .before .if2 .left)) (sym (c .before .before .before .set-fits2 .ensures) ∙ not-false _ (c .before .before .if3 .left))
-    (sym (c .before .rows-fit .ensures) ∙ not-true _ (c .if4 .taken))
+    let e = c .before .before in
+    let s = start (layout e) .args in
+    outcome-flag (s .image) (s .filter) (s .preserve-outside) (s .weights) (s .from) (s .to) (now (s .src)) (now (s .dst)) (layout e .layout-of .result) (laid (layout e)) (placed e) (source e) (target e)
+    (sym (c .before .flag-fits .ensures) ∙ not-true _ (c .if4 .taken))
+
+-- and the flag is in range
+module _ (c : tie.Else4) where
+  abbrev sets : tie.Else3
+  sets = c .before .before
+
+  flag : flagFits (start (layout sets) .args .preserve-outside) ≡ true
+  flag = sym (c .before .flag-fits .ensures) ∙ not-false _ (c .if4 .left)
+
+returns-5 : tie.Need-returns-5
+returns-5 c =
+    let f = c .before .before in
+    let e = sets f in
+    let s = start (layout e) .args in
+    outcome-rows (s .image) (s .filter) (s .preserve-outside) (s .weights) (s .from) (s .to) (now (s .src)) (now (s .dst)) (layout e .layout-of .result) (laid (layout e)) (placed e) (source e) (target e) (flag f)
+    (sym (c .before .rows-fit .ensures) ∙ not-true _ (c .if5 .taken))
 
 -- all tests held
-module _ (c : tie.Else4) where
-  abbrev start : tie.Start
-  start = c .before .before .before .before .before .before .before .before .before .before .before
+module _ (c : tie.Else5) where
+  abbrev flagged : tie.Else4
+  flagged = c .before .before
 
-  source : setFits (c .before .before .before .before .before .before .before .before .layout-of .result .layout) 3 (length (now (start .args .src))) ≡ true
-  source = sym (c .before .before .before .before .before .set-fits .ensures) ∙ not-false _ (c .before .before .before .before .if2 .left)
-
-  target : setFits (c .before .before .before .before .before .before .before .before .layout-of .result .layout) 3 (length (now (start .args .dst))) ≡ true
-  target = sym (c .before .before .before .set-fits2 .ensures) ∙ not-false _ (c .before .before .if3 .left)
-
-  rows : rowsFit (c .before .before .before .before .before .before .before .before .layout-of .result .layout) (start .args .from) (start .args .to) ≡ true
-  rows = sym (c .before .rows-fit .ensures) ∙ not-false _ (c .if4 .left)
+  rows : rowsFit (layout (sets flagged) .layout-of .result .layout) (start (layout (sets flagged)) .args .from) (start (layout (sets flagged)) .args .to) ≡ true
+  rows = sym (c .before .rows-fit .ensures) ∙ not-false _ (c .if5 .left)
 
 gabor-band-requires : tie.Need-gabor-band-requires
 gabor-band-requires d κs =
     let c = d .before in
-    let s = start c in
-    let a = c .before .before .before .before .before .before .before .before .layout-of in (
-      outcome-fits (s .args .image) (s .args .filter) (s .args .preserve-outside) (s .args .weights) (s .args .from) (s .args .to) (now (s .args .src)) (now (s .args .dst)) (a .result) (a .ensures) (c .before .before .before .before .before .before .before .if1 .left) (source c) (target c) (rows c),
-      outcome-sides (s .args .image) (s .args .filter) (s .args .preserve-outside) (s .args .weights) (s .args .from) (s .args .to) (now (s .args .src)) (now (s .args .dst)) (a .result) (a .ensures) (c .before .before .before .before .before .before .before .if1 .left) (source c) (target c) (rows c),
+    let e = sets (flagged c) in
+    let s = start (layout e) .args in (
+      outcome-fits (s .image) (s .filter) (s .preserve-outside) (s .weights) (s .from) (s .to) (now (s .src)) (now (s .dst)) (layout e .layout-of .result) (laid (layout e)) (placed e) (source e) (target e) (rows c),
+      outcome-sides (s .image) (s .filter) (s .preserve-outside) (s .weights) (s .from) (s .to) (now (s .src)) (now (s .dst)) (layout e .layout-of .result) (laid (layout e)) (placed e) (source e) (target e) (rows c),
     )
 
-returns-5 : tie.Need-returns-5
-returns-5 d =
+returns-6 : tie.Need-returns-6
+returns-6 d =
     let c = d .before .before .before .before in
-    let s = start c in
-    let a = c .before .before .before .before .before .before .before .before .layout-of in
-    outcome-passed (s .args .image) (s .args .filter) (s .args .preserve-outside) (s .args .weights) (s .args .from) (s .args .to) (now (s .args .src)) (now (s .args .dst)) (a .result) (a .ensures) (c .before .before .before .before .before .before .before .if1 .left) (source c) (target c) (rows c) _ (d .before .before .gabor-band .ensures)
+    let e = sets (flagged c) in
+    let s = start (layout e) .args in
+    outcome-passed (s .image) (s .filter) (s .preserve-outside) (s .weights) (s .from) (s .to) (now (s .src)) (now (s .dst)) (layout e .layout-of .result) (laid (layout e)) (placed e) (source e) (target e) (rows c) (flag (flagged c)) _ (d .before .before .gabor-band .ensures)
 
 pub gabor-pass-spec : {M : Type 1} → statement M
 gabor-pass-spec =
     tie.close
     (tie.spec
+    (λ c κs. search needs)
     (λ c κs. search needs)
     returns
     (λ c κs. search needs)
@@ -77,6 +111,8 @@ gabor-pass-spec =
     returns-3
     (λ c κs. search needs)
     returns-4
+    (λ c κs. search needs)
+    returns-5
     gabor-band-requires
     (λ c. search needs)
-    returns-5)
+    returns-6)

@@ -4,7 +4,6 @@ use mathlib.Core.Bool.{true, false, cond}
 use mathlib.Core.List.{List}
 use Prim.Native.Nat.{ℕ}
 use borrow.Author.Needs.{needs}
-use borrow.Author.Tests.{eq-eqb, ne-eqb}
 use denote.Ref.{now}
 use lib.Ieee.{Float}
 use Rattle.numbers.specs.Numbers.{accepted, outOfMeasure, outOfRange}
@@ -101,14 +100,14 @@ returns-4 c =
     let e = c .before .before in
     let s = start3 e in
     number.count-wrong (s .args .on) (f s) (b s) (t s) (grids s) (n s) (sides-good (else2 e .before)) (blocks-good (else2 e)) (settings-bad3 e)
-    (ne-eqb _ _ (λ z. c .if4 .taken (z ∙ sym (c .before .sigma-count .ensures))))
+    (sym (c .before .wrong-count .ensures) ∙ c .if4 .taken)
 
 returns-5 : tie.Need-returns-5
 returns-5 c =
     let e = c .before .before in
     let s = start3 e in
     number.settings-out (s .args .on) (f s) (b s) (t s) (grids s) (n s) (sides-good (else2 e .before)) (blocks-good (else2 e)) (settings-bad3 e)
-    (eq-eqb _ _ (c .if4 .left ∙ c .before .sigma-count .ensures))
+    (sym (c .before .wrong-count .ensures) ∙ c .if4 .left)
 
 pub check-spec : {M : Type 1} → statement M
 check-spec =

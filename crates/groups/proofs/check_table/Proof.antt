@@ -4,12 +4,13 @@ use mathlib.Core.Bool.{Bool, true, false, not, _&&_}
 use mathlib.Core.List.{List}
 use Prim.Native.Nat.{ℕ, _*_, _≤_}
 use borrow.Author.Needs.{needs}
-use borrow.Author.Tests.{eq-eqb, ne-eqb}
+use borrow.Author.Tests.{eq-eqb, ne-eqb, not-true, not-false}
 use native.Mathlib.Omega.{arith}
 use denote.Ref.{now}
 use lib.Dec.{eqb}
 use lib.ListN.{length}
 use lib.Ieee.{Float}
+use Rattle.numbers.specs.Flags.{flagSet}
 use Rattle.frame.specs.declared.Frame.{Frame}
 use Rattle.frame.specs.declared.GroupSizes.{GroupSizes}
 use Rattle.frame.specs.Sizes.{sizesOf}
@@ -18,7 +19,8 @@ use Rattle.blocks.specs.declared.Blocks.{Blocks}
 use Rattle.grids.specs.declared.StartAnswer.{StartAnswer}
 use Rattle.grids.specs.Laws.{start-inside, refused-bad, passed-good}
 use Rattle.grids.specs.Table.{someBelow, badGrid, badPresence, gridStart}
-use Rattle.groups.specs.Outcome.{tableFits, someGroup, gridsFit, sigmaCount}
+use Rattle.groups.specs.Held.{someNotHeld}
+use Rattle.groups.specs.Outcome.{tableFits, someGroup, gridsFit}
 use Rattle.groups.specs.Laws.{TableOf}
 use Rattle.blocks.specs.Laws.{Measured, measured}
 use Rattle.groups.proofs.Number as number
@@ -151,7 +153,7 @@ returns-4 c =
     let d = e .before in
     let s = start3 d in
     number.sigmas-wrong (s .args .on) (f s) (b s) (t s) (grids s) (n s) (s .pre .sides) (s .pre .blocks) (s .pre .settings) (table-fits (else1 d))
-    (grids-fit d) (sym (wrong-grids-are d) ∙ e .if3 .left) (ne-eqb _ _ (λ z. c .if4 .taken (z ∙ sym (c .before .sigma-count .ensures))))
+    (grids-fit d) (sym (wrong-grids-are d) ∙ e .if3 .left) (sym (c .before .wrong-count .ensures) ∙ c .if4 .taken)
 
 -- past the test of the count
 module _ (c : tie.Else4) where
@@ -161,35 +163,53 @@ module _ (c : tie.Else4) where
   abbrev start4 : tie.Start
   start4 = start3 wrong4
 
-  count-is : eqb (n start4) (sigmaCount (start4 .args .on) (b start4)) ≡ true
-  count-is = eq-eqb _ _ (c .if4 .left ∙ c .before .sigma-count .ensures)
+  count-is : number.wrongCount (start4 .args .on) (f start4) (b start4) (t start4) (grids start4) (n start4) ≡ false
+  count-is = sym (c .before .wrong-count .ensures) ∙ c .if4 .left
 
   grids-right : (not (someGroup (f start4) (badPresence (t start4))) && not (gridsFit (f start4) (t start4) (grids start4))) ≡ false
   grids-right = sym (wrong-grids-are wrong4) ∙ c .before .before .if3 .left
 
+-- blocks that are not held, with the edge filter on
+module _ (c : tie.After-touched-not-held) where
+  abbrev else4 : tie.Else4
+  else4 = c .before .before
+
+  touched-is : c .touched-not-held .result ≡ (flagSet (start4 else4 .args .on) && someNotHeld (f (start4 else4)) (b (start4 else4)) (t (start4 else4)))
+  touched-is = rw (c .before .flag-set .ensures) at (c .touched-not-held .ensures)
+
 returns-5 : tie.Need-returns-5
 returns-5 c =
-    let e = c .before .before in
+    let e = else4 (c .before) in
     let d = wrong4 e in
     let s = start4 e in
     number.block-out (s .args .on) (f s) (b s) (t s) (grids s) (n s) (s .pre .sides) (s .pre .blocks) (s .pre .settings) (table-fits (else1 d))
-    (grids-fit d) (grids-right e) (count-is e) (sym (c .before .touched-not-held .ensures) ∙ c .if5 .taken)
+    (grids-fit d) (grids-right e) (count-is e) (sym (touched-is (c .before)) ∙ c .if5 .taken)
 
 returns-6 : tie.Need-returns-6
 returns-6 c =
-    let e = c .before .before .before in
+    let e = else4 (c .before .before) in
     let d = wrong4 e in
     let s = start4 e in
     number.presence-out (s .args .on) (f s) (b s) (t s) (grids s) (n s) (s .pre .sides) (s .pre .blocks) (s .pre .settings) (table-fits (else1 d))
-    (grids-fit d) (grids-right e) (count-is e) (sym (c .before .before .touched-not-held .ensures) ∙ c .before .if5 .left) (sym (presences-are d) ∙ c .if6 .taken)
+    (grids-fit d) (grids-right e) (count-is e) (sym (touched-is (c .before .before)) ∙ c .before .if5 .left) (sym (presences-are d) ∙ c .if6 .taken)
 
 returns-7 : tie.Need-returns-7
 returns-7 c =
-    let e = c .before .before .before in
+    let g = c .before .before in
+    let e = else4 (g .before .before) in
+    let d = wrong4 e in
+    let s = start4 e in
+    number.flag-out (s .args .on) (f s) (b s) (t s) (grids s) (n s) (s .pre .sides) (s .pre .blocks) (s .pre .settings) (table-fits (else1 d))
+    (grids-fit d) (grids-right e) (count-is e) (sym (touched-is (g .before .before)) ∙ g .before .if5 .left) (sym (presences-are d) ∙ g .if6 .left) (sym (c .before .flag-fits .ensures) ∙ not-true _ (c .if7 .taken))
+
+returns-8 : tie.Need-returns-8
+returns-8 c =
+    let g = c .before .before in
+    let e = else4 (g .before .before) in
     let d = wrong4 e in
     let s = start4 e in
     number.none-out (s .args .on) (f s) (b s) (t s) (grids s) (n s) (s .pre .sides) (s .pre .blocks) (s .pre .settings) (table-fits (else1 d))
-    (grids-fit d) (grids-right e) (count-is e) (sym (c .before .before .touched-not-held .ensures) ∙ c .before .if5 .left) (sym (presences-are d) ∙ c .if6 .left)
+    (grids-fit d) (grids-right e) (count-is e) (sym (touched-is (g .before .before)) ∙ g .before .if5 .left) (sym (presences-are d) ∙ g .if6 .left) (sym (c .before .flag-fits .ensures) ∙ not-false _ (c .if7 .left))
 
 pub check-table-spec : {M : Type 1} → statement M
 check-table-spec =
@@ -205,7 +225,10 @@ check-table-spec =
     returns-3
     (λ c κs. blocks-measured (start3 (c .before)))
     returns-4
-    (λ c κs. (table-of (else1 (wrong4 c)), blocks-measured (start4 c)))
+    (λ c κs. search needs)
+    (λ c κs. (table-of (else1 (wrong4 (c .before))), blocks-measured (start4 (c .before))))
     returns-5
     returns-6
-    returns-7)
+    (λ c κs. search needs)
+    returns-7
+    returns-8)

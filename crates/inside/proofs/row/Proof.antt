@@ -16,7 +16,7 @@ abbrev μ-loop : tie.MeasureT-loop
 
 loop-again : tie.Need-loop-again Inv-loop μ-loop
 loop-again c =
-    let l = c .before .before .before .before .before .before in let a = l .before .before .before .args in let inv = l .loop .inv in let w = c .before .before .before .weights-at .ensures in
+    let l = c .before .before .before .before .before .before in let a = l .before .before .before .args in let inv = l .loop .inv in let w = c .before .before .before .weights-at .ensures .0 in
     let lane = lane-at (now (a .src)) (a .stride) (a .plane) (now (a .scales)) (now (a .slopes)) (a .first) (a .corner) in (
       omega arith,
       simp length-set (inv .1),

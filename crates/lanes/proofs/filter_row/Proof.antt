@@ -11,5 +11,5 @@ filter-row-spec = tie.close
     (λ c κs. omega arith)
     (λ c κs. omega arith)
     (λ c. c .before .before .blend-planes .kept .0)
-    (λ c. let s = c .before .before .before .before .before .before .before .before .before .before in let w = c .before .before .before .before .before .before .weigh-all .ensures in
+    (λ c. let s = c .before .before .before .before .before .before .before .before .before .before in let w = c .before .before .before .before .before .before .weigh-all .ensures .0 in
     (row-lanes (s .args .step) (now (s .args .fields)) (now (s .args .slopes)) (now (s .args .win)) _ _ _ _ (s .args .first) (s .args .r) (s .args .planes) w (c .before .before .blend-planes .ensures), w .long, w .wide)))

@@ -23,8 +23,8 @@ abbrev μ-loop : tie.MeasureT-loop
 loop-again : tie.Need-loop-again Inv-loop μ-loop
 loop-again c =
     let w = c .before in let l = w .before .before .before .before in let s = l .before in (
-      written-more (l .loop .inv .0) (omega arith) (w .weight .ensures),
-      run-more0 (λ (x : Float) (j : ℕ). x ⊕ weightBy (getD (now (s .args .slopes)) (s .args .first + j) nan) (getD (now (s .args .fields)) (s .args .from + j) nan)) (l .loop .inv .1) (omega arith) (rw (w .weight .ensures)),
+      written-more (l .loop .inv .0) (omega arith) (w .weight .ensures .0),
+      run-more0 (λ (x : Float) (j : ℕ). x ⊕ weightBy (getD (now (s .args .slopes)) (s .args .first + j) nan) (getD (now (s .args .fields)) (s .args .from + j) nan)) (l .loop .inv .1) (omega arith) (rw (w .weight .ensures .0)),
     )
 
 pub weigh-spec : {M : Type 1} → statement M

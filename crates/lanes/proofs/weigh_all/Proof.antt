@@ -3,10 +3,12 @@ use mathlib.Core.Path.{_≡_}
 use Prim.Native.Nat.{ℕ, _-_, _≤_, _<_}
 use native.Mathlib.Omega.{arith}
 use borrow.Author.Needs.{needs}
+use denote.Ref.{now}
 use lib.ListN.{length}
 use Rattle.weights.specs.Steps.{kernel}
 use Rattle.distances.specs.Taps.{kernel-few, TapRoom, tap-room}
 use Rattle.lanes.specs.Lanes.{weightOf, Weighed, weighed-none, weighed-more}
+use Rattle.lanes.proofs.Divisors.{all-weighed}
 use Rattle.lanes.proofs.weigh_all.Statement.{statement}
 use Rattle.lanes.proofs.weigh_all.Tie as tie
 
@@ -36,8 +38,9 @@ loop-again c =
 returns : tie.Need-returns Inv-loop μ-loop
 returns c =
     let inv = c .before .loop .inv in
-    let z : c .before .loop .q ≡ length (kernel (c .before .before .before .before .before .args .step)) = omega (arith, inv .0, c .loop-test .left, c .before .before .kernel-len .ensures) in
-    rw (← z) (inv .1)
+    let a = c .before .before .before .before .before .args in
+    let z : c .before .loop .q ≡ length (kernel (a .step)) = omega (arith, inv .0, c .loop-test .left, c .before .before .kernel-len .ensures) in
+    all-weighed (a .step) (now (a .fields)) (now (a .slopes)) (a .first) (a .r) _ _ _ (inv .1) z
 
 pub weigh-all-spec : {M : Type 1} → statement M
 weigh-all-spec = tie.close

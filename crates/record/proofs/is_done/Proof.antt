@@ -1,5 +1,4 @@
 -- `record::is_done` meets its contract. Assumes nothing.
-use mathlib.Core.Path.{refl}
 use borrow.Author.Needs.{needs}
 use Rattle.record.specs.Record.{isDone}
 use Rattle.record.proofs.is_done.Statement.{statement}
@@ -7,7 +6,7 @@ use Rattle.record.proofs.is_done.Tie as tie
 
 returns : tie.Need-returns
 unfolding isDone
-returns c = refl
+returns c = c .flag-set .ensures
 
 pub is-done-spec : {M : Type 1} → statement M
-is-done-spec = tie.close (tie.spec (λ c. search needs) returns)
+is-done-spec = tie.close (tie.spec (λ c. search needs) (λ c. search needs) (λ c κs. search needs) returns)

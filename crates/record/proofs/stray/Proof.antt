@@ -1,5 +1,5 @@
 -- `record::stray` meets its contract. Assumes nothing.
-use borrow.Author.Tests.{le-leb, lt-leb}
+use borrow.Author.Tests.{lt-ltb, le-ltb}
 use native.Mathlib.Omega.{arith}
 use Rattle.record.proofs.stray.Statement.{statement}
 use Rattle.record.proofs.stray.Tie as tie
@@ -8,5 +8,5 @@ pub stray-spec : {M : Type 1} → statement M
 stray-spec =
     tie.close
     (tie.spec
-    (λ c. rw (le-leb (c .before .args .from) (c .before .args .k) (omega arith)))
-    (λ c. rw (lt-leb (c .before .args .from) (c .before .args .k) (omega arith))))
+    (λ c. rw (lt-ltb (c .before .args .k) (c .before .args .bands) (omega arith)))
+    (λ c. rw (le-ltb (c .before .args .k) (c .before .args .bands) (omega arith))))

@@ -11,18 +11,21 @@ copy-result-spec =
     (tie.spec
     (λ c κs. search needs)
     (λ c κs. search needs)
-    (λ c κs. let s = c .before .before .before .before .before in
+    (λ c κs. search needs)
+    (λ c κs. let s = c .before .before .before .before .before .before in
+    let u = c .before .before .before .flag-set in
     let a = c .before .before .layout-of in
     let p = c .before .part-of in (
-      setup-part (s .args .s) (s .pre .0) (a .result) (a .ensures) (p .result) (p .ensures),
+      setup-part (s .args .s) (s .pre .0) (u .result) (u .ensures) (a .result) (a .ensures) (p .result) (p .ensures),
       (
         omega arith,
-        source-length (s .args .s) (s .pre .0) (a .result) (a .ensures) (p .result) (p .ensures) 3 _ (s .pre .1),
-        target-length (s .args .s) (s .pre .0) (a .result) (a .ensures) (p .result) (p .ensures) 3 _ (s .pre .2),
+        source-length (s .args .s) (s .pre .0) (u .result) (u .ensures) (a .result) (a .ensures) (p .result) (p .ensures) 3 _ (s .pre .1),
+        target-length (s .args .s) (s .pre .0) (u .result) (u .ensures) (a .result) (a .ensures) (p .result) (p .ensures) 3 _ (s .pre .2),
       ),
     ))
     (λ c. search needs)
-    (λ c. let s = c .before .before .before .before .before .before .before .before in
+    (λ c. let s = c .before .before .before .before .before .before .before .before .before in
+    let u = c .before .before .before .before .before .before .flag-set in
     let a = c .before .before .before .before .before .layout-of in
     let p = c .before .before .before .before .part-of in
-    setup-copied (s .args .s) (s .pre .0) (a .result) (a .ensures) (p .result) (p .ensures) 3 _ _ _ (s .pre .2) (c .before .before .copy-planes .ensures)))
+    setup-copied (s .args .s) (s .pre .0) (u .result) (u .ensures) (a .result) (a .ensures) (p .result) (p .ensures) 3 _ _ _ (s .pre .2) (c .before .before .copy-planes .ensures)))

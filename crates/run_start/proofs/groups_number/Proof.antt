@@ -14,4 +14,4 @@ groups-number-spec =
     (λ c κs. search needs)
     (λ c κs. search needs)
     (λ c. let s = c .before .before .before .before .before .before .args in
-    same-groups (s .s) (s .frame) (now (s .table)) (now (s .grids)) (s .sigmas) _ _ _ _ (c .check .ensures) (c .before .before .runs-epf .ensures) (c .before .blocks-of .ensures) (c .before .before .before .sigmas-asked .ensures)))
+    same-groups (s .s) (s .frame) (now (s .table)) (now (s .grids)) (s .sigmas) _ _ _ _ (c .check .ensures) (c .before .before .epf-flag .ensures) (c .before .blocks-of .ensures) (c .before .before .before .sigmas-asked .ensures)))

@@ -9,4 +9,4 @@ no-settings-spec =
     (tie.spec
     (λ c κs. search needs)
     (λ c κs. search needs)
-    (λ c. rw (c .before .off .ensures, c .no-edge-filter .ensures)))
+    (λ c. rw (c .before .gabor-settings .ensures, c .no-edge-filter .ensures)))

@@ -5,7 +5,8 @@ use borrow.Author.Needs.{needs}
 use Rattle.numbers.specs.Checks.{applies}
 use Rattle.numbers.specs.Numbers.{outOfRange}
 use Rattle.placement.specs.Blocks.{onBlocks}
-use Rattle.setup.specs.Setup.{itersFit, heightFits, countFits}
+use Rattle.passes.specs.Plan.{gaborFits}
+use Rattle.setup.specs.Setup.{itersFit, fullFits, heightFits, countFits, numbersFit}
 use Rattle.runs.specs.Band.{setCheck}
 use Rattle.run_start.specs.Pieces.{runsEpf}
 use Rattle.run_start.specs.Tests.{told-row}
@@ -21,11 +22,13 @@ module _ (c : tie.Else2) where
   sets = sym (c .before .sets-wrong .ensures) ∙ c .if2 .left
 
 -- the rows of what is told
-told : (c : tie.After-told-wrong) (b : Bool) → c .told-wrong .result ≡ b → let s = c .before .before .before .before .before .args .s in
-    cond b outOfRange 0 ≡ cond (not (itersFit s)) outOfRange (cond (not (heightFits s)) outOfRange (cond (heightFits s && not (countFits s)) outOfRange 0))
+told : (c : tie.After-numbers-fit) (b : Bool) → not (c .numbers-fit .result) ≡ b → let s = c .before .before .before .before .before .args .s in
+    cond b outOfRange 0
+    ≡ cond (not (itersFit s)) outOfRange (cond (not (fullFits s)) outOfRange (cond (not (gaborFits (s .settings))) outOfRange (cond (not (heightFits s)) outOfRange (cond ((fullFits s && heightFits s) && not (countFits s)) outOfRange 0))))
+unfolding numbersFit
 told c b e =
     let s = c .before .before .before .before .before .args .s in
-    ap (λ (b : Bool). cond b outOfRange 0) (sym e ∙ c .told-wrong .ensures) ∙ told-row (itersFit s) (heightFits s) (countFits s)
+    ap (λ (b : Bool). cond b outOfRange 0) (sym e ∙ ap not (c .numbers-fit .ensures)) ∙ told-row (itersFit s) (fullFits s) (gaborFits (s .settings)) (heightFits s) (countFits s)
 
 pub own-number-spec : {M : Type 1} → statement M
 own-number-spec =

@@ -24,4 +24,4 @@ start-spec =
     (λ c κs. search needs)
     (λ c. search needs)
     (λ c. accepted 3 (handed (c .before .before .before .before .before .before .before .before .before .before .before .before .before .before)) _ (c .before .before .before .before .before .before .before .before .start-number .ensures) (c .before .before .before .before .before .before .before .if1 .left) _ _
-    (c .before .before .before .block-sigmas .ensures ∙ same-sigmas (handed (c .before .before .before .before .before .before .before .before .before .before .before .before .before .before)) _ _ (c .before .before .before .before .before .before .runs-epf .ensures) (c .before .before .before .before .before .blocks-of .ensures)) _ (c .started .ensures)))
+    (c .before .before .before .block-sigmas .ensures ∙ same-sigmas (handed (c .before .before .before .before .before .before .before .before .before .before .before .before .before .before)) _ _ (c .before .before .before .before .before .before .epf-flag .ensures) (c .before .before .before .before .before .blocks-of .ensures)) _ (c .started .ensures)))

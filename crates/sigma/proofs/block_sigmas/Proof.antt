@@ -8,6 +8,7 @@ use borrow.Author.Tests.{eq-eqb, ne-eqb, not-true, not-false}
 use denote.Ref.{now}
 use lib.ListN.{length}
 use lib.Ieee.{Float}
+use Rattle.numbers.specs.Flags.{flagSet}
 use Rattle.sigma.specs.Sigma.{blockSigmas}
 use Rattle.groups.specs.Outcome.{sigmaCount}
 use Rattle.sigma.specs.Outcome.{SigmasOutcome, leftIn}
@@ -31,26 +32,26 @@ as-defined r number on exit defined lent e z o d = rw (e, eq-eqb number 0 (sym e
 returns : tie.Need-returns
 returns c =
     let s = c .before .before .before .before .before .args in
-    as-refused (c .before .check .result) _ (s .on) (blockSigmas (s .frame) (s .blocks) (now (s .table)) (now (s .grids)) (s .sigma-for-modular)) (now (s .sigmas)) (c .before .check .ensures) (c .if1 .taken)
+    as-refused (c .before .check .result) _ (flagSet (s .on)) (blockSigmas (s .frame) (s .blocks) (now (s .table)) (now (s .grids)) (s .sigma-for-modular)) (now (s .sigmas)) (c .before .check .ensures) (c .if1 .taken)
 
 returns-2 : tie.Need-returns-2
 returns-2 c =
-    let d = c .before .before in
+    let d = c .before .before .before in
     let s = d .before .before .before .before .args in
-    as-off (d .check .result) _ (s .on) (blockSigmas (s .frame) (s .blocks) (now (s .table)) (now (s .grids)) (s .sigma-for-modular)) (now (s .sigmas)) (d .check .ensures) (c .before .if1 .left) (not-true _ (c .if2 .taken))
+    as-off (d .check .result) _ (flagSet (s .on)) (blockSigmas (s .frame) (s .blocks) (now (s .table)) (now (s .grids)) (s .sigma-for-modular)) (now (s .sigmas)) (d .check .ensures) (c .before .before .if1 .left) (sym (c .before .flag-set .ensures) ∙ not-true _ (c .if2 .taken))
 
 module _ (c : tie.Else2) where
   abbrev checked : tie.After-check
-  checked = c .before .before
+  checked = c .before .before .before
 
   abbrev start : tie.Start
   start = checked .before .before .before .before
 
-  is-on : start .args .on ≡ true
-  is-on = not-false _ (c .if2 .left)
+  is-on : flagSet (start .args .on) ≡ true
+  is-on = sym (c .before .flag-set .ensures) ∙ not-false _ (c .if2 .left)
 
   is-accepted : Accepted (start .args .on) (start .args .frame) (start .args .blocks) (now (start .args .table)) (now (start .args .grids)) (length (now (start .args .sigmas)))
-  is-accepted = accepted-fits (start .args .on) (start .args .frame) (start .args .blocks) (now (start .args .table)) (now (start .args .grids)) (length (now (start .args .sigmas))) (sym (checked .check .ensures) ∙ c .before .if1 .left)
+  is-accepted = accepted-fits (start .args .on) (start .args .frame) (start .args .blocks) (now (start .args .table)) (now (start .args .grids)) (length (now (start .args .sigmas))) (sym (checked .check .ensures) ∙ c .before .before .if1 .left)
 
 fill-rows-requires : tie.Need-fill-rows-requires
 fill-rows-requires c κs =
@@ -66,7 +67,7 @@ returns-3 c =
     let d = c .before .before in
     let e = d .before .before .before .before in
     let s = start e .args in
-    as-defined (checked e .check .result) _ (s .on) _ (blockSigmas (s .frame) (s .blocks) (now (s .table)) (now (s .grids)) (s .sigma-for-modular)) (now (s .sigmas)) (checked e .check .ensures) (e .before .if1 .left) (is-on e) (d .fill-rows .ensures)
+    as-defined (checked e .check .result) _ (flagSet (s .on)) _ (blockSigmas (s .frame) (s .blocks) (now (s .table)) (now (s .grids)) (s .sigma-for-modular)) (now (s .sigmas)) (checked e .check .ensures) (e .before .before .if1 .left) (is-on e) (d .fill-rows .ensures)
 
 pub block-sigmas-spec : {M : Type 1} → statement M
 block-sigmas-spec =
@@ -74,6 +75,7 @@ block-sigmas-spec =
     (tie.spec
     (λ c κs. search needs)
     returns
+    (λ c κs. search needs)
     returns-2
     (λ c κs. search needs)
     fill-rows-requires

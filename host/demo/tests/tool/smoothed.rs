@@ -1,7 +1,7 @@
 //! What the tool writes.
 
 use crate::{Folder, pfm};
-use loupe::{Frame, Gabor, Region, Settings, Setup, Smoothing};
+use loupe::{Frame, GaborSettings, Region, Settings, Setup, Smoothing};
 
 const PICTURE: &str = "picture.pfm";
 const OUT: &str = "out.pfm";
@@ -151,7 +151,7 @@ fn by_run(
     (width, height): (u32, u32),
     change: impl Fn(&mut Settings),
 ) -> Vec<f32> {
-    let (filter, _) = loupe::read_filters(&[0b1101], 0, false).value().unwrap();
+    let (filter, _) = loupe::read_filters_vardct(&[0b1101], 0).value().unwrap();
     let mut settings = filter.into();
     change(&mut settings);
     let (left, top, upsampling, lf_level, group_size_shift) = (0, 0, 1, 0, 3);
@@ -164,7 +164,7 @@ fn by_run(
     let setup = Setup {
         image,
         filter: image,
-        preserve_outside: true,
+        preserve_outside: 1,
         settings,
         band_height: 16,
     };
@@ -190,12 +190,12 @@ const OPTIONS: [(&[&str], Change); 6] = [
     }),
     (&["--iters", "2", "--no-gabor"], |s| {
         s.epf.iters = 2;
-        s.gabor.enabled = false;
+        s.gabor.enabled = 0;
     }),
     (&["--iters", "0", "--gabor", "0.2,0.1"], |s| {
         s.epf.iters = 0;
-        s.gabor = Gabor {
-            enabled: true,
+        s.gabor = GaborSettings {
+            enabled: 1,
             weights: [[0.2, 0.1]; 3],
         };
     }),

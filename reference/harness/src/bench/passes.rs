@@ -2,7 +2,7 @@
 
 use std::{cell::RefCell, hint::black_box};
 
-use loupe::{EpfStep, Gabor, Region};
+use loupe::{EpfStep, GaborSettings, Region};
 
 use super::{FILTERED, Times, best, head, region, row, run, smooth};
 use crate::{
@@ -57,8 +57,8 @@ fn gabor(width: u32, height: u32) -> Times {
     let target = RefCell::new(vec![0.0f32; 3 * plane]);
     let weights = black_box(DEFAULT_WEIGHTS);
     let ours = || {
-        let enabled = true;
-        let settings = Gabor { enabled, weights };
+        let enabled = 1;
+        let settings = GaborSettings { enabled, weights };
         let image = region(width, height);
         gabor_pass(
             image,
@@ -102,15 +102,15 @@ fn epf(step: u32, side: u32, sigma: f32) -> Times {
 }
 
 /// All rows of an image that is filtered whole.
-pub fn gabor_pass(image: Region, settings: Gabor, source: &[f32], target: &mut [f32]) {
+pub fn gabor_pass(image: Region, settings: GaborSettings, source: &[f32], target: &mut [f32]) {
     let to = image.height;
-    let number = loupe::gabor_pass(image, image, true, settings, 0, to, source, target);
+    let number = loupe::gabor_pass(image, image, 1, settings, 0, to, source, target);
     assert_eq!(number, 0);
 }
 
 pub fn epf_pass(image: Region, step: EpfStep, sigmas: &[f32], source: &[f32], target: &mut [f32]) {
     let to = image.height;
-    let number = loupe::epf_pass(image, image, true, step, sigmas, 0, to, source, target);
+    let number = loupe::epf_pass(image, image, 1, step, sigmas, 0, to, source, target);
     assert_eq!(number, 0);
 }
 
@@ -121,7 +121,7 @@ fn header() {
     let bytes = vec![0u8; 65_536];
     let read = |place: usize| {
         for _ in 0..TIMES {
-            let answer = loupe::read_filters(&bytes, black_box(place), false);
+            let answer = loupe::read_filters(&bytes, black_box(place), loupe::Encoding::VarDct);
             assert_eq!(black_box(answer).number, 0);
         }
     };

@@ -83,7 +83,7 @@ pub fn handed(side: u32) -> Handed {
         setup: Setup {
             image: region(side, side),
             filter: region(side, side),
-            preserve_outside: true,
+            preserve_outside: 1,
             settings: defaults(ALL),
             band_height: BAND,
         },

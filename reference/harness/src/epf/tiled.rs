@@ -42,7 +42,7 @@ fn widths() -> impl Iterator<Item = u32> {
 }
 
 /// The filter region as the image, in one around it, or in one that starts before both axes.
-fn placed((width, height): (u32, u32), random: &mut Random) -> oracle::Place {
+pub fn placed((width, height): (u32, u32), random: &mut Random) -> oracle::Place {
     let mut block = || (BLOCK * random.within(0, FARTHEST) as u32) as i32;
     let anywhere = oracle::Region {
         left: block(),
@@ -83,7 +83,7 @@ fn one(step: u32, sides: (u32, u32), random: &mut Random, row: &mut Row) {
 }
 
 /// Any height up to so many rows that is no multiple of 8.
-fn band_height(rows: u32, random: &mut Random) -> u32 {
+pub fn band_height(rows: u32, random: &mut Random) -> u32 {
     let band = random.within(1, rows.into()) as u32;
     if band.is_multiple_of(BLOCK) {
         band + 1

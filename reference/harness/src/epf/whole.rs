@@ -6,7 +6,7 @@ use super::{
 };
 use crate::{
     pass::Pass as _,
-    picture::{self, judge, samples},
+    picture::{self, is_written, judge, samples},
     random::Random,
     report::{Amount, Report, Row},
     sigma::{self, Case},
@@ -170,7 +170,8 @@ impl<'a> Steps<'a> {
         let mut due = before;
         let rows = (0, picture::result(&self.place).height);
         picture::store(&self.place, &rust, rows, &mut due);
-        judge(self, rows, (number, &ours), (0, &due), row);
+        let written = |at| is_written(&self.place, rows, at);
+        judge(self, rows, (number, &ours), (0, &due), &written, row);
     }
 
     /// The largest number that a call gave, and the set that the last step wrote. A step reads the
@@ -178,11 +179,12 @@ impl<'a> Steps<'a> {
     fn run(&self, mut sets: [Vec<f32>; 2]) -> (u32, Vec<f32>) {
         let before = sets[1].clone();
         let mut sigmas = vec![0.0; self.case.count()];
-        let mut number = self.case.ours(true, &mut sigmas);
+        let mut number = self.case.ours(1, &mut sigmas);
         let steps: &[u32] = [&[1][..], &[1, 2], &[0, 1, 2]][self.settings.iters as usize - 1];
         for &step in steps {
             let pass = Pass {
                 place: self.place,
+                full: self.place.preserve_outside.into(),
                 step,
                 settings: self.settings,
                 sigmas: &sigmas,

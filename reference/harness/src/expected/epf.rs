@@ -10,7 +10,7 @@ const LAST_STEP: u32 = 2;
 pub struct Handed {
     pub image: Region,
     pub filter: Region,
-    pub preserve_outside: bool,
+    pub preserve_outside: u32,
     pub step: u32,
     pub rows: (i128, i128),
     pub sigmas: usize,
@@ -36,10 +36,7 @@ fn judged(handed: Handed) -> Ruled<()> {
     if handed.step > LAST_STEP {
         return Err(SETTING);
     }
-    let result = if handed.preserve_outside {
-        image
-    } else {
-        filter
-    };
+    let full = pass::flag(handed.preserve_outside)?;
+    let result = if full { image } else { filter };
     pass::rows(result, handed.rows)
 }

@@ -6,14 +6,15 @@ use super::{Region, Ruled, pass};
 pub fn number(
     image: Region,
     filter: Region,
-    preserve_outside: bool,
+    preserve_outside: u32,
     rows: (i128, i128),
     lengths: [usize; 2],
 ) -> u32 {
     let judged = || -> Ruled<()> {
         pass::placed(image, filter)?;
         pass::sets(image, lengths)?;
-        let result = if preserve_outside { image } else { filter };
+        let full = pass::flag(preserve_outside)?;
+        let result = if full { image } else { filter };
         pass::rows(result, rows)
     };
     judged().err().unwrap_or(0)

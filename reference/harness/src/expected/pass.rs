@@ -38,6 +38,15 @@ pub fn sets(image: Region, lengths: [usize; 2]) -> Ruled<()> {
     sound.then_some(()).ok_or(WRONG_LENGTH)
 }
 
+/// A yes or no that is handed in as a number.
+pub fn flag(number: u32) -> Ruled<bool> {
+    match number {
+        0 => Ok(false),
+        1 => Ok(true),
+        _ => Err(SETTING),
+    }
+}
+
 /// Rows `from` to `to` are rows of the result.
 pub fn rows(result: Region, (from, to): (i128, i128)) -> Ruled<()> {
     let sound = from <= to && to <= result.height;

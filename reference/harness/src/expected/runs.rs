@@ -14,6 +14,8 @@ const PASS_NOT_DONE: u32 = 11;
 const MOST_ITERATIONS: i128 = 3;
 const MOST_BANDS: i128 = 256;
 const PLANES: i128 = 3;
+/// A flag is 0 or this; another number is out of range.
+const YES: u32 = 1;
 
 type Check<'a> = (u32, bool, &'a dyn Fn() -> bool);
 
@@ -28,15 +30,15 @@ fn first_of(checks: &[Check]) -> u32 {
 pub struct Setup {
     pub image: Region,
     pub filter: Region,
-    pub preserve_outside: bool,
-    pub gabor: bool,
+    pub preserve_outside: u32,
+    pub gabor: u32,
     pub iterations: i128,
     pub band_height: i128,
 }
 
 impl Setup {
     pub fn result(&self) -> Region {
-        if self.preserve_outside {
+        if self.preserve_outside == YES {
             self.image
         } else {
             self.filter
@@ -44,15 +46,15 @@ impl Setup {
     }
 
     pub fn passes(&self) -> i128 {
-        i128::from(self.gabor) + self.iterations
+        i128::from(self.gabor == YES) + self.iterations
     }
 
     /// How many samples lie between a sample and each cut edge.
     pub fn margin(&self) -> i128 {
-        i128::from(self.gabor) + [0, 2, 3, 6][self.iterations as usize]
+        i128::from(self.gabor == YES) + [0, 2, 3, 6][self.iterations as usize]
     }
 
-    /// Bands over the rows of the result; the band height must be in range.
+    /// Bands over the rows of the result; its flag and the band height must be in range.
     pub fn bands(&self) -> i128 {
         (self.result().height + self.band_height - 1) / self.band_height
     }
@@ -73,6 +75,14 @@ impl Setup {
 
     fn edge_on(&self) -> bool {
         self.iterations > 0
+    }
+
+    fn full_fits(&self) -> bool {
+        self.preserve_outside <= YES
+    }
+
+    fn gabor_fits(&self) -> bool {
+        self.gabor <= YES
     }
 
     fn iterations_fit(&self) -> bool {
@@ -99,6 +109,8 @@ impl Setup {
             && inside(self.filter, self.image)
             && (!self.edge_on() || self.on_blocks())
             && self.iterations_fit()
+            && self.full_fits()
+            && self.gabor_fits()
             && self.height_fits()
             && self.bands() <= MOST_BANDS
     }
@@ -107,6 +119,14 @@ impl Setup {
 /// Samples of three planes of a region.
 pub fn samples(region: Region) -> i128 {
     PLANES * region.width * region.height
+}
+
+/// The number of a margin, which depends on two numbers alone.
+pub fn margin(s: Setup) -> u32 {
+    first_of(&[
+        (SETTING, true, &|| !s.gabor_fits()),
+        (SETTING, true, &|| !s.iterations_fit()),
+    ])
 }
 
 /// Everything that start is handed, with the lengths of its slices.
@@ -124,7 +144,7 @@ impl Start<'_> {
     /// The part that block sigmas are asked with.
     pub fn sigmas_of(&self) -> sigma::Handed<'_> {
         sigma::Handed {
-            on: self.setup.edge_on(),
+            on: self.setup.edge_on().into(),
             frame: self.frame,
             filter: self.setup.filter,
             table: self.table,
@@ -169,8 +189,12 @@ pub fn start(handed: Start) -> u32 {
         (SETTING, true, &|| !s.iterations_fit()),
         (SETTING, true, &|| groups == Err(SETTING)),
         (SETTING, length_fits, &|| entries.contains(&SETTING)),
+        (SETTING, true, &|| !s.full_fits()),
+        (SETTING, true, &|| !s.gabor_fits()),
         (SETTING, true, &|| !s.height_fits()),
-        (SETTING, s.height_fits(), &|| s.bands() > MOST_BANDS),
+        (SETTING, s.full_fits() && s.height_fits(), &|| {
+            s.bands() > MOST_BANDS
+        }),
     ])
 }
 
@@ -179,7 +203,7 @@ pub fn start(handed: Start) -> u32 {
 pub struct Record<'a> {
     pub setup: Setup,
     pub pass: i128,
-    pub done: &'a [bool],
+    pub done: &'a [u8],
 }
 
 impl Record<'_> {
@@ -187,8 +211,8 @@ impl Record<'_> {
         self.pass == self.setup.passes()
     }
 
-    /// The setup is in range, and accepted calls lead to the pass and the done bands: a band is
-    /// done where there is one, and none is once the run is finished.
+    /// The setup is in range, and accepted calls lead to the pass and the flags: that of a band is 0
+    /// or 1, that of no band is 0, and so are all once the run is finished.
     fn fits(&self) -> bool {
         if !self.setup.fits() || self.pass > self.setup.passes() {
             return false;
@@ -198,11 +222,17 @@ impl Record<'_> {
         } else {
             self.setup.bands()
         };
-        (0..).zip(self.done).all(|(k, done)| k < open || !done)
+        (0..)
+            .zip(self.done)
+            .all(|(k, &flag)| flag <= u8::from(k < open))
     }
 
     fn missing(&self) -> bool {
-        (0..self.setup.bands()).any(|k| !self.done[k as usize])
+        (0..self.setup.bands()).any(|k| !self.is_done(k))
+    }
+
+    fn is_done(&self, k: i128) -> bool {
+        u32::from(self.done[k as usize]) == YES
     }
 }
 
@@ -222,7 +252,7 @@ pub fn band(run: Record, sets: [usize; 2], sigmas: usize, k: i128) -> u32 {
         (SETTING, true, &|| !run.fits()),
         (BAND_NOT_OPEN, true, &|| run.finished()),
         (BAND_NOT_OPEN, true, &|| k >= s.bands()),
-        (BAND_NOT_OPEN, true, &|| run.done[k as usize]),
+        (BAND_NOT_OPEN, true, &|| run.is_done(k)),
     ])
 }
 
@@ -240,7 +270,7 @@ pub fn result(run: Record, sets: [usize; 2], out: usize) -> u32 {
     let s = run.setup;
     first_of(&[
         (WRONG_LENGTH, sized(s.image), &|| s.wrong_sets(sets)),
-        (WRONG_LENGTH, sized(s.result()), &|| {
+        (WRONG_LENGTH, s.full_fits() && sized(s.result()), &|| {
             out as i128 != samples(s.result())
         }),
         (SETTING, true, &|| !run.fits()),

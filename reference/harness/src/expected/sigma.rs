@@ -2,7 +2,8 @@
 
 use super::{
     BLOCK, OUT_OF_MEASURE, Region, Ruled, SETTING, WRONG_LENGTH, blocks, group_sizes,
-    pass::measured, split_block,
+    pass::{flag, measured},
+    split_block,
 };
 
 pub const NOT_HELD: u32 = 8;
@@ -41,7 +42,7 @@ impl Frame {
 /// What block sigmas are asked with; the filter region's left and top are multiples of 8.
 #[derive(Debug, Clone, Copy)]
 pub struct Handed<'a> {
-    pub on: bool,
+    pub on: u32,
     pub frame: Frame,
     pub filter: Region,
     pub table: &'a [u32],
@@ -52,10 +53,11 @@ pub struct Handed<'a> {
 /// Where several numbers apply, the lowest.
 pub fn number(handed: Handed) -> u32 {
     let mut numbers = Vec::new();
-    let region_fits = measured(handed.filter);
+    let (on, region_fits) = (flag(handed.on), measured(handed.filter));
+    numbers.extend(on.err());
     if !region_fits {
         numbers.push(OUT_OF_MEASURE);
-    } else if handed.sigmas as i128 != due_sigmas(handed) {
+    } else if on.is_ok_and(|on| handed.sigmas as i128 != due_sigmas(handed, on)) {
         numbers.push(WRONG_LENGTH);
     }
     match handed.frame.groups() {
@@ -63,7 +65,7 @@ pub fn number(handed: Handed) -> u32 {
         Ok([.., all]) if handed.table.len() as i128 != 3 * all => numbers.push(WRONG_LENGTH),
         Ok(_) => {
             numbers.extend(of_entries(handed));
-            if handed.on && region_fits && !all_held(handed) {
+            if on == Ok(true) && region_fits && !all_held(handed) {
                 numbers.push(NOT_HELD);
             }
         }
@@ -71,8 +73,8 @@ pub fn number(handed: Handed) -> u32 {
     numbers.into_iter().min().unwrap_or(0)
 }
 
-fn due_sigmas(handed: Handed) -> i128 {
-    if handed.on {
+fn due_sigmas(handed: Handed, on: bool) -> i128 {
+    if on {
         blocks(handed.filter.width) * blocks(handed.filter.height)
     } else {
         0

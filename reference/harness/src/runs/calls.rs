@@ -1,17 +1,19 @@
 //! Calls with whatever they are lent: the number, the record and every lent slice are what is due.
 
-use core::fmt::Debug;
+use core::{fmt::Debug, hint::black_box};
 
-use loupe::{EpfSettings, EpfSigma, Gabor, Region, Run, Settings, Setup};
+use loupe::{EpfSettings, EpfSigma, GaborSettings, Region, Run, Settings, Setup};
 
-use super::handed::{Handed, State, fields, place, record_rule, result_part};
+use super::handed::{Handed, State, fields, place, record_rule, result_part, setup_rule};
 use crate::{
+    bits,
     expected::runs as rule,
     picture::{self, agree},
     report::{Amount, Report, Row},
 };
 
 /// The numbers that each call can give.
+const MARGIN_NUMBERS: [u32; 2] = [0, 9];
 const START_NUMBERS: [u32; 7] = [0, 4, 5, 6, 7, 8, 9];
 const BAND_NUMBERS: [u32; 4] = [0, 7, 9, 10];
 const ADVANCE_NUMBERS: [u32; 3] = [0, 9, 11];
@@ -29,10 +31,10 @@ const NO_RUN: Run = Run {
     setup: Setup {
         image: NO_REGION,
         filter: NO_REGION,
-        preserve_outside: false,
+        preserve_outside: 0,
         settings: Settings {
-            gabor: Gabor {
-                enabled: false,
+            gabor: GaborSettings {
+                enabled: 0,
                 weights: [[0.0; 2]; 3],
             },
             epf: EpfSettings {
@@ -50,11 +52,12 @@ const NO_RUN: Run = Run {
         band_height: 0,
     },
     pass: 0,
-    done: [false; 256],
+    done: [0; 256],
 };
 
 /// A row of the table for each kind of call.
 pub struct Tally {
+    margin: Row,
     start: Row,
     band: Row,
     advance: Row,
@@ -64,6 +67,7 @@ pub struct Tally {
 impl Tally {
     pub fn new(inputs: &'static str) -> Self {
         Self {
+            margin: Row::new("margin", inputs),
             start: Row::new("start", inputs),
             band: Row::new("band", inputs),
             advance: Row::new("advance", inputs),
@@ -73,6 +77,7 @@ impl Tally {
 
     /// Each number that a call can give must have been due often enough.
     pub fn require(&mut self, amount: Amount) {
+        self.margin.require(&MARGIN_NUMBERS, amount);
         self.start.require(&START_NUMBERS, amount);
         self.band.require(&BAND_NUMBERS, amount);
         self.advance.require(&ADVANCE_NUMBERS, amount);
@@ -80,7 +85,8 @@ impl Tally {
     }
 
     pub fn report(self, report: &mut Report) {
-        for row in [self.start, self.band, self.advance, self.result] {
+        let calls = [self.start, self.band, self.advance, self.result];
+        for row in [self.margin].into_iter().chain(calls) {
             report.add(row);
         }
     }
@@ -96,14 +102,20 @@ fn judge(row: &mut Row, case: &dyn Debug, given: u32, due: u32, parts: &[(&str, 
     }
 }
 
-fn same_bits(a: &[f32], b: &[f32]) -> bool {
-    let bits = |(a, b): (&f32, &f32)| a.to_bits() == b.to_bits();
-    a.len() == b.len() && a.iter().zip(b).all(bits)
-}
-
 /// The same samples, NaNs alike.
 pub fn same_samples(a: &[f32], b: &[f32]) -> bool {
     a.len() == b.len() && a.iter().zip(b).all(|(a, b)| agree(*a, *b))
+}
+
+/// The margin of settings, 0 where it is refused.
+pub fn margin(setup: &Setup, tally: &mut Tally) -> u32 {
+    let s = setup_rule(setup);
+    let due = rule::margin(s);
+    let margin = if due == 0 { s.margin() as u32 } else { 0 };
+    let answer = loupe::margin(setup.settings);
+    let parts = [("margin", answer.margin == margin)];
+    judge(&mut tally.margin, setup, answer.number, due, &parts);
+    answer.number
 }
 
 /// The number, and the record that was answered. An accepted start leaves the sets and fills the
@@ -119,14 +131,14 @@ pub fn start(handed: &mut Handed, tally: &mut Tally) -> (u32, Run) {
         };
         (run, same_samples(&handed.sigmas, &before.due_sigmas()))
     } else {
-        (NO_RUN, same_bits(&handed.sigmas, &before.sigmas))
+        (NO_RUN, bits::same(&handed.sigmas, &before.sigmas))
     };
     let parts = [
         ("record", fields(&answer.run) == fields(&run)),
-        ("table", handed.table == before.table),
-        ("grids", same_bits(&handed.grids, &before.grids)),
-        ("first set", same_bits(&handed.first, &before.first)),
-        ("second set", same_bits(&handed.second, &before.second)),
+        ("table", *black_box(&handed.table) == before.table),
+        ("grids", bits::same(&handed.grids, &before.grids)),
+        ("first set", bits::same(&handed.first, &before.first)),
+        ("second set", bits::same(&handed.second, &before.second)),
         ("sigmas", sigmas_due),
     ];
     judge(&mut tally.start, &before, answer.number, due, &parts);
@@ -148,14 +160,14 @@ pub fn band(state: &mut State, k: u32, tally: &mut Tally) -> u32 {
     );
     if due == 0 {
         rewrite(&mut before, state, k);
-        before.run.done[k as usize] = true;
+        before.run.done[k as usize] = 1;
     }
     state.run = answer.run;
     let parts = [
         ("record", fields(&state.run) == fields(&before.run)),
-        ("sigmas", same_bits(&state.sigmas, &before.sigmas)),
-        ("first set", same_bits(&state.first, &before.first)),
-        ("second set", same_bits(&state.second, &before.second)),
+        ("sigmas", bits::same(&state.sigmas, &before.sigmas)),
+        ("first set", bits::same(&state.first, &before.first)),
+        ("second set", bits::same(&state.second, &before.second)),
     ];
     let case = (&before, k);
     judge(&mut tally.band, &case, answer.number, due, &parts);
@@ -183,7 +195,7 @@ pub fn advance(run: &mut Run, tally: &mut Tally) -> u32 {
         Run {
             setup: before.setup,
             pass: before.pass + 1,
-            done: [false; 256],
+            done: [0; 256],
         }
     } else {
         before
@@ -205,11 +217,11 @@ pub fn result(state: &mut State, out: &mut [f32], tally: &mut Tally) -> u32 {
         let [read, _] = state.by_turns();
         same_samples(out, &result_part(&setup, read))
     } else {
-        same_bits(out, &lent)
+        bits::same(out, &lent)
     };
     let parts = [
-        ("first set", same_bits(&state.first, &before.first)),
-        ("second set", same_bits(&state.second, &before.second)),
+        ("first set", bits::same(&state.first, &before.first)),
+        ("second set", bits::same(&state.second, &before.second)),
         ("slice", copied),
     ];
     let case = (&before, out.len());

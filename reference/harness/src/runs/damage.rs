@@ -1,7 +1,7 @@
 //! What is lent, with one to four things wrong: every field of a setup and a record, the frame, its
 //! table and grids, and lengths.
 
-use loupe::{Region, Run, Setup};
+use loupe::{Region, Run, Settings, Setup};
 
 use super::handed::{Handed, State, setup_rule};
 use crate::{
@@ -30,6 +30,9 @@ const AREAS: [(u32, u32); 6] = [
     (16_384, 16_384),
     (u32::MAX, u32::MAX),
 ];
+/// Flags, in a number and in a byte: mostly 0 or 1.
+const FLAGS: [u32; 8] = [0, 1, 0, 1, 2, 255, 256, u32::MAX];
+const BYTES: [u8; 7] = [0, 1, 0, 1, 2, 128, 255];
 /// The most samples of a slice that is made as long as a damaged setup says.
 pub const MOST_SAMPLES: i128 = 1 << 16;
 
@@ -71,11 +74,19 @@ fn setup(s: &mut Setup, random: &mut Random) {
     match random.within(0, 9) {
         0 | 1 => region(&mut s.image, random),
         2 | 3 => region(&mut s.filter, random),
-        4 => s.preserve_outside ^= true,
-        5 => s.settings.gabor.enabled ^= true,
-        6 => s.settings.epf.iters = random.one_of(&[0, 1, 2, 3, 4, 5, 1 << 31, u32::MAX]),
+        4 => s.preserve_outside = random.one_of(&FLAGS),
+        5 | 6 => passes(&mut s.settings, random),
         7 | 8 => s.band_height = random.one_of(&[0, 1, 2, 8, 16_384, 16_385, u32::MAX]),
         _ => floats(s, random),
+    }
+}
+
+/// The two numbers that say which passes run.
+pub fn passes(s: &mut Settings, random: &mut Random) {
+    if random.once_in(2) {
+        s.gabor.enabled = random.one_of(&FLAGS);
+    } else {
+        s.epf.iters = random.one_of(&[0, 1, 2, 3, 4, 5, 1 << 31, u32::MAX]);
     }
 }
 
@@ -137,18 +148,18 @@ fn narrow(h: &mut Handed, random: &mut Random) {
 fn progress(run: &mut Run, random: &mut Random) {
     match random.within(0, 5) {
         0 | 1 => run.pass = random.one_of(&[0, 1, 2, 3, 4, 5, u32::MAX]),
-        2 => run.done[random.within(0, 255) as usize] ^= true,
-        3 => run.done = [random.once_in(2); 256],
+        2 => run.done[random.within(0, 255) as usize] = random.one_of(&BYTES),
+        3 => run.done = [random.one_of(&BYTES); 256],
         4 => {
             // All bands of the pass, or one too many.
             let s = setup_rule(&run.setup);
             let bands = if s.band_height > 0 { s.bands() } else { 0 };
             let bands = bands.min(255) as usize + usize::from(random.once_in(2));
-            run.done = core::array::from_fn(|k| k < bands);
+            run.done = core::array::from_fn(|k| u8::from(k < bands));
         }
         _ => {
             let k = random.within(0, 7) as usize;
-            run.done[k] ^= true;
+            run.done[k] ^= random.one_of(&[1, 1, 2, 255]);
         }
     }
 }

@@ -1,6 +1,6 @@
 //! Random pictures that start accepts.
 
-use loupe::{Blocks, Gabor, Region, Settings, Setup};
+use loupe::{Blocks, GaborSettings, Region, Settings, Setup};
 
 use super::handed::{Handed, epf_settings, setup_rule};
 use crate::{
@@ -62,7 +62,7 @@ pub fn with_sides(
     let setup = Setup {
         image,
         filter,
-        preserve_outside,
+        preserve_outside: preserve_outside.into(),
         settings: settings(passes, case.modular, random),
         band_height: band_height(rows, random),
     };
@@ -89,8 +89,8 @@ pub fn defaults(passes: Passes) -> Settings {
     let mut edge = epf::DEFAULTS;
     edge.iters = passes.iterations;
     Settings {
-        gabor: Gabor {
-            enabled: passes.gabor,
+        gabor: GaborSettings {
+            enabled: passes.gabor.into(),
             weights: gabor::DEFAULT_WEIGHTS,
         },
         epf: epf_settings(edge),
@@ -102,8 +102,8 @@ pub fn settings(passes: Passes, modular: f32, random: &mut Random) -> Settings {
     edge.iters = passes.iterations;
     edge.sigma_for_modular = modular;
     Settings {
-        gabor: Gabor {
-            enabled: passes.gabor,
+        gabor: GaborSettings {
+            enabled: passes.gabor.into(),
             weights: gabor::weights(random),
         },
         epf: epf_settings(edge),

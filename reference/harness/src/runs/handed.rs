@@ -5,7 +5,7 @@ use core::fmt;
 use loupe::{Run, RunAnswer, Setup};
 
 use crate::{
-    epf,
+    bits, epf,
     expected::{self, runs as rule, sigma::Frame},
     picture, sigma,
 };
@@ -95,7 +95,7 @@ impl Handed {
     /// A whole run by the original, which has copies of planes and grids and owns them.
     pub fn rust_run(&self) -> impl FnOnce() -> oracle::Planes + use<> {
         let loupe::Settings { gabor, epf } = self.setup.settings;
-        let weights = gabor.enabled.then_some(gabor.weights);
+        let weights = (gabor.enabled == 1).then_some(gabor.weights);
         let edge = (epf.iters > 0).then(|| edge(epf));
         let grids = sigma::rust_grids(&self.table, &self.grids);
         let (place, frame) = (place(&self.setup), self.frame);
@@ -135,6 +135,14 @@ impl State {
             first: handed.first.clone(),
             second: handed.second.clone(),
         }
+    }
+
+    /// The record and every buffer have the same bits.
+    pub fn same_bits(&self, other: &Self) -> bool {
+        fields(&self.run) == fields(&other.run)
+            && bits::same(&self.sigmas, &other.sigmas)
+            && bits::same(&self.first, &other.first)
+            && bits::same(&self.second, &other.second)
     }
 
     pub fn sets(&self) -> [usize; 2] {
@@ -187,7 +195,7 @@ pub fn place(s: &Setup) -> oracle::Place {
     oracle::Place {
         image: plain(s.image),
         filter: plain(s.filter),
-        preserve_outside: s.preserve_outside,
+        preserve_outside: s.preserve_outside == 1,
     }
 }
 
@@ -209,8 +217,8 @@ pub fn fields(run: &Run) -> Vec<u32> {
     for r in [s.image, s.filter] {
         all.extend([r.left as u32, r.top as u32, r.width, r.height]);
     }
-    all.extend([s.preserve_outside, gabor.enabled].map(u32::from));
-    all.extend([epf.iters, s.band_height, run.pass]);
+    all.extend([s.preserve_outside, gabor.enabled, epf.iters]);
+    all.extend([s.band_height, run.pass]);
     all.extend(gabor.weights.concat().iter().map(|weight| weight.to_bits()));
     all.extend(epf.channel_scale.map(f32::to_bits));
     let floats = [

@@ -32,7 +32,7 @@ pub fn compare(report: &mut Report) {
     }
     report.add(row);
     let mut row = Row::new("runs", "named refusals");
-    refusals::compare(&mut row, &mut tally);
+    refusals::compare(&mut random, &mut row, &mut tally);
     report.add(row);
     tally.report(report);
 }
@@ -109,7 +109,7 @@ fn one_iteration(case: sigma::Case) -> Handed {
         setup: Setup {
             image: filter,
             filter,
-            preserve_outside: false,
+            preserve_outside: 0,
             settings,
             band_height: 64,
         },

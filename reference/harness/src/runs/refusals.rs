@@ -8,8 +8,9 @@ use super::{
     draw::{Passes, defaults},
     handed::{Handed, State},
     instances::expect,
+    nans,
 };
-use crate::report::Row;
+use crate::{bits, random::Random, report::Row};
 
 /// Two blocks each way, of which the first column lies in one group and the second in the next.
 const REGION: Region = Region {
@@ -22,6 +23,8 @@ const ALL: Passes = Passes {
     gabor: true,
     iterations: 3,
 };
+/// A left that no frame reaches.
+const PAST_FRAMES: i32 = 16_384;
 const SAMPLES: usize = 3 * 16 * 16;
 const BLOCKS: usize = 4;
 
@@ -108,6 +111,23 @@ const STARTS: &[Wrong<Handed, u32>] = &[
         h.grids.truncate(256);
         h.setup.band_height = 0;
     }),
+    ("a flag of 2 for the result", 9, |h| {
+        h.setup.preserve_outside = 2
+    }),
+    ("a Gabor flag of 2", 9, |h| {
+        h.setup.settings.gabor.enabled = 2
+    }),
+    ("both flags 255, a short set", 7, |h| {
+        h.setup.preserve_outside = 255;
+        h.setup.settings.gabor.enabled = 255;
+        h.first.pop();
+    }),
+    ("a filter region at left 16,384, the widest frame", 8, |h| {
+        moved(&mut h.setup, PAST_FRAMES - REGION.left);
+        h.frame.width = 16_384;
+        h.table = vec![0; 3 * 16];
+        h.grids.clear();
+    }),
     ("band height 16,385", 9, |h| h.setup.band_height = 16_385),
     ("256 bands", 0, |h| rows(h, 256)),
     ("257 bands", 9, |h| rows(h, 257)),
@@ -142,23 +162,36 @@ const RECORDS: &[Wrong<State, [u32; 3]>] = &[
     }),
     ("a short set, a done band too many", [7, 9, 7], |t| {
         t.second.pop();
-        t.run.done[2] = true;
+        t.run.done[2] = 1;
     }),
     ("the set that is not read too long", [7, 11, 7], |t| {
         t.second.push(0.0)
     }),
     ("band height 0", [9, 9, 9], |t| t.run.setup.band_height = 0),
-    ("a done band too many", [9, 9, 9], |t| t.run.done[2] = true),
-    ("the last flag", [9, 9, 9], |t| t.run.done[255] = true),
+    ("a done band too many", [9, 9, 9], |t| t.run.done[2] = 1),
+    ("a flag of 2", [9, 9, 9], |t| t.run.done[0] = 2),
+    ("both bands 2", [9, 9, 9], |t| t.run.done[..2].fill(2)),
+    ("a flag of 2 past the count", [9, 9, 9], |t| {
+        t.run.done[5] = 2
+    }),
+    ("a flag of 255, a short set", [7, 9, 7], |t| {
+        t.run.done[1] = 255;
+        t.first.pop();
+    }),
+    ("a flag of 2 for the result", [9, 9, 9], |t| {
+        t.run.setup.preserve_outside = 2
+    }),
+    ("a Gabor flag of 2", [9, 9, 9], |t| {
+        t.run.setup.settings.gabor.enabled = 2
+    }),
+    ("the last flag", [9, 9, 9], |t| t.run.done[255] = 1),
     ("a pass past the last", [9, 9, 9], |t| t.run.pass = 5),
     ("finished", [10, 11, 0], |t| t.run.pass = 4),
     ("finished with a done band", [9, 9, 9], |t| {
         t.run.pass = 4;
-        t.run.done[0] = true;
+        t.run.done[0] = 1;
     }),
-    ("all bands done", [10, 0, 11], |t| {
-        t.run.done[..2].fill(true)
-    }),
+    ("all bands done", [10, 0, 11], |t| t.run.done[..2].fill(1)),
     ("an empty image region, a short set", [9, 9, 9], |t| {
         t.run.setup.image.width = 0;
         t.first.pop();
@@ -166,6 +199,10 @@ const RECORDS: &[Wrong<State, [u32; 3]>] = &[
     ("an image region too far, a short set", [7, 9, 7], |t| {
         t.run.setup.image.left = 1_048_577;
         t.first.pop();
+    }),
+    // Start gives 8 for every frame; a record is not judged by it.
+    ("a filter region at left 16,384", [0, 11, 11], |t| {
+        moved(&mut t.run.setup, PAST_FRAMES - REGION.left)
     }),
     ("4 iterations, no sigmas", [9, 9, 9], |t| {
         t.run.setup.settings.epf.iters = 4;
@@ -182,7 +219,7 @@ const RECORDS: &[Wrong<State, [u32; 3]>] = &[
     ("a huge filter region, full planes", [9, 9, 9], |t| {
         t.run.setup.filter.width = 16_384;
         t.run.setup.filter.height = 16_384;
-        t.run.setup.preserve_outside = true;
+        t.run.setup.preserve_outside = 1;
     }),
     ("off blocks, a sigma too few", [7, 9, 9], |t| {
         off_blocks(&mut t.run.setup);
@@ -193,10 +230,12 @@ const RECORDS: &[Wrong<State, [u32; 3]>] = &[
     }),
 ];
 
-pub fn compare(row: &mut Row, tally: &mut Tally) {
+pub fn compare(random: &mut Random, row: &mut Row, tally: &mut Tally) {
     for (what, due, damage) in STARTS {
         let mut handed = sound();
         damage(&mut handed);
+        nans::in_handed(&mut handed, random);
+        calls::margin(&handed.setup, tally);
         let (number, _) = calls::start(&mut handed, tally);
         expect(what, number, *due, row);
     }
@@ -205,13 +244,16 @@ pub fn compare(row: &mut Row, tally: &mut Tally) {
     for (what, dues, damage) in RECORDS {
         let mut lent = State::new(run, &handed);
         damage(&mut lent);
+        nans::in_state(&mut lent, random);
         // The result's slice is as long as it should be, then one shorter.
         let mut out = vec![0.0; SAMPLES];
+        bits::sprinkle(&mut out, random);
         let number = calls::result(&mut lent, &mut out, tally);
         expect(what, number, dues[2], row);
         out.pop();
         let number = calls::result(&mut lent, &mut out, tally);
-        let known = lent.run.setup.preserve_outside || lent.run.setup.filter.height > 0;
+        let s = lent.run.setup;
+        let known = s.preserve_outside == 1 || s.preserve_outside == 0 && s.filter.height > 0;
         expect(what, number, if known { 7 } else { dues[2] }, row);
         let number = calls::band(&mut lent.clone(), 0, tally);
         expect(what, number, dues[0], row);
@@ -226,7 +268,7 @@ fn sound() -> Handed {
         setup: Setup {
             image: REGION,
             filter: REGION,
-            preserve_outside: false,
+            preserve_outside: 0,
             settings: defaults(ALL),
             band_height: 8,
         },

@@ -1,0 +1,57 @@
+-- The table of limits, each row computed. Assumes nothing.
+use mathlib.Core.Path.{refl}
+use Rattle.bits.specs.Bits.{u}
+use Rattle.mirror.specs.Mirror.{mirror}
+use Rattle.interval.specs.Interval.{powerBelow}
+use Rattle.axis.specs.Measures.{place, side}
+use Rattle.region.specs.Regions.{regionOf, inside}
+use Rattle.region.specs.Measures.{measured, pictured}
+use Rattle.region_arithmetic.specs.Arithmetic.{shrunkBy, alignedTo}
+use Rattle.region_arithmetic.specs.Answers.{regionAnswer}
+use Rattle.frame.specs.Sizes.{sizesOf}
+use Rattle.frame.specs.Outcome.{badSides, badSettings}
+use Rattle.blocks.specs.Measures.{badBlocks}
+use Rattle.grids.specs.Table.{badGrid, cells, gridStart, someBelow}
+use Rattle.grids.specs.Start.{noEntries}
+use Rattle.layout.specs.Outcome.{layoutOf}
+use Rattle.passes.specs.Plan.{steps, plan}
+use Rattle.setup.specs.Setup.{bandCount, sized, numbersFit, setupFits}
+use Rattle.record.specs.Record.{isDone, started, bandMissing, strayDone, runFits}
+use Rattle.runs.specs.Band.{advanceOutcome}
+use Rattle.instances.specs.Limits.{Limits}
+
+pub limits : Limits
+unfolding u mirror powerBelow place side regionOf inside measured pictured shrunkBy alignedTo regionAnswer sizesOf badSides badSettings badBlocks badGrid cells gridStart someBelow noEntries layoutOf steps plan bandCount sized numbersFit setupFits isDone started bandMissing strayDone runFits advanceOutcome
+limits = record {
+  regionSide = (refl, refl);
+  regionRight = (refl, refl);
+  regionLeft = (refl, refl);
+  factor = (refl, refl);
+  alignment = (refl, refl);
+  pictureSide = (refl, refl);
+  pictureArea = (refl, refl);
+  headerMost = λ s e. rw e refl;
+  headerPast = λ s e. rw e refl;
+  mirrorLeast = (refl, refl);
+  mirrorLength = (refl, refl);
+  mirrorOver = (refl, refl);
+  mirrorUnder = (refl, refl);
+  frameSide = (refl, refl);
+  frameLeast = (refl, refl);
+  upsamplingMost = (refl, refl);
+  upsamplingOther = (refl, refl);
+  lfLevel = (refl, refl);
+  groupShift = (refl, refl);
+  splitShift = (refl, refl);
+  gridSide = (refl, refl);
+  gridLeast = (refl, refl);
+  blockSide = (refl, refl);
+  blockArea = (refl, refl);
+  blockLeft = (refl, refl);
+  recordSide = (refl, refl);
+  recordArea = (refl, refl);
+  iterations = (refl, refl);
+  bandHeight = (refl, refl);
+  bandLeast = (refl, refl);
+  bandMost = (refl, refl);
+}
