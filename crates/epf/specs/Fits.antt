@@ -9,25 +9,25 @@ use borrow.Author.Tests.{leb-true, lt-ltb, le-ltb, ltb-false, eq-eqb, ne-eqb, eq
 use lib.Dec.{eqb, leb, ltb}
 use lib.ListN.{length}
 use lib.Ieee.{Float}
-use Rattle.numbers.specs.Numbers.{notOnBlocks, wrongLength, outOfRange}
-use Rattle.numbers.specs.Checks.{firstOf}
-use Rattle.numbers.specs.Flags.{flagFits, flagSet}
+use Rattle.refusals.specs.Numbers.{notOnBlocks, wrongLength, outOfRange}
+use Rattle.refusals.specs.Checks.{firstOf}
+use Rattle.refusals.specs.Flags.{flagFits, flagSet}
 use Rattle.region.specs.declared.Region.{Region}
 use Rattle.region.specs.Regions.{inside}
 use Rattle.region.specs.Measures.{pictured}
-use Rattle.placement.specs.Placed.{placedChecks}
+use Rattle.region_placement.specs.Placed.{placedChecks}
 use Rattle.planes.specs.declared.Layout.{Layout}
 use Rattle.planes.specs.Picture.{Picture}
 use Rattle.planes.specs.Rect.{planesFill}
 use Rattle.planes.specs.Band.{passed, copiedOutside, filterRow, resultHeight, rowsFit}
 use Rattle.planes.specs.Stored.{LayoutFits, BandFits, passed-over, fits-copied, and-first, and-second}
-use Rattle.layout.specs.declared.LayoutAnswer.{LayoutAnswer}
-use Rattle.layout.specs.Outcome.{layoutOf, layoutOutcome, PassOutcome}
-use Rattle.layout.specs.Fits.{Accepted, layout-accepted, placed-or, then, answer-number, answer-layout, pass-refused, pass-done}
-use Rattle.tiles.specs.Blocks.{blockColumns, blockRows}
-use Rattle.tiles.specs.Region.{BlocksRoom, blocks-room}
+use Rattle.planes_layout.specs.declared.LayoutAnswer.{LayoutAnswer}
+use Rattle.planes_layout.specs.Outcome.{layoutOf, layoutOutcome, PassOutcome}
+use Rattle.planes_layout.specs.Fits.{Accepted, layout-accepted, placed-or, then, answer-number, answer-layout, pass-refused, pass-done}
+use Rattle.epf_tiles.specs.Blocks.{blockColumns, blockRows}
+use Rattle.epf_tiles.specs.Region.{BlocksRoom, blocks-room}
 use Rattle.epf.specs.declared.EpfStep.{EpfStep}
-use Rattle.placement.specs.Blocks.{ahead, onBlocks}
+use Rattle.region_placement.specs.Blocks.{ahead, onBlocks}
 use Rattle.epf.specs.Outcome.{epfOver, stepChecks, epfChecks, epfOutcome}
 
 -- ---- the tests of a placed filter region

@@ -5,19 +5,19 @@ use Prim.Native.Nat.{ℕ, _*_}
 use lib.Dec.{eqb, ltb}
 use lib.ListN.{length}
 use lib.Ieee.{Float}
-use Rattle.numbers.specs.Numbers.{notOnBlocks, wrongLength, outOfRange}
-use Rattle.numbers.specs.Checks.{Check, always, given, firstOf}
-use Rattle.numbers.specs.Flags.{flagFits, flagSet}
+use Rattle.refusals.specs.Numbers.{notOnBlocks, wrongLength, outOfRange}
+use Rattle.refusals.specs.Checks.{Check, always, given, firstOf}
+use Rattle.refusals.specs.Flags.{flagFits, flagSet}
 use Rattle.region.specs.declared.Region.{Region}
-use Rattle.placement.specs.Placed.{placedChecks}
+use Rattle.region_placement.specs.Placed.{placedChecks}
 use Rattle.planes.specs.declared.Layout.{Layout}
 use Rattle.planes.specs.Picture.{Picture}
 use Rattle.planes.specs.Band.{inner, passed, rowsFit}
-use Rattle.layout.specs.Outcome.{layoutOf, PassOutcome, passOutcome}
-use Rattle.weights.specs.Steps.{scaled, standardLimit, EpfPass, epfPass}
-use Rattle.tiles.specs.Blocks.{blockColumns, sigmaOf, blockRows}
+use Rattle.planes_layout.specs.Outcome.{layoutOf, PassOutcome, passOutcome}
+use Rattle.epf_step.specs.Steps.{scaled, standardLimit, EpfPass, epfPass}
+use Rattle.epf_tiles.specs.Blocks.{blockColumns, sigmaOf, blockRows}
 use Rattle.epf.specs.declared.EpfStep.{EpfStep}
-use Rattle.placement.specs.Blocks.{ahead, onBlocks}
+use Rattle.region_placement.specs.Blocks.{ahead, onBlocks}
 
 -- the settings that a step reads: n planes, and the copying limit of document 01
 abbrev pub settingsOf : ℕ → EpfStep → EpfPass

@@ -1,8 +1,8 @@
 // The C boundary of frames and block sigmas: each function passes on what it is handed.
-use blocks::Blocks;
 use frame::Frame;
 use frame::FrameAnswer;
 use frame::SplitAnswer;
+use sigma_blocks::Blocks;
 ghost use mathlib.Core.Path.{_≡_};
 ghost use Rattle.frame.specs.Outcome.{frameOutcome, splitOutcome};
 ghost use Rattle.sigma.specs.Outcome.{SigmasOutcome, sigmasOutcome};

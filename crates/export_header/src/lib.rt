@@ -1,17 +1,17 @@
 // The C boundary of the header: each function passes on what it is handed. There is one for each encoding, so that no encoding crosses.
-use epf_header::EdgePreservingFilter;
-use epf_header::Encoding;
-use epf_header::EpfAnswer;
-use gabor_header::Gabor;
-use gabor_header::GaborAnswer;
-use half::HalfAnswer;
 use header::RestorationAnswer;
 use header::RestorationFilter;
+use header_epf::EdgePreservingFilter;
+use header_epf::Encoding;
+use header_epf::EpfAnswer;
+use header_gabor::Gabor;
+use header_gabor::GaborAnswer;
+use header_half::HalfAnswer;
 ghost use mathlib.Core.Path.{_≡_};
-ghost use Rattle.epf_header.specs.EdgeFilter.{epfAt, epfAnswer};
-ghost use Rattle.epf_header.specs.declared.Encoding.the-variants.{VarDct, Modular};
-ghost use Rattle.gabor_header.specs.Gabor.{gaborAt, gaborAnswer};
-ghost use Rattle.half.specs.Half.{f16, halfAnswer};
+ghost use Rattle.header_epf.specs.EdgeFilter.{epfAt, epfAnswer};
+ghost use Rattle.header_epf.specs.declared.Encoding.the-variants.{VarDct, Modular};
+ghost use Rattle.header_gabor.specs.Gabor.{gaborAt, gaborAnswer};
+ghost use Rattle.header_half.specs.Half.{f16, halfAnswer};
 ghost use Rattle.header.specs.Restoration.{restorationAt, restorationAnswer};
 
 // Reads 16 bits from bit place `at` on as an IEEE 754 half-precision number, exactly, subnormals and -0 included. Bit p is bit p mod 8 of byte p / 8,
@@ -22,7 +22,7 @@ ghost use Rattle.header.specs.Restoration.{restorationAt, restorationAnswer};
 pub extern "C" fn loupe_read_half(bytes: &[u8], at: usize) -> HalfAnswer
     ensures { λ a. ⌜ a ≡ halfAnswer (f16 (now (bytes .entry)) at) ⌝ }
 {
-    half::read_half(bytes, at)
+    header_half::read_half(bytes, at)
 }
 
 // Reads the Gabor-like filter's bundle from bit place `at` on: the enabled bit and, if it is set, the custom bit and, if that is set, three channels of two

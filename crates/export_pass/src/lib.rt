@@ -1,12 +1,12 @@
 // The C boundary of the mirror and of single passes: each function passes on what it is handed.
 use epf::EpfStep;
 use mirror::MirrorAnswer;
-use passes::GaborSettings;
 use region::Region;
+use run_passes::GaborSettings;
 ghost use mathlib.Core.Path.{_≡_};
 ghost use Rattle.epf.specs.Outcome.{epfOutcome};
 ghost use Rattle.gabor.specs.Outcome.{gaborOutcome};
-ghost use Rattle.layout.specs.Outcome.{PassOutcome};
+ghost use Rattle.planes_layout.specs.Outcome.{PassOutcome};
 ghost use Rattle.mirror.specs.Outcome.{mirrorOutcome};
 
 // The place in a row of `len` samples that a filter reads for an offset beyond an edge: with m the offset modulo 2 * len, not negative, it is m if m < len and
@@ -38,7 +38,7 @@ pub extern "C" fn loupe_gabor_pass(
 ) -> u32
     ensures { λ r. ⌜ _≡_ {A = PassOutcome} (record { number = r; target = now (dst .exit) }) (gaborOutcome image filter «preserve_outside» (settings .weights) from to (now (src .entry)) (now (dst .entry))) ⌝ }
 {
-    let weights = passes::weights(settings);
+    let weights = run_passes::weights(settings);
     gabor::gabor_pass(image, filter, preserve_outside, weights, from, to, src, dst)
 }
 

@@ -1,15 +1,15 @@
 // The C boundary of runs: each function passes on what it is handed.
 use frame::Frame;
-use passes::MarginAnswer;
-use passes::Settings;
-use record::Run;
-use runs::RunAnswer;
-use setup::Setup;
+use run_outcomes::RunAnswer;
+use run_passes::MarginAnswer;
+use run_passes::Settings;
+use run_record::Run;
+use run_setup::Setup;
 ghost use mathlib.Core.Path.{_≡_};
-ghost use Rattle.passes.specs.Plan.{marginOutcome};
-ghost use Rattle.runs.specs.Start.{StartOutcome, startOutcome};
-ghost use Rattle.runs.specs.Band.{BandOutcome, bandOutcome, advanceOutcome};
-ghost use Rattle.runs.specs.Result.{ResultOutcome, resultOutcome};
+ghost use Rattle.run_passes.specs.Plan.{marginOutcome};
+ghost use Rattle.run_outcomes.specs.Start.{StartOutcome, startOutcome};
+ghost use Rattle.run_outcomes.specs.Band.{BandOutcome, bandOutcome, advanceOutcome};
+ghost use Rattle.run_outcomes.specs.Result.{ResultOutcome, resultOutcome};
 
 // The margin of the settings: how many samples must lie between a sample and each cut edge of a rectangle so that the sample is the one that the larger
 // picture has. It is 1 where the Gabor-like filter is on, plus 0, 2, 3 or 6 for 0, 1, 2 or 3 iterations of the edge-preserving filter.
@@ -18,7 +18,7 @@ ghost use Rattle.runs.specs.Result.{ResultOutcome, resultOutcome};
 pub extern "C" fn loupe_margin(settings: Settings) -> MarginAnswer
     ensures { λ r. ⌜ r ≡ marginOutcome settings ⌝ }
 {
-    passes::margin(settings)
+    run_passes::margin(settings)
 }
 
 // Starts a run: checks all that it is handed, fills the block sigmas and answers the run's record. `table` has three numbers for each group of the frame

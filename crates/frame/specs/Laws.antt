@@ -10,8 +10,8 @@ use borrow.Author.Tests.{ltb-false, le-ltb, eq-eqb, ne-eqb}
 use lib.Dec.{ltb}
 use lib.Pow.{pow-pos, pow-add, pow-mono}
 use lib.Count.{trailingZeros}
-use Rattle.numbers.specs.Numbers.{outOfMeasure, outOfRange}
-use Rattle.numbers.specs.Checks.{always, firstOf}
+use Rattle.refusals.specs.Numbers.{outOfMeasure, outOfRange}
+use Rattle.refusals.specs.Checks.{always, firstOf}
 use Rattle.frame.specs.declared.Frame.{Frame}
 use Rattle.frame.specs.declared.GroupSizes.{GroupSizes}
 use Rattle.frame.specs.Sizes.{dividedUp, sampleSide, groupDim, groupShift, groupsAlong, groupOf, innerOf, widthOf, heightOf, sizesOf}

@@ -3,8 +3,8 @@ use mathlib.Core.Bool.{Bool, cond, not, _||_}
 use mathlib.Core.List.{List, [], _∷_}
 use Prim.Native.Nat.{ℕ}
 use lib.Dec.{ltb, eqb}
-use Rattle.numbers.specs.Numbers.{outOfMeasure, outOfRange}
-use Rattle.numbers.specs.Checks.{Check, always, firstOf}
+use Rattle.refusals.specs.Numbers.{outOfMeasure, outOfRange}
+use Rattle.refusals.specs.Checks.{Check, always, firstOf}
 use Rattle.frame.specs.declared.Frame.{Frame}
 use Rattle.frame.specs.declared.GroupSizes.{GroupSizes}
 use Rattle.frame.specs.declared.FrameAnswer.{FrameAnswer}

@@ -1,7 +1,7 @@
 // Sample sides, group dimension and shift, LF groups of a frame, and which group and inner cell a block has (document 01, "Block sigmas").
 ghost use mathlib.Core.Path.{_≡_};
 ghost use Prim.Native.Nat.{_<_, _≤_};
-ghost use Rattle.numbers.specs.Checks.{firstOf};
+ghost use Rattle.refusals.specs.Checks.{firstOf};
 ghost use Rattle.frame.specs.Sizes.{dividedUp, sampleSide, groupDim, groupsAlong, sizesOf};
 ghost use Rattle.frame.specs.Outcome.{frameChecks, frameOutcome, splitOutcome, badSide, badSides, badUpsampling, badSettings, noSizes};
 ghost use Rattle.frame.specs.Laws.{Sound};
@@ -131,12 +131,12 @@ fn check(f: Frame) -> u32
     ensures { λ r. ⌜ r ≡ firstOf (frameChecks f) ⌝ }
 {
     if bad_sides(f) {
-        return numbers::OUT_OF_MEASURE;
+        return refusals::OUT_OF_MEASURE;
     }
     if bad_settings(f) {
-        return numbers::OUT_OF_RANGE;
+        return refusals::OUT_OF_RANGE;
     }
-    numbers::ACCEPTED
+    refusals::ACCEPTED
 }
 
 fn sizes(f: Frame) -> GroupSizes
@@ -179,7 +179,7 @@ pub fn group_sizes(f: Frame) -> FrameAnswer
     ensures { λ r. ⌜ r ≡ frameOutcome f ⌝ }
 {
     let number = check(f);
-    if number != numbers::ACCEPTED {
+    if number != refusals::ACCEPTED {
         return FrameAnswer {
             number,
             sizes: no_sizes(),
@@ -197,14 +197,14 @@ pub fn split_block(block: u32, group_size_shift: u32) -> SplitAnswer
 {
     if MAX_GROUP_SIZE_SHIFT < group_size_shift {
         return SplitAnswer {
-            number: numbers::OUT_OF_RANGE,
+            number: refusals::OUT_OF_RANGE,
             group: 0,
             inner: 0,
         };
     }
     let dim = group_dim(group_size_shift);
     SplitAnswer {
-        number: numbers::ACCEPTED,
+        number: refusals::ACCEPTED,
         group: block >> u32::trailing_zeros(dim),
         inner: block & (dim - 1),
     }

@@ -6,16 +6,16 @@ use Prim.Native.Nat.{ℕ, _<_}
 use native.Mathlib.Omega.{arith}
 use lib.ListN.{length}
 use lib.Ieee.{Float}
-use Rattle.numbers.specs.Numbers.{wrongLength, outOfRange}
-use Rattle.numbers.specs.Checks.{firstOf}
-use Rattle.numbers.specs.Flags.{flagFits, flagSet}
-use Rattle.placement.specs.Placed.{placedChecks}
+use Rattle.refusals.specs.Numbers.{wrongLength, outOfRange}
+use Rattle.refusals.specs.Checks.{firstOf}
+use Rattle.refusals.specs.Flags.{flagFits, flagSet}
+use Rattle.region_placement.specs.Placed.{placedChecks}
 use Rattle.region.specs.declared.Region.{Region}
 use Rattle.planes.specs.Band.{setFits, rowsFit}
 use Rattle.planes.specs.Stored.{BandFits, band-fits}
-use Rattle.layout.specs.declared.LayoutAnswer.{LayoutAnswer}
-use Rattle.layout.specs.Outcome.{layoutOf, layoutOutcome, PassOutcome}
-use Rattle.layout.specs.Fits.{layout-accepted, not-placed, wrong-source, wrong-target, wrong-flag, wrong-rows, pass-accepted, answer-number, answer-layout, pass-refused, pass-done}
+use Rattle.planes_layout.specs.declared.LayoutAnswer.{LayoutAnswer}
+use Rattle.planes_layout.specs.Outcome.{layoutOf, layoutOutcome, PassOutcome}
+use Rattle.planes_layout.specs.Fits.{layout-accepted, not-placed, wrong-source, wrong-target, wrong-flag, wrong-rows, pass-accepted, answer-number, answer-layout, pass-refused, pass-done}
 use Rattle.gabor.specs.Outcome.{gaborPassed, gaborOutcome}
 
 -- a is the answer of `layout_of`

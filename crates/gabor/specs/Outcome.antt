@@ -2,12 +2,12 @@
 use mathlib.Core.List.{List}
 use Prim.Native.Nat.{ℕ}
 use lib.Ieee.{Float}
-use Rattle.numbers.specs.Checks.{firstOf}
-use Rattle.numbers.specs.Flags.{flagSet}
+use Rattle.refusals.specs.Checks.{firstOf}
+use Rattle.refusals.specs.Flags.{flagSet}
 use Rattle.region.specs.declared.Region.{Region}
 use Rattle.planes.specs.declared.Layout.{Layout}
 use Rattle.planes.specs.Band.{inner, passed}
-use Rattle.layout.specs.Outcome.{layoutOf, passChecks, PassOutcome, passOutcome}
+use Rattle.planes_layout.specs.Outcome.{layoutOf, passChecks, PassOutcome, passOutcome}
 use Rattle.gabor_kernel.specs.Gabor.{gaborPass}
 
 -- what an accepted pass over rows from `from` up to `to` leaves in dst: n planes, of which src is the set read

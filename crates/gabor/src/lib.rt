@@ -1,18 +1,18 @@
 // The Gabor-like pass of the restoration filters over rows of a filter region that lies anywhere in an image region.
 mod pass;
 
-use layout::layout_of;
-use numbers::ACCEPTED;
-use numbers::OUT_OF_RANGE;
-use numbers::WRONG_LENGTH;
-use numbers::flag_fits;
-use numbers::flag_set;
 use pass::gabor_band;
 use planes::rows_fit;
 use planes::set_fits;
+use planes_layout::layout_of;
+use refusals::ACCEPTED;
+use refusals::OUT_OF_RANGE;
+use refusals::WRONG_LENGTH;
+use refusals::flag_fits;
+use refusals::flag_set;
 use region::Region;
 ghost use mathlib.Core.Path.{_≡_};
-ghost use Rattle.layout.specs.Outcome.{PassOutcome};
+ghost use Rattle.planes_layout.specs.Outcome.{PassOutcome};
 ghost use Rattle.gabor.specs.Outcome.{gaborOutcome};
 
 const PLANES: usize = 3;

@@ -1,8 +1,8 @@
 // The Gabor-like pass: rows of several planes, and a band with what lies outside the filter region.
 use gabor_plane::gabor_plane;
-use outside::copy_outside;
 use planes::Layout;
 use planes::filter_row;
+use planes_outside::copy_outside;
 ghost use mathlib.Core.Path.{_≡_};
 ghost use Prim.Native.Nat.{_+_, _*_, _<_, _≤_};
 ghost use lib.ListN.{length};

@@ -4,20 +4,20 @@ use mathlib.Core.Bool.{Bool, true, false, cond}
 use mathlib.Core.List.{List}
 use mathlib.Core.Path.{_≡_, sym, ap, _∙_}
 use native.Mathlib.Omega.{arith}
-use Rattle.bits.specs.Outcome.{accepted, refused}
-use Rattle.fields.specs.Fields.{bundle, nested, read, yes}
-use Rattle.gabor_channel.specs.Channel.{channelFields}
-use Rattle.gabor_header.specs.Gabor.{channelsFields, weightFields, gaborFields, gaborOff, gaborAnswer}
-use Rattle.epf_header.specs.EdgeFilter.{parameterFields, epfFields, epfOff, epfAnswer}
+use Rattle.header_bits.specs.Outcome.{accepted, refused}
+use Rattle.header_fields.specs.Fields.{bundle, nested, read, yes}
+use Rattle.header_gabor_channel.specs.Channel.{channelFields}
+use Rattle.header_gabor.specs.Gabor.{channelsFields, weightFields, gaborFields, gaborOff, gaborAnswer}
+use Rattle.header_epf.specs.EdgeFilter.{parameterFields, epfFields, epfOff, epfAnswer}
 use Rattle.header.specs.Restoration.{bothOf, restorationFields}
-use Rattle.epf_header.specs.declared.Encoding.{Encoding}
-use Rattle.gabor_header.specs.declared.Gabor.{Gabor}
-use Rattle.gabor_header.specs.declared.GaborAnswer.{GaborAnswer}
-use Rattle.epf_header.specs.declared.EdgePreservingFilter.{EdgePreservingFilter}
-use Rattle.epf_header.specs.declared.EpfAnswer.{EpfAnswer}
-use Rattle.fields.proofs.Rows.{read-nested}
-use Rattle.fields.proofs.Numbered.{Numbered, read-told}
-use Rattle.epf_tables.proofs.Told.{is-accepted, is-refused}
+use Rattle.header_epf.specs.declared.Encoding.{Encoding}
+use Rattle.header_gabor.specs.declared.Gabor.{Gabor}
+use Rattle.header_gabor.specs.declared.GaborAnswer.{GaborAnswer}
+use Rattle.header_epf.specs.declared.EdgePreservingFilter.{EdgePreservingFilter}
+use Rattle.header_epf.specs.declared.EpfAnswer.{EpfAnswer}
+use Rattle.header_fields.proofs.Rows.{read-nested}
+use Rattle.header_fields.proofs.Numbered.{Numbered, read-told}
+use Rattle.header_epf_tables.proofs.Told.{is-accepted, is-refused}
 
 -- ---- the two tables
 numbered-gabor : Numbered gaborFields

@@ -1,13 +1,13 @@
 -- Both bundles in sequence (document 01, "Header bits"), as `RestorationFilter` has them (without `all_default` and extensions).
 use Prim.Native.Nat.{ℕ}
 use mathlib.Core.List.{List}
-use Rattle.bits.specs.Outcome.{Outcome, number, value, next}
-use Rattle.fields.specs.Fields.{Fields, bundle, nested, read}
-use Rattle.gabor_header.specs.Gabor.{gaborFields, gaborOff}
-use Rattle.epf_header.specs.EdgeFilter.{epfFields, epfOff}
-use Rattle.gabor_header.specs.declared.Gabor.{Gabor}
-use Rattle.epf_header.specs.declared.Encoding.{Encoding}
-use Rattle.epf_header.specs.declared.EdgePreservingFilter.{EdgePreservingFilter}
+use Rattle.header_bits.specs.Outcome.{Outcome, number, value, next}
+use Rattle.header_fields.specs.Fields.{Fields, bundle, nested, read}
+use Rattle.header_gabor.specs.Gabor.{gaborFields, gaborOff}
+use Rattle.header_epf.specs.EdgeFilter.{epfFields, epfOff}
+use Rattle.header_gabor.specs.declared.Gabor.{Gabor}
+use Rattle.header_epf.specs.declared.Encoding.{Encoding}
+use Rattle.header_epf.specs.declared.EdgePreservingFilter.{EdgePreservingFilter}
 use Rattle.header.specs.declared.RestorationFilter.{RestorationFilter}
 use Rattle.header.specs.declared.RestorationAnswer.{RestorationAnswer}
 

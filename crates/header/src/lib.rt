@@ -1,10 +1,10 @@
 // Both filter bundles of a frame header in sequence, as `RestorationFilter` has them (without `all_default` and extensions).
 ghost use mathlib.Core.Path.{_≡_};
-ghost use Rattle.bits.specs.Outcome.{refused};
+ghost use Rattle.header_bits.specs.Outcome.{refused};
 ghost use Rattle.header.specs.Restoration.{restorationAt, restorationAnswer};
-use epf_header::EdgePreservingFilter;
-use epf_header::Encoding;
-use gabor_header::Gabor;
+use header_epf::EdgePreservingFilter;
+use header_epf::Encoding;
+use header_gabor::Gabor;
 
 #[repr(C)]
 pub struct RestorationFilter {
@@ -37,19 +37,19 @@ impl RestorationFilter {
         ensures { λ r. ⌜ r ≡ restorationAnswer (restorationAt encoding (now (bytes .entry)) at) ⌝ }
     {
         let first = Gabor::parse(bytes, at);
-        if first.number != numbers::ACCEPTED {
+        if first.number != refusals::ACCEPTED {
             return restoration_refused(first.number);
         }
         let after = first.next;
         let second = EdgePreservingFilter::parse(bytes, after, encoding);
-        if second.number != numbers::ACCEPTED {
+        if second.number != refusals::ACCEPTED {
             return restoration_refused(second.number);
         }
         let gabor = first.gabor;
         let epf = second.epf;
         let filter = RestorationFilter { gabor, epf };
         RestorationAnswer {
-            number: numbers::ACCEPTED,
+            number: refusals::ACCEPTED,
             filter,
             next: second.next,
         }

@@ -13,7 +13,7 @@ use Rattle.rounding.specs.Rounded.{round-zero}
 use Rattle.planes.specs.Samples.{_⊕_, _⊗_, _⊘_, b0, b1}
 use Rattle.planes.specs.Picture.{Picture, Around, around}
 use Rattle.gabor_kernel.specs.EndLaws.{itself}
-use Rattle.weights.specs.Steps.{Offset, Scaled, kernel, dists, along, distance, positive, falloff, weight, weightBy, copied, standardLimit, weightAt, blend, divisor, epf, multiplier, epfPass}
+use Rattle.epf_step.specs.Steps.{Offset, Scaled, kernel, dists, along, distance, positive, falloff, weight, weightBy, copied, standardLimit, weightAt, blend, divisor, epf, multiplier, epfPass}
 use Rattle.epf.specs.declared.EpfStep.{EpfStep}
 use Rattle.epf.specs.Outcome.{settingsOf}
 use Rattle.instances.specs.Any.{Finite, b5, CopiedBelow, NanSigma}

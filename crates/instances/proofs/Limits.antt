@@ -1,23 +1,23 @@
 -- The table of limits, each row computed. Assumes nothing.
 use mathlib.Core.Path.{refl}
-use Rattle.bits.specs.Bits.{u}
+use Rattle.header_bits.specs.Bits.{u}
 use Rattle.mirror.specs.Mirror.{mirror}
-use Rattle.interval.specs.Interval.{powerBelow}
-use Rattle.axis.specs.Measures.{place, side}
+use Rattle.region_interval.specs.Interval.{powerBelow}
+use Rattle.region_axis.specs.Measures.{place, side}
 use Rattle.region.specs.Regions.{regionOf, inside}
 use Rattle.region.specs.Measures.{measured, pictured}
 use Rattle.region_arithmetic.specs.Arithmetic.{shrunkBy, alignedTo}
 use Rattle.region_arithmetic.specs.Answers.{regionAnswer}
 use Rattle.frame.specs.Sizes.{sizesOf}
 use Rattle.frame.specs.Outcome.{badSides, badSettings}
-use Rattle.blocks.specs.Measures.{badBlocks}
-use Rattle.grids.specs.Table.{badGrid, cells, gridStart, someBelow}
-use Rattle.grids.specs.Start.{noEntries}
-use Rattle.layout.specs.Outcome.{layoutOf}
-use Rattle.passes.specs.Plan.{steps, plan}
-use Rattle.setup.specs.Setup.{bandCount, sized, numbersFit, setupFits}
-use Rattle.record.specs.Record.{isDone, started, bandMissing, strayDone, runFits}
-use Rattle.runs.specs.Band.{advanceOutcome}
+use Rattle.sigma_blocks.specs.Measures.{badBlocks}
+use Rattle.sigma_grids.specs.Table.{badGrid, cells, gridStart, someBelow}
+use Rattle.sigma_grids.specs.Start.{noEntries}
+use Rattle.planes_layout.specs.Outcome.{layoutOf}
+use Rattle.run_passes.specs.Plan.{steps, plan}
+use Rattle.run_setup.specs.Setup.{bandCount, sized, numbersFit, setupFits}
+use Rattle.run_record.specs.Record.{isDone, started, bandMissing, strayDone, runFits}
+use Rattle.run_outcomes.specs.Band.{advanceOutcome}
 use Rattle.instances.specs.Limits.{Limits}
 
 pub limits : Limits

@@ -5,7 +5,7 @@ use Prim.Native.Nat.{ℕ, _<_}
 use lib.Ieee.{Float, nan, inf, fin}
 use Rattle.planes.specs.Samples.{bits}
 use Rattle.planes.specs.Picture.{Picture}
-use Rattle.weights.specs.Steps.{epfPass}
+use Rattle.epf_step.specs.Steps.{epfPass}
 use Rattle.epf.specs.declared.EpfStep.{EpfStep}
 use Rattle.epf.specs.Outcome.{settingsOf}
 

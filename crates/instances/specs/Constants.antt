@@ -6,15 +6,15 @@ use mathlib.Core.List.{List, [], _∷_}
 use Prim.Native.Nat.{ℕ, _+_, _*_, _^_}
 use lib.Dec.{eqb}
 use lib.Ieee.{Float, binary32, round}
-use Rattle.bits.specs.Outcome.{accepted}
-use Rattle.gabor_header.specs.Gabor.{gaborAt}
-use Rattle.epf_sigma.specs.declared.EpfSigma.{EpfSigma}
-use Rattle.epf_sigma.specs.Settings.{epfSigma}
-use Rattle.epf_header.specs.declared.Encoding.the-variants.{VarDct, Modular}
-use Rattle.epf_header.specs.EdgeFilter.{epfWith, epfAt}
+use Rattle.header_bits.specs.Outcome.{accepted}
+use Rattle.header_gabor.specs.Gabor.{gaborAt}
+use Rattle.header_epf_sigma.specs.declared.EpfSigma.{EpfSigma}
+use Rattle.header_epf_sigma.specs.Settings.{epfSigma}
+use Rattle.header_epf.specs.declared.Encoding.the-variants.{VarDct, Modular}
+use Rattle.header_epf.specs.EdgeFilter.{epfWith, epfAt}
 use Rattle.planes.specs.Samples.{bits, b0, b1}
 use Rattle.planes.specs.Sets.{of, setOf, tab}
-use Rattle.runs.specs.Band.{State, bandOutcome}
+use Rattle.run_outcomes.specs.Band.{State, bandOutcome}
 use Rattle.instances.specs.Instances.{bytesOf, evenly, stepped, begun}
 
 -- the binary32 that is nearest to num / den, as a literal of the Rust is

@@ -12,21 +12,21 @@ use Rattle.mirror.specs.declared.MirrorAnswer.{MirrorAnswer}
 use Rattle.mirror.specs.Outcome.{mirrorOutcome}
 use Rattle.region.specs.declared.Region.{Region}
 use Rattle.region_arithmetic.specs.Answers.{downsampleOutcome, alignedOutcome}
-use Rattle.bits.specs.Outcome.{Outcome, accepted, refused}
-use Rattle.half.specs.Half.{f16}
-use Rattle.gabor_header.specs.declared.Gabor.{Gabor}
-use Rattle.gabor_header.specs.Gabor.{gaborOff, gaborWith, gaborAt}
+use Rattle.header_bits.specs.Outcome.{Outcome, accepted, refused}
+use Rattle.header_half.specs.Half.{f16}
+use Rattle.header_gabor.specs.declared.Gabor.{Gabor}
+use Rattle.header_gabor.specs.Gabor.{gaborOff, gaborWith, gaborAt}
 use Rattle.planes.specs.Samples.{bits, b0, b1, b2, b3, b4}
 use Rattle.planes.specs.Picture.{Picture, Around, around}
 use Rattle.planes.specs.Sets.{of, setOf, tab}
 use Rattle.gabor_kernel.specs.Gabor.{gaborPass}
-use Rattle.weights.specs.Steps.{kernel, dists, scaled, copied, standardLimit, epf, multiplier, EpfPass, epfPass}
+use Rattle.epf_step.specs.Steps.{kernel, dists, scaled, copied, standardLimit, epf, multiplier, EpfPass, epfPass}
 use Rattle.sigma.specs.Sigma.{blockSigmas}
-use Rattle.passes.specs.declared.GaborSettings.{GaborSettings}
-use Rattle.passes.specs.Plan.{oneIf}
-use Rattle.setup.specs.declared.Setup.{Setup}
-use Rattle.record.specs.Record.{started}
-use Rattle.runs.specs.Band.{State, bandOutcome, advanceOutcome}
+use Rattle.run_passes.specs.declared.GaborSettings.{GaborSettings}
+use Rattle.run_passes.specs.Plan.{oneIf}
+use Rattle.run_setup.specs.declared.Setup.{Setup}
+use Rattle.run_record.specs.Record.{started}
+use Rattle.run_outcomes.specs.Band.{State, bandOutcome, advanceOutcome}
 use Rattle.instances.specs.Any.{oneQuarter, CopiedBelow, NanSigma}
 
 -- ---- numbers that the rows use

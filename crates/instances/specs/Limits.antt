@@ -6,19 +6,19 @@ use mathlib.Core.List.{List, [], _∷_}
 use Prim.Native.Nat.{ℕ}
 use lib.IntN.{ℤ, pos, negsuc}
 use lib.ListN.{length}
-use Rattle.bits.specs.Outcome.{accepted, refused}
-use Rattle.bits.specs.Bits.{field, u}
+use Rattle.header_bits.specs.Outcome.{accepted, refused}
+use Rattle.header_bits.specs.Bits.{field, u}
 use Rattle.region.specs.declared.Region.{Region}
 use Rattle.region.specs.Answers.{isEmptyOutcome}
 use Rattle.region_arithmetic.specs.Answers.{downsampleOutcome, alignedOutcome}
-use Rattle.placement.specs.Placed.{placedOutcome}
+use Rattle.region_placement.specs.Placed.{placedOutcome}
 use Rattle.mirror.specs.Outcome.{mirrorOutcome}
 use Rattle.frame.specs.Outcome.{frameOutcome, splitOutcome}
-use Rattle.blocks.specs.Measures.{badBlocks}
-use Rattle.grids.specs.Start.{startOutcome}
-use Rattle.setup.specs.declared.Setup.{Setup}
-use Rattle.record.specs.Record.{started}
-use Rattle.runs.specs.Band.{advanceOutcome}
+use Rattle.sigma_blocks.specs.Measures.{badBlocks}
+use Rattle.sigma_grids.specs.Start.{startOutcome}
+use Rattle.run_setup.specs.declared.Setup.{Setup}
+use Rattle.run_record.specs.Record.{started}
+use Rattle.run_outcomes.specs.Band.{advanceOutcome}
 use Rattle.instances.specs.Instances.{begun}
 
 -- a value that is accepted and one that gets number k

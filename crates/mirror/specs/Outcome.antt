@@ -5,8 +5,8 @@ use Prim.Native.Nat.{ℕ}
 use lib.Dec.{ltb, eqb}
 use lib.IntN.{ℤ, pos, negℤ}
 use lib.Signed.{ltZ}
-use Rattle.numbers.specs.Numbers.{outOfRange}
-use Rattle.numbers.specs.Checks.{Check, always, firstOf}
+use Rattle.refusals.specs.Numbers.{outOfRange}
+use Rattle.refusals.specs.Checks.{Check, always, firstOf}
 use Rattle.mirror.specs.declared.MirrorAnswer.{MirrorAnswer}
 use Rattle.mirror.specs.Mirror.{mirror}
 

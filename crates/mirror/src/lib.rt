@@ -2,7 +2,7 @@
 ghost use mathlib.Core.Path.{_≡_};
 ghost use lib.Signed.{mag};
 ghost use lib.IntN.{pos, subℕ};
-ghost use Rattle.numbers.specs.Numbers.{outOfRange};
+ghost use Rattle.refusals.specs.Numbers.{outOfRange};
 ghost use Rattle.mirror.specs.Mirror.{mirror};
 ghost use Rattle.mirror.specs.Outcome.{mirrorAnswered, mirrorOutcome};
 
@@ -57,7 +57,7 @@ fn refused() -> MirrorAnswer
     ensures { λ r. ⌜ r ≡ mirrorAnswered outOfRange 0 ⌝ }
 {
     MirrorAnswer {
-        number: numbers::OUT_OF_RANGE,
+        number: refusals::OUT_OF_RANGE,
         place: 0,
     }
 }
@@ -79,7 +79,7 @@ pub fn mirror(offset: isize, len: usize) -> MirrorAnswer
         return refused();
     }
     MirrorAnswer {
-        number: numbers::ACCEPTED,
+        number: refusals::ACCEPTED,
         place: place(unsigned(offset), len),
     }
 }

@@ -5,8 +5,8 @@ use mathlib.Core.List.{List, [], _∷_}
 use Prim.Native.Nat.{ℕ}
 use lib.Dec.{eqb}
 use lib.IntN.{ℤ, pos}
-use Rattle.numbers.specs.Numbers.{outOfMeasure}
-use Rattle.numbers.specs.Checks.{Check, always, firstOf}
+use Rattle.refusals.specs.Numbers.{outOfMeasure}
+use Rattle.refusals.specs.Checks.{Check, always, firstOf}
 use Rattle.region.specs.Measures.{measured}
 use Rattle.region.specs.Regions.{columns, rows, isEmpty, contains}
 use Rattle.region.specs.declared.Region.{Region}

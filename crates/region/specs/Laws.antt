@@ -7,13 +7,13 @@ use lib.Dec.{T, leb, leb→le}
 use lib.Ieee.Fits.{and-l, and-r, and-i}
 use lib.IntN.{ℤ, pos}
 use lib.Signed.{leZ, mag}
-use Rattle.interval.specs.Integers.{greatest}
-use Rattle.interval.specs.Interval.{extent}
-use Rattle.overlap.specs.Overlap.{vacant, meet}
-use Rattle.axis.specs.Measures.{place, side, measured as measuredSpan}
-use Rattle.axis.specs.Laws.{place-size, side-size, side-of, extent-back}
-use Rattle.interval.specs.Order.{mag-add, between, greatest-over-left, least-under-left, le-of, not-le}
-use Rattle.interval.specs.declared.Span.{Span}
+use Rattle.region_interval.specs.Integers.{greatest}
+use Rattle.region_interval.specs.Interval.{extent}
+use Rattle.region_overlap.specs.Overlap.{vacant, meet}
+use Rattle.region_axis.specs.Measures.{place, side, measured as measuredSpan}
+use Rattle.region_axis.specs.Laws.{place-size, side-size, side-of, extent-back}
+use Rattle.region_interval.specs.Order.{mag-add, between, greatest-over-left, least-under-left, le-of, not-le}
+use Rattle.region_interval.specs.declared.Span.{Span}
 use Rattle.region.specs.Regions.{columns, rows, regionOf}
 use Rattle.region.specs.declared.Region.{Region}
 use Rattle.region.specs.Measures.{areaFits, measured, pictured}

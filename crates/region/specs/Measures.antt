@@ -2,7 +2,7 @@
 use mathlib.Core.Bool.{Bool, _&&_}
 use Prim.Native.Nat.{ℕ, _*_}
 use lib.Dec.{leb}
-use Rattle.axis.specs.Measures.{place, side}
+use Rattle.region_axis.specs.Measures.{place, side}
 use Rattle.region.specs.declared.Region.{Region}
 
 -- a region that region arithmetic takes: left and top −1,048,576 to 1,048,576, sides 0 to 16,384

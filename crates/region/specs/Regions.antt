@@ -3,10 +3,10 @@ use mathlib.Core.Path.{_≡_}
 use mathlib.Core.Bool.{Bool, _&&_, _||_}
 use lib.Dec.{eqb}
 use lib.IntN.{ℤ, pos}
-use Rattle.interval.specs.Interval.{spanOf, extent}
-use Rattle.overlap.specs.Overlap.{covers, In}
-use Rattle.axis.specs.Laws.{extent-back}
-use Rattle.interval.specs.declared.Span.{Span}
+use Rattle.region_interval.specs.Interval.{spanOf, extent}
+use Rattle.region_overlap.specs.Overlap.{covers, In}
+use Rattle.region_axis.specs.Laws.{extent-back}
+use Rattle.region_interval.specs.declared.Span.{Span}
 use Rattle.region.specs.declared.Region.{Region}
 
 -- a region's columns and its rows

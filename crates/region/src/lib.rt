@@ -1,15 +1,15 @@
 // Region, and what it tells of itself (region.rs). Each method judges the regions that it is given by document 01's measures.
-use interval::Span;
-use numbers::ACCEPTED;
-use numbers::OUT_OF_MEASURE;
+use refusals::ACCEPTED;
+use refusals::OUT_OF_MEASURE;
+use region_interval::Span;
 ghost use mathlib.Core.Path.{_≡_};
 ghost use mathlib.Core.Bool.{false};
 ghost use Prim.Native.Nat.{_<_};
 ghost use lib.Dec.{T};
 ghost use lib.IntN.{pos};
 ghost use lib.Signed.{mag};
-ghost use Rattle.numbers.specs.Checks.{firstOf};
-ghost use Rattle.axis.specs.Measures.{measured as measuredSpan};
+ghost use Rattle.refusals.specs.Checks.{firstOf};
+ghost use Rattle.region_axis.specs.Measures.{measured as measuredSpan};
 ghost use Rattle.region.specs.Measures.{measured};
 ghost use Rattle.region.specs.Regions.{columns, rows, isEmpty, inside, contains};
 ghost use Rattle.region.specs.Answers.{boolAnswer, edgeAnswer, givenChecks, isEmptyOutcome, rightOutcome, bottomOutcome, containsOutcome};
@@ -37,19 +37,19 @@ pub struct EdgeAnswer {
 fn columns(r: Region) -> Span
     ensures { λ s. ⌜ s ≡ columns r ⌝ }
 {
-    interval::span_of(r.left, r.width)
+    region_interval::span_of(r.left, r.width)
 }
 
 fn rows(r: Region) -> Span
     ensures { λ s. ⌜ s ≡ rows r ⌝ }
 {
-    interval::span_of(r.top, r.height)
+    region_interval::span_of(r.top, r.height)
 }
 
 fn within(s: Span) -> bool
     ensures { λ b. ⌜ b ≡ measuredSpan s ⌝ }
 {
-    axis::judge(s).ok
+    region_axis::judge(s).ok
 }
 
 // Region arithmetic takes sides of 0 and has no area limit.
@@ -158,10 +158,10 @@ impl Region {
 fn inside(r: Region, target: Region) -> bool
     ensures { λ b. ⌜ b ≡ inside r target ⌝ }
 {
-    if !overlap::covers(columns(r), columns(target)) {
+    if !region_overlap::covers(columns(r), columns(target)) {
         return false;
     }
-    overlap::covers(rows(r), rows(target))
+    region_overlap::covers(rows(r), rows(target))
 }
 
 fn holds(r: Region, target: Region) -> bool

@@ -5,9 +5,9 @@ use mathlib.Core.List.{List, [], _∷_}
 use Prim.Native.Nat.{ℕ}
 use lib.Dec.{eqb, leb}
 use lib.IntN.{ℤ}
-use Rattle.numbers.specs.Numbers.{outOfMeasure, outOfRange}
-use Rattle.numbers.specs.Checks.{Check, always, given, firstOf}
-use Rattle.interval.specs.Interval.{powerBelow}
+use Rattle.refusals.specs.Numbers.{outOfMeasure, outOfRange}
+use Rattle.refusals.specs.Checks.{Check, always, given, firstOf}
+use Rattle.region_interval.specs.Interval.{powerBelow}
 use Rattle.region.specs.Measures.{measured}
 use Rattle.region.specs.Regions.{zeroRegion}
 use Rattle.region.specs.Answers.{givenChecks, pairChecks}

@@ -1,14 +1,14 @@
 // Regions made from regions (region.rs). Each function judges the regions that it is given, and the one that results, by document 01's measures.
-use interval::Span;
-use numbers::ACCEPTED;
-use numbers::OUT_OF_MEASURE;
-use numbers::OUT_OF_RANGE;
+use refusals::ACCEPTED;
+use refusals::OUT_OF_MEASURE;
+use refusals::OUT_OF_RANGE;
 use region::Region;
 use region::measured;
+use region_interval::Span;
 ghost use mathlib.Core.Path.{_≡_};
 ghost use lib.Dec.{T};
-ghost use Rattle.interval.specs.Interval.{spanOf};
-ghost use Rattle.overlap.specs.Overlap.{meet};
+ghost use Rattle.region_interval.specs.Interval.{spanOf};
+ghost use Rattle.region_overlap.specs.Overlap.{meet};
 ghost use Rattle.region.specs.Measures.{measured};
 ghost use Rattle.region.specs.Regions.{regionOf, zeroRegion};
 ghost use Rattle.region_arithmetic.specs.Arithmetic.{intersected};
@@ -42,8 +42,8 @@ fn refused(number: u32) -> RegionAnswer
 fn judged(x: Span, y: Span) -> RegionAnswer
     ensures { λ r. ⌜ r ≡ regionAnswer (judgedNumber (regionOf x y)) (regionOf x y) ⌝ }
 {
-    let across = axis::judge(x);
-    let down = axis::judge(y);
+    let across = region_axis::judge(x);
+    let down = region_axis::judge(y);
     if !across.ok {
         return refused(OUT_OF_MEASURE);
     }
@@ -78,8 +78,8 @@ pub fn translate(r: Region, x: i32, y: i32) -> RegionAnswer
         return refused(OUT_OF_MEASURE);
     }
     judged(
-        interval::moved(r.left, r.width, x),
-        interval::moved(r.top, r.height, y),
+        region_interval::moved(r.left, r.width, x),
+        region_interval::moved(r.top, r.height, y),
     )
 }
 
@@ -87,7 +87,10 @@ pub fn translate(r: Region, x: i32, y: i32) -> RegionAnswer
 fn shared(a: i32, n: u32, b: i32, m: u32) -> Span
     ensures { λ s. ⌜ s ≡ meet (spanOf a n) (spanOf b m) ⌝ }
 {
-    overlap::meet(interval::span_of(a, n), interval::span_of(b, m))
+    region_overlap::meet(
+        region_interval::span_of(a, n),
+        region_interval::span_of(b, m),
+    )
 }
 
 // What two regions within the measures have in common.
@@ -97,10 +100,10 @@ fn common(a: Region, b: Region) -> RegionAnswer
 {
     let x = shared(a.left, a.width, b.left, b.width);
     let y = shared(a.top, a.height, b.top, b.height);
-    if overlap::vacant(x) {
+    if region_overlap::vacant(x) {
         return refused(ACCEPTED);
     }
-    if overlap::vacant(y) {
+    if region_overlap::vacant(y) {
         return refused(ACCEPTED);
     }
     judged(x, y)
@@ -125,8 +128,8 @@ pub fn pad(r: Region, size: u32) -> RegionAnswer
         return refused(OUT_OF_MEASURE);
     }
     judged(
-        interval::padded(r.left, r.width, size),
-        interval::padded(r.top, r.height, size),
+        region_interval::padded(r.left, r.width, size),
+        region_interval::padded(r.top, r.height, size),
     )
 }
 
@@ -140,8 +143,8 @@ pub fn downsample(r: Region, factor: u32) -> RegionAnswer
         return refused(OUT_OF_RANGE);
     }
     judged(
-        interval::shrunk(r.left, r.width, factor),
-        interval::shrunk(r.top, r.height, factor),
+        region_interval::shrunk(r.left, r.width, factor),
+        region_interval::shrunk(r.top, r.height, factor),
     )
 }
 
@@ -156,7 +159,7 @@ pub fn container_aligned(r: Region, grid_dim: u32) -> RegionAnswer
     }
     let exponent = u32::trailing_zeros(grid_dim);
     judged(
-        interval::aligned(r.left, r.width, exponent),
-        interval::aligned(r.top, r.height, exponent),
+        region_interval::aligned(r.left, r.width, exponent),
+        region_interval::aligned(r.top, r.height, exponent),
     )
 }

@@ -7,11 +7,11 @@ use crate::forms::has_kind;
 use crate::forms::u8_at;
 use crate::forms::u32_at;
 use crate::forms::usize_at;
-use epf_header::EdgePreservingFilter;
-use epf_header::Encoding;
-use epf_sigma::EpfSigma;
-use gabor_header::Gabor;
 use header::RestorationFilter;
+use header_epf::EdgePreservingFilter;
+use header_epf::Encoding;
+use header_epf_sigma::EpfSigma;
+use header_gabor::Gabor;
 ghost use Prim.Native.Nat.{_<_};
 
 // The longest header of the list has fewer.
@@ -25,7 +25,7 @@ pub enum Reader {
 }
 
 fn half(bytes: &[u8], n: &[i64]) -> bool {
-    let a = half::read_half(bytes, usize_at(n, 0));
+    let a = header_half::read_half(bytes, usize_at(n, 0));
     has_form(n, b"zufz")
         && u32_at(n, 1) == a.number
         && has_float(n, 2, a.value)
@@ -42,7 +42,7 @@ fn has_gabor(n: &[i64], i: usize, gabor: Gabor) -> bool
     requires { ⌜ i < 16 ⌝ }
 {
     let enabled = gabor.enabled;
-    let w = gabor_header::weights(gabor);
+    let w = header_gabor::weights(gabor);
     bool_at(n, i) == enabled
         && has_channel(n, i + 1, w[0])
         && has_channel(n, i + 3, w[1])

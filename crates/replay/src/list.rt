@@ -1,6 +1,6 @@
 // A list has a row a line: a name, then numbers, with single spaces between. Empty lines and lines that begin with # are no rows.
 use crate::subjects::Subject;
-use rows::Number;
+use replay_text::Number;
 ghost use Prim.Native.Nat.{_≤_};
 ghost use lib.ListN.{length};
 
@@ -45,7 +45,7 @@ fn until(text: &[u8], at: usize, byte: u8) -> usize
     requires { ⌜ at ≤ length (now text) ⌝ }
     ensures { λ r. ⌜ (at ≤ r) × (r ≤ length (now (text .entry))) ⌝ }
 {
-    rows::end_of(text, at, byte)
+    replay_text::end_of(text, at, byte)
 }
 
 // The numbers from `from` on go to the start of out.
@@ -56,7 +56,7 @@ fn read(line: &[u8], from: usize, out: &mut [i64]) -> Count
     let mut count = 0;
     loop {
         let end = until(line, at, b' ');
-        let Number::Value(n) = rows::number_of(&line[at..end]) else {
+        let Number::Value(n) = replay_text::number_of(&line[at..end]) else {
             return Count::Malformed;
         };
         if out.len() <= count {

@@ -5,16 +5,16 @@ use Prim.Native.Nat.{ℕ, _-_, _<_, _≤_}
 use native.Mathlib.Omega.{arith}
 use borrow.Author.Tests.{ne-eqb}
 use lib.Dec.{eqb}
-use Rattle.numbers.specs.Checks.{firstOf}
-use Rattle.passes.specs.Plan.{gaborOn, oneIf}
-use Rattle.passes.specs.PlanLaws.{plan-length}
-use Rattle.setup.specs.declared.Setup.{Setup}
-use Rattle.record.specs.declared.Run.{Run}
-use Rattle.record.specs.Record.{passCount, advanced, overChecks}
-use Rattle.record.specs.Laws.{pass-left}
-use Rattle.runs.specs.declared.RunAnswer.{RunAnswer}
-use Rattle.runs.specs.Band.{advanceNumber, advanceOutcome}
-use Rattle.runs.specs.Laws.{advance-fits}
+use Rattle.refusals.specs.Checks.{firstOf}
+use Rattle.run_passes.specs.Plan.{gaborOn, oneIf}
+use Rattle.run_passes.specs.PlanLaws.{plan-length}
+use Rattle.run_setup.specs.declared.Setup.{Setup}
+use Rattle.run_record.specs.declared.Run.{Run}
+use Rattle.run_record.specs.Record.{passCount, advanced, overChecks}
+use Rattle.run_record.specs.Laws.{pass-left}
+use Rattle.run_outcomes.specs.declared.RunAnswer.{RunAnswer}
+use Rattle.run_outcomes.specs.Band.{advanceNumber, advanceOutcome}
+use Rattle.run_outcomes.specs.Laws.{advance-fits}
 
 -- at most four passes
 few-passes : (s : Setup) → passCount s ≤ 4

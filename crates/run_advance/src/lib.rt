@@ -1,12 +1,12 @@
 // The advance call of a run.
-use numbers::ACCEPTED;
-use record::Run;
-use record::advance_number;
-use runs::RunAnswer;
+use refusals::ACCEPTED;
+use run_outcomes::RunAnswer;
+use run_record::Run;
+use run_record::advance_number;
 ghost use mathlib.Core.Path.{_≡_};
 ghost use Prim.Native.Nat.{_<_};
-ghost use Rattle.record.specs.Record.{advanced};
-ghost use Rattle.runs.specs.Band.{advanceOutcome};
+ghost use Rattle.run_record.specs.Record.{advanced};
+ghost use Rattle.run_outcomes.specs.Band.{advanceOutcome};
 
 fn advanced(run: Run) -> Run
     requires { ⌜ run .pass < 4 ⌝ }

@@ -10,18 +10,18 @@ use lib.Dec.{T, eqb, eqb→eq}
 use lib.ListN.{length}
 use lib.Ieee.{Float}
 use lib.Ieee.Fits.{and-l, and-r}
-use Rattle.numbers.specs.Checks.{firstOf}
+use Rattle.refusals.specs.Checks.{firstOf}
 use Rattle.region.specs.Laws.{pictured-measured, measured-height}
-use Rattle.layout.specs.Outcome.{layoutOf}
-use Rattle.setup.specs.declared.Setup.{Setup}
-use Rattle.record.specs.declared.Run.{Run}
-use Rattle.setup.specs.Setup.{fullPlanes, epfOn, rowCount, bandCount, bandFrom, bandTo, sized, itersFit, setLength, sigmaLength}
-use Rattle.record.specs.Record.{marked, openChecks}
-use Rattle.numbers.specs.Tables.{of-true, met-given, row-passed}
-use Rattle.setup.specs.Laws.{SetupFits, setup-fits, image-sized, filter-sized}
-use Rattle.record.specs.Laws.{pass-left}
-use Rattle.runs.specs.Band.{State, BandOutcome, setCheck, sigmaCheck, readsFirst, source, target, bandChecks, bandNumber, banded, bandOutcome}
-use Rattle.runs.specs.Laws.{BandFits, band-fits}
+use Rattle.planes_layout.specs.Outcome.{layoutOf}
+use Rattle.run_setup.specs.declared.Setup.{Setup}
+use Rattle.run_record.specs.declared.Run.{Run}
+use Rattle.run_setup.specs.Setup.{fullPlanes, epfOn, rowCount, bandCount, bandFrom, bandTo, sized, itersFit, setLength, sigmaLength}
+use Rattle.run_record.specs.Record.{marked, openChecks}
+use Rattle.refusals.specs.Tables.{of-true, met-given, row-passed}
+use Rattle.run_setup.specs.Laws.{SetupFits, setup-fits, image-sized, filter-sized}
+use Rattle.run_record.specs.Laws.{pass-left}
+use Rattle.run_outcomes.specs.Band.{State, BandOutcome, setCheck, sigmaCheck, readsFirst, source, target, bandChecks, bandNumber, banded, bandOutcome}
+use Rattle.run_outcomes.specs.Laws.{BandFits, band-fits}
 use Rattle.run_band.specs.Rows.{RowsFit, passedRows, bandWritten}
 
 -- ---- an accepted band

@@ -9,29 +9,29 @@ use borrow.Author.Tests.{eq-eqb, le-leb, lt-ltb, le-ltb}
 use lib.Dec.{eqb}
 use lib.ListN.{length}
 use lib.Ieee.{Float}
-use Rattle.numbers.specs.Checks.{firstOf}
+use Rattle.refusals.specs.Checks.{firstOf}
 use Rattle.region.specs.Regions.{inside}
 use Rattle.region.specs.Measures.{pictured}
 use Rattle.planes.specs.Band.{inner, passed, rowsFit}
 use Rattle.planes.specs.Stored.{and-first, and-second}
-use Rattle.layout.specs.Outcome.{layoutOf, passChecks, PassOutcome, passOutcome}
+use Rattle.planes_layout.specs.Outcome.{layoutOf, passChecks, PassOutcome, passOutcome}
 use Rattle.gabor.specs.Outcome.{gaborOutcome}
-use Rattle.tiles.specs.Blocks.{blockColumns, blockRows}
-use Rattle.placement.specs.Blocks.{onBlock, onBlocks}
+use Rattle.epf_tiles.specs.Blocks.{blockColumns, blockRows}
+use Rattle.region_placement.specs.Blocks.{onBlock, onBlocks}
 use Rattle.epf.specs.declared.EpfStep.{EpfStep}
 use Rattle.epf.specs.Outcome.{stepChecks, epfChecks, epfOutcome}
-use Rattle.passes.specs.declared.Settings.{Settings}
-use Rattle.passes.specs.Pass.{gaborLike, pass}
-use Rattle.passes.specs.Plan.{gaborOn, stepOf, oneIf, gaborAt, stepIndex}
-use Rattle.passes.specs.PlanLaws.{plan-length, plan-gabor, plan-step}
-use Rattle.setup.specs.declared.Setup.{Setup}
-use Rattle.record.specs.declared.Run.{Run}
-use Rattle.setup.specs.Setup.{fullFits, layout, epfOn, area, rowCount, setLength, sigmaLength}
-use Rattle.record.specs.Record.{passCount}
-use Rattle.numbers.specs.Tables.{is-true}
-use Rattle.setup.specs.Laws.{SetupFits, setup-fits}
-use Rattle.record.specs.Laws.{RunFits}
-use Rattle.runs.specs.Band.{State, source, target, readsFirst, nextPass, banded}
+use Rattle.run_passes.specs.declared.Settings.{Settings}
+use Rattle.run_passes.specs.Pass.{gaborLike, pass}
+use Rattle.run_passes.specs.Plan.{gaborOn, stepOf, oneIf, gaborAt, stepIndex}
+use Rattle.run_passes.specs.PlanLaws.{plan-length, plan-gabor, plan-step}
+use Rattle.run_setup.specs.declared.Setup.{Setup}
+use Rattle.run_record.specs.declared.Run.{Run}
+use Rattle.run_setup.specs.Setup.{fullFits, layout, epfOn, area, rowCount, setLength, sigmaLength}
+use Rattle.run_record.specs.Record.{passCount}
+use Rattle.refusals.specs.Tables.{is-true}
+use Rattle.run_setup.specs.Laws.{SetupFits, setup-fits}
+use Rattle.run_record.specs.Laws.{RunFits}
+use Rattle.run_outcomes.specs.Band.{State, source, target, readsFirst, nextPass, banded}
 
 -- rows from `from` up to `to` of the result, of n planes: what the next pass over them leaves in dst
 abbrev pub passedRows : ℕ → Run → List Float → ℕ → ℕ → List Float → List Float → List Float

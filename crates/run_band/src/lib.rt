@@ -1,24 +1,24 @@
 // The band call of a run.
 use epf::epf_pass;
 use gabor::gabor_pass;
-use numbers::ACCEPTED;
-use numbers::WRONG_LENGTH;
-use passes::gabor_at;
-use passes::step_at;
-use passes::weights;
-use record::Run;
-use record::band_number;
-use runs::RunAnswer;
-use runs::sets_wrong;
-use runs::sigmas_wrong;
-use setup::row_count;
+use refusals::ACCEPTED;
+use refusals::WRONG_LENGTH;
+use run_outcomes::RunAnswer;
+use run_outcomes::sets_wrong;
+use run_outcomes::sigmas_wrong;
+use run_passes::gabor_at;
+use run_passes::step_at;
+use run_passes::weights;
+use run_record::Run;
+use run_record::band_number;
+use run_setup::row_count;
 ghost use mathlib.Core.Path.{_≡_};
 ghost use mathlib.Core.List.{_∷_};
 ghost use Prim.Native.Nat.{_<_, min};
 ghost use lib.ListN.{length};
-ghost use Rattle.numbers.specs.Checks.{firstOf};
-ghost use Rattle.record.specs.Record.{marked, openChecks};
-ghost use Rattle.runs.specs.Band.{State, BandOutcome, setCheck, sigmaCheck, bandNumber, bandOutcome};
+ghost use Rattle.refusals.specs.Checks.{firstOf};
+ghost use Rattle.run_record.specs.Record.{marked, openChecks};
+ghost use Rattle.run_outcomes.specs.Band.{State, BandOutcome, setCheck, sigmaCheck, bandNumber, bandOutcome};
 ghost use Rattle.run_band.specs.Rows.{RowsFit, passedRows, bandWritten};
 
 // Which number a band gets: 7 for the sets and the block sigmas, then what the record gives it.

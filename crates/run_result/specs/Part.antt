@@ -8,9 +8,9 @@ use native.Mathlib.Omega.{arith}
 use borrow.Author.Tests.{le-leb, lt-ltb}
 use lib.ListN.{length, getD}
 use lib.Ieee.{Float, nan}
-use Rattle.layout.specs.declared.LayoutAnswer.{LayoutAnswer}
-use Rattle.layout.specs.Outcome.{layoutOf, layoutOutcome}
-use Rattle.layout.specs.Fits.{answer-number, answer-layout}
+use Rattle.planes_layout.specs.declared.LayoutAnswer.{LayoutAnswer}
+use Rattle.planes_layout.specs.Outcome.{layoutOf, layoutOutcome}
+use Rattle.planes_layout.specs.Fits.{answer-number, answer-layout}
 use Rattle.planes.specs.declared.Layout.{Layout}
 use Rattle.planes.specs.Picture.{Picture, inRect}
 use Rattle.planes.specs.Sets.{of, setOf}
@@ -19,10 +19,10 @@ use Rattle.planes.specs.Fill.{fill}
 use Rattle.planes.specs.Rect.{rowsFill, planesFill, rows-turn, rows-cong, planes-turn, planes-at, length-planesFill}
 use Rattle.planes.specs.Stored.{LayoutFits}
 use Rattle.planes.specs.Band.{resultLeft, resultTop, resultWidth, resultHeight, inner}
-use Rattle.setup.specs.declared.Setup.{Setup}
-use Rattle.setup.specs.Setup.{fullPlanes, layout, setLength, resultLength}
-use Rattle.setup.specs.Laws.{SetupFits, placed-accepted, setup-layout}
-use Rattle.runs.specs.Result.{resultOf}
+use Rattle.run_setup.specs.declared.Setup.{Setup}
+use Rattle.run_setup.specs.Setup.{fullPlanes, layout, setLength, resultLength}
+use Rattle.run_setup.specs.Laws.{SetupFits, placed-accepted, setup-layout}
+use Rattle.run_outcomes.specs.Result.{resultOf}
 
 -- the result as the filter region of a layout
 unfoldable pub partOf : Layout → Layout

@@ -8,18 +8,18 @@ use borrow.Author.Tests.{eqb-true, ne-eqb, not-false}
 use lib.Dec.{eqb}
 use lib.ListN.{length}
 use lib.Ieee.{Float}
-use Rattle.numbers.specs.Numbers.{wrongLength, outOfRange, passNotDone}
-use Rattle.numbers.specs.Checks.{applies, firstOf}
-use Rattle.numbers.specs.Tables.{is-true}
+use Rattle.refusals.specs.Numbers.{wrongLength, outOfRange, passNotDone}
+use Rattle.refusals.specs.Checks.{applies, firstOf}
+use Rattle.refusals.specs.Tables.{is-true}
 use Rattle.planes.specs.Stored.{and-first, and-second}
-use Rattle.setup.specs.declared.Setup.{Setup}
-use Rattle.record.specs.declared.Run.{Run}
-use Rattle.setup.specs.Setup.{fullFits, layout, setLength, resultLength}
-use Rattle.record.specs.Record.{runFits, finished, finishedChecks}
-use Rattle.setup.specs.Laws.{SetupFits, image-sized, result-sized}
-use Rattle.record.specs.Laws.{fits-setup-of}
-use Rattle.runs.specs.Band.{readsFirst, setCheck}
-use Rattle.runs.specs.Result.{ResultOutcome, sliceCheck, resultChecks, resultNumber, resultOf, resultOutcome}
+use Rattle.run_setup.specs.declared.Setup.{Setup}
+use Rattle.run_record.specs.declared.Run.{Run}
+use Rattle.run_setup.specs.Setup.{fullFits, layout, setLength, resultLength}
+use Rattle.run_record.specs.Record.{runFits, finished, finishedChecks}
+use Rattle.run_setup.specs.Laws.{SetupFits, image-sized, result-sized}
+use Rattle.run_record.specs.Laws.{fits-setup-of}
+use Rattle.run_outcomes.specs.Band.{readsFirst, setCheck}
+use Rattle.run_outcomes.specs.Result.{ResultOutcome, sliceCheck, resultChecks, resultNumber, resultOf, resultOutcome}
 
 -- a record that gives no number fits
 fits-of : (a b : Bool) → cond (true && not a) outOfRange (cond (true && not b) passNotDone 0) ≡ 0 → a ≡ true

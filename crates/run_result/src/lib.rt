@@ -1,24 +1,24 @@
 // The result of a finished run: its part of the set that a next pass would read, copied plane after plane (document 01, "Runs").
-use layout::layout_of;
-use numbers::ACCEPTED;
-use numbers::WRONG_LENGTH;
-use numbers::flag_set;
 use planes::Layout;
 use planes::copy_run;
-use record::Run;
-use record::result_number;
-use runs::sets_wrong;
-use runs::slice_wrong;
-use setup::Setup;
+use planes_layout::layout_of;
+use refusals::ACCEPTED;
+use refusals::WRONG_LENGTH;
+use refusals::flag_set;
+use run_outcomes::sets_wrong;
+use run_outcomes::slice_wrong;
+use run_record::Run;
+use run_record::result_number;
+use run_setup::Setup;
 ghost use mathlib.Core.Path.{_≡_};
 ghost use Prim.Native.Nat.{_+_, _*_, _≤_};
 ghost use lib.ListN.{length};
 ghost use Rattle.planes.specs.Rect.{rowsFill, planesFill};
 ghost use Rattle.planes.specs.Stored.{LayoutFits};
 ghost use Rattle.planes.specs.Band.{inner};
-ghost use Rattle.setup.specs.Setup.{layout, setLength, resultLength};
-ghost use Rattle.setup.specs.Laws.{SetupFits};
-ghost use Rattle.runs.specs.Result.{ResultOutcome, resultOf, resultOutcome};
+ghost use Rattle.run_setup.specs.Setup.{layout, setLength, resultLength};
+ghost use Rattle.run_setup.specs.Laws.{SetupFits};
+ghost use Rattle.run_outcomes.specs.Result.{ResultOutcome, resultOf, resultOutcome};
 ghost use Rattle.run_result.specs.Part.{partOf, rowsOf};
 
 const PLANES: usize = 3;

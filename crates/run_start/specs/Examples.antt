@@ -5,18 +5,18 @@ use Prim.Native.Nat.{ℕ}
 use lib.IntN.{ℤ, pos}
 use lib.ListN.{replicate}
 use lib.Ieee.{nan}
-use Rattle.axis.specs.Measures.{place, side}
+use Rattle.region_axis.specs.Measures.{place, side}
 use Rattle.region.specs.Regions.{inside}
 use Rattle.region.specs.Measures.{measured, pictured}
-use Rattle.layout.specs.Outcome.{layoutOf}
+use Rattle.planes_layout.specs.Outcome.{layoutOf}
 use Rattle.frame.specs.Sizes.{sizesOf}
-use Rattle.grids.specs.Table.{badGrid, cells, gridStart, lacks, someBelow}
-use Rattle.groups.specs.Held.{notHeld, someNotHeld}
+use Rattle.sigma_grids.specs.Table.{badGrid, cells, gridStart, lacks, someBelow}
+use Rattle.sigma_groups.specs.Held.{notHeld, someNotHeld}
 use Rattle.frame.specs.Outcome.{badSides, badSettings}
-use Rattle.groups.specs.Outcome.{tableFits, gridsFit}
-use Rattle.setup.specs.declared.Setup.{Setup}
-use Rattle.setup.specs.Setup.{bandCount}
-use Rattle.runs.specs.Start.{Handed, noSetup, pictureChecks, startNumber}
+use Rattle.sigma_groups.specs.Outcome.{tableFits, gridsFit}
+use Rattle.run_setup.specs.declared.Setup.{Setup}
+use Rattle.run_setup.specs.Setup.{bandCount}
+use Rattle.run_outcomes.specs.Start.{Handed, noSetup, pictureChecks, startNumber}
 
 -- an image of 8 by 8 samples whose filter region has the given left and width, with the result's flag and Gabor's
 abbrev flagged : ℕ → ℕ → ℤ → ℕ → ℕ → ℕ → Setup

@@ -7,7 +7,7 @@ use native.Mathlib.Decide.{ℕ-discrete}
 use native.Mathlib.Omega.{arith}
 use borrow.Author.Tests.{leb-true, ltb-false, le-ltb, ne-eqb}
 use lib.Dec.{eqb, leb, ltb}
-use Rattle.numbers.specs.Checks.{Check, applies, firstOf}
+use Rattle.refusals.specs.Checks.{Check, applies, firstOf}
 use Rattle.planes.specs.Stored.{and-first, and-second}
 
 -- the lower of two numbers; 0 is none

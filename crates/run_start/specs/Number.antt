@@ -8,35 +8,35 @@ use borrow.Author.Tests.{le-leb, le-ltb, ne-eqb}
 use lib.Dec.{T, eqb}
 use lib.ListN.{length}
 use lib.Ieee.{Float}
-use Rattle.numbers.specs.Numbers.{outOfMeasure, notInside, notOnBlocks, wrongLength, blockNotHeld, outOfRange}
-use Rattle.numbers.specs.Checks.{Check, always, given, applies, firstOf}
-use Rattle.numbers.specs.Flags.{flagFits, flagSet}
-use Rattle.axis.specs.Laws.{place-size}
+use Rattle.refusals.specs.Numbers.{outOfMeasure, notInside, notOnBlocks, wrongLength, blockNotHeld, outOfRange}
+use Rattle.refusals.specs.Checks.{Check, always, given, applies, firstOf}
+use Rattle.refusals.specs.Flags.{flagFits, flagSet}
+use Rattle.region_axis.specs.Laws.{place-size}
 use Rattle.region.specs.declared.Region.{Region}
 use Rattle.region.specs.Regions.{inside}
 use Rattle.region.specs.Measures.{pictured}
 use Rattle.region.specs.Laws.{pictured-measured, pictured-width, pictured-height, pictured-area, measured-left, measured-top, measured-width, measured-height}
-use Rattle.placement.specs.Placed.{placedChecks}
+use Rattle.region_placement.specs.Placed.{placedChecks}
 use Rattle.planes.specs.Stored.{and-first, and-second}
-use Rattle.layout.specs.Outcome.{layoutOf}
-use Rattle.tiles.specs.Blocks.{blockColumns, blockRows}
+use Rattle.planes_layout.specs.Outcome.{layoutOf}
+use Rattle.epf_tiles.specs.Blocks.{blockColumns, blockRows}
 use Rattle.frame.specs.declared.Frame.{Frame}
-use Rattle.grids.specs.Table.{badPresence, badGrid}
-use Rattle.blocks.specs.Measures.{blocksAcross, blocksDown, badBlocks}
-use Rattle.groups.specs.Held.{someNotHeld}
+use Rattle.sigma_grids.specs.Table.{badPresence, badGrid}
+use Rattle.sigma_blocks.specs.Measures.{blocksAcross, blocksDown, badBlocks}
+use Rattle.sigma_groups.specs.Held.{someNotHeld}
 use Rattle.frame.specs.Outcome.{badSides, badSettings}
-use Rattle.groups.specs.Outcome.{frameFits, tableFits, tableRead, someGroup, gridsFit, frameSides, gridSides, tableLength, gridsLength, frameSettings, presences, sigmaChecks, sigmaNumber}
+use Rattle.sigma_groups.specs.Outcome.{frameFits, tableFits, tableRead, someGroup, gridsFit, frameSides, gridSides, tableLength, gridsLength, frameSettings, presences, sigmaChecks, sigmaNumber}
 use Rattle.sigma.specs.Outcome.{SigmasOutcome, leftIn, sigmasOutcome}
-use Rattle.placement.specs.Blocks.{ahead, onBlocks}
-use Rattle.placement.specs.BlockLaws.{ahead-small}
-use Rattle.setup.specs.declared.Setup.{Setup}
-use Rattle.record.specs.declared.Run.{Run}
-use Rattle.setup.specs.Setup.{layout, epfOn, itersFit, sized, setLength, sigmaLength}
-use Rattle.record.specs.Record.{started}
-use Rattle.setup.specs.Tests.{sized-by-area}
-use Rattle.runs.specs.Tests.{blocks-same}
-use Rattle.runs.specs.Band.{setCheck}
-use Rattle.runs.specs.Start.{Handed, StartOutcome, blocksOf, pictureChecks, startNumber, startLeaves, sigmasFilled, noRun, startOutcome}
+use Rattle.region_placement.specs.Blocks.{ahead, onBlocks}
+use Rattle.region_placement.specs.BlockLaws.{ahead-small}
+use Rattle.run_setup.specs.declared.Setup.{Setup}
+use Rattle.run_record.specs.declared.Run.{Run}
+use Rattle.run_setup.specs.Setup.{layout, epfOn, itersFit, sized, setLength, sigmaLength}
+use Rattle.run_record.specs.Record.{started}
+use Rattle.run_setup.specs.Tests.{sized-by-area}
+use Rattle.run_outcomes.specs.Tests.{blocks-same}
+use Rattle.run_outcomes.specs.Band.{setCheck}
+use Rattle.run_outcomes.specs.Start.{Handed, StartOutcome, blocksOf, pictureChecks, startNumber, startLeaves, sigmasFilled, noRun, startOutcome}
 use Rattle.run_start.specs.Lowest.{lowest, Parted, none, left, right, first-lowest, lowest-left, lowest-none, ascending-from}
 use Rattle.run_start.specs.Pieces.{runsEpf, epfFlag, sigmasAsked, ownChecks, numberOf, toldChecks}
 

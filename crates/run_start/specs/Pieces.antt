@@ -3,17 +3,17 @@ use mathlib.Core.Bool.{Bool, cond, not, _&&_}
 use mathlib.Core.List.{List, [], _∷_}
 use Prim.Native.Nat.{ℕ}
 use lib.Ieee.{Float}
-use Rattle.numbers.specs.Numbers.{notOnBlocks, outOfRange}
-use Rattle.numbers.specs.Checks.{Check, always, given, firstOf}
-use Rattle.placement.specs.Placed.{placedChecks}
+use Rattle.refusals.specs.Numbers.{notOnBlocks, outOfRange}
+use Rattle.refusals.specs.Checks.{Check, always, given, firstOf}
+use Rattle.region_placement.specs.Placed.{placedChecks}
 use Rattle.frame.specs.declared.Frame.{Frame}
-use Rattle.groups.specs.Outcome.{sigmaNumber}
-use Rattle.placement.specs.Blocks.{onBlocks}
-use Rattle.passes.specs.Plan.{gaborFits}
-use Rattle.setup.specs.declared.Setup.{Setup}
-use Rattle.setup.specs.Setup.{epfOn, itersFit, fullFits, heightFits, countFits}
-use Rattle.runs.specs.Band.{setCheck}
-use Rattle.runs.specs.Start.{blocksOf}
+use Rattle.sigma_groups.specs.Outcome.{sigmaNumber}
+use Rattle.region_placement.specs.Blocks.{onBlocks}
+use Rattle.run_passes.specs.Plan.{gaborFits}
+use Rattle.run_setup.specs.declared.Setup.{Setup}
+use Rattle.run_setup.specs.Setup.{epfOn, itersFit, fullFits, heightFits, countFits}
+use Rattle.run_outcomes.specs.Band.{setCheck}
+use Rattle.run_outcomes.specs.Start.{blocksOf}
 use Rattle.run_start.specs.Lowest.{lowest}
 
 -- iterations in range, and the edge filter on

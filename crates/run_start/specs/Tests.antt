@@ -4,14 +4,14 @@ use mathlib.Core.Bool.{Bool, true, false, cond, not, _&&_}
 use mathlib.Core.List.{List}
 use Prim.Native.Nat.{ℕ, _/_}
 use lib.Ieee.{Float}
-use Rattle.numbers.specs.Numbers.{outOfRange}
+use Rattle.refusals.specs.Numbers.{outOfRange}
 use Rattle.frame.specs.declared.Frame.{Frame}
-use Rattle.blocks.specs.declared.Blocks.{Blocks}
-use Rattle.groups.specs.Outcome.{sigmaNumber}
+use Rattle.sigma_blocks.specs.declared.Blocks.{Blocks}
+use Rattle.sigma_groups.specs.Outcome.{sigmaNumber}
 use Rattle.sigma.specs.Outcome.{sigmasOutcome}
-use Rattle.placement.specs.Blocks.{ahead}
-use Rattle.setup.specs.declared.Setup.{Setup}
-use Rattle.runs.specs.Start.{Handed, blocksOf}
+use Rattle.region_placement.specs.Blocks.{ahead}
+use Rattle.run_setup.specs.declared.Setup.{Setup}
+use Rattle.run_outcomes.specs.Start.{Handed, blocksOf}
 use Rattle.run_start.specs.Pieces.{epfFlag, sigmasAsked}
 
 -- the last five rows of what is told, by one test

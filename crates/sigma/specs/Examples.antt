@@ -7,12 +7,12 @@ use lib.Ieee.{Float, nan}
 use Rattle.planes.specs.Sets.{tab}
 use Rattle.frame.specs.declared.Frame.{Frame}
 use Rattle.frame.specs.Sizes.{sizesOf}
-use Rattle.blocks.specs.declared.Blocks.{Blocks}
-use Rattle.grids.specs.Table.{badGrid, cells, gridStart, lacks, someBelow}
-use Rattle.groups.specs.Held.{notHeld, someNotHeld}
+use Rattle.sigma_blocks.specs.declared.Blocks.{Blocks}
+use Rattle.sigma_grids.specs.Table.{badGrid, cells, gridStart, lacks, someBelow}
+use Rattle.sigma_groups.specs.Held.{notHeld, someNotHeld}
 use Rattle.frame.specs.Outcome.{badSides, badSettings}
-use Rattle.groups.specs.Outcome.{tableFits, gridsFit, sigmaNumber}
-use Rattle.blocks.specs.Measures.{badBlocks}
+use Rattle.sigma_groups.specs.Outcome.{tableFits, gridsFit, sigmaNumber}
+use Rattle.sigma_blocks.specs.Measures.{badBlocks}
 use Rattle.sigma.specs.Sigma.{sigmaIn, frameSigma, aboveAt, blockSigma, blockSigmas}
 
 -- one group across and two down, of 128 blocks a side; the upper one has a grid of one column, the lower none

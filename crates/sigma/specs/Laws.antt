@@ -9,10 +9,10 @@ use lib.Ieee.{Float, nan}
 use Rattle.planes.specs.SetLaws.{length-tab, getD-tab}
 use Rattle.frame.specs.declared.Frame.{Frame}
 use Rattle.frame.specs.Sizes.{innerOf}
-use Rattle.blocks.specs.declared.Blocks.{Blocks}
-use Rattle.grids.specs.Table.{presence, gridWidth, gridStart}
-use Rattle.blocks.specs.Measures.{blocksAcross, blocksDown}
-use Rattle.groups.specs.Held.{groupAt}
+use Rattle.sigma_blocks.specs.declared.Blocks.{Blocks}
+use Rattle.sigma_grids.specs.Table.{presence, gridWidth, gridStart}
+use Rattle.sigma_blocks.specs.Measures.{blocksAcross, blocksDown}
+use Rattle.sigma_groups.specs.Held.{groupAt}
 use Rattle.sigma.specs.Sigma.{sigmaIn, frameSigma, aboveAt, blockSigma, blockSigmas}
 
 module _ (f : Frame) (b : Blocks) (t : List ℕ) (grids : List Float) (modular : Float) where

@@ -5,10 +5,10 @@ use Prim.Native.Nat.{ℕ}
 use lib.Dec.{eqb}
 use lib.ListN.{length}
 use lib.Ieee.{Float}
-use Rattle.numbers.specs.Flags.{flagSet}
+use Rattle.refusals.specs.Flags.{flagSet}
 use Rattle.frame.specs.declared.Frame.{Frame}
-use Rattle.blocks.specs.declared.Blocks.{Blocks}
-use Rattle.groups.specs.Outcome.{sigmaNumber}
+use Rattle.sigma_blocks.specs.declared.Blocks.{Blocks}
+use Rattle.sigma_groups.specs.Outcome.{sigmaNumber}
 use Rattle.sigma.specs.Sigma.{blockSigmas}
 
 pub record SigmasOutcome : Type 0 where

@@ -15,22 +15,22 @@ use lib.Ieee.{Float, nan}
 use Rattle.planes.specs.Sets.{tab}
 use Rattle.planes.specs.SetLaws.{length-tab, getD-tab}
 use Rattle.planes.specs.Fill.{fill, length-fill, fill-before, fill-at, fill-then}
-use Rattle.numbers.specs.Flags.{flagSet}
+use Rattle.refusals.specs.Flags.{flagSet}
 use Rattle.frame.specs.declared.Frame.{Frame}
 use Rattle.frame.specs.declared.GroupSizes.{GroupSizes}
 use Rattle.frame.specs.declared.FrameAnswer.{FrameAnswer}
 use Rattle.frame.specs.Sizes.{groupDim, groupOf, innerOf, sizesOf}
 use Rattle.frame.specs.Laws.{frame-sound, frame-sizes}
 use Rattle.frame.specs.Outcome.{frameOutcome}
-use Rattle.blocks.specs.declared.Blocks.{Blocks}
+use Rattle.sigma_blocks.specs.declared.Blocks.{Blocks}
 use Rattle.sigma.specs.declared.Run.{Run}
-use Rattle.grids.specs.Table.{presence, gridWidth, gridHeight, gridStart, badGrid, someBelow}
-use Rattle.blocks.specs.Measures.{blocksAcross, blocksDown}
-use Rattle.blocks.specs.Laws.{Measured, across-le}
-use Rattle.groups.specs.Held.{groupAt, notHeld, someNotHeld}
+use Rattle.sigma_grids.specs.Table.{presence, gridWidth, gridHeight, gridStart, badGrid, someBelow}
+use Rattle.sigma_blocks.specs.Measures.{blocksAcross, blocksDown}
+use Rattle.sigma_blocks.specs.Laws.{Measured, across-le}
+use Rattle.sigma_groups.specs.Held.{groupAt, notHeld, someNotHeld}
 use Rattle.sigma.specs.Sigma.{missing, sigmaIn, frameSigma, aboveAt, blockSigma, blockSigmas}
-use Rattle.groups.specs.Laws.{TableOf, entry-lt, entries-le, Held, held, Accepted}
-use Rattle.grids.specs.Laws.{some-fewer, none-below, grid-sides, lacks-not, cells-present, start-ends}
+use Rattle.sigma_groups.specs.Laws.{TableOf, entry-lt, entries-le, Held, held, Accepted}
+use Rattle.sigma_grids.specs.Laws.{some-fewer, none-below, grid-sides, lacks-not, cells-present, start-ends}
 
 -- a run over the whole list
 fill-whole : (d : List Float) (n : ℕ) (f : ℕ → Float) → length d ≡ n → fill d 0 n f ≡ tab n f

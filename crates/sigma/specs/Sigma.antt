@@ -7,10 +7,10 @@ use lib.Ieee.{Float, nan}
 use Rattle.planes.specs.Sets.{tab}
 use Rattle.frame.specs.declared.Frame.{Frame}
 use Rattle.frame.specs.Sizes.{innerOf}
-use Rattle.blocks.specs.declared.Blocks.{Blocks}
-use Rattle.grids.specs.Table.{present, gridWidth, gridStart}
-use Rattle.blocks.specs.Measures.{blocksAcross, blocksDown}
-use Rattle.groups.specs.Held.{groupAt}
+use Rattle.sigma_blocks.specs.declared.Blocks.{Blocks}
+use Rattle.sigma_grids.specs.Table.{present, gridWidth, gridStart}
+use Rattle.sigma_blocks.specs.Measures.{blocksAcross, blocksDown}
+use Rattle.sigma_groups.specs.Held.{groupAt}
 
 -- What a missing grid gives: the sigma of the block above. Above the top block row that is `sigma_for_modular`.
 abbrev pub missing : Float → Float → Float

@@ -1,15 +1,15 @@
 // The sigma of each block of a filter region, from the frame's groups and their grids (document 01, "Block sigmas").
-use blocks::Blocks;
 use frame::Frame;
 use frame::GroupSizes;
 use planes::copy_run;
+use sigma_blocks::Blocks;
 ghost use mathlib.Core.Path.{_≡_};
 ghost use Prim.Native.Nat.{ℕ, _+_, _*_, _<_, _≤_};
 ghost use lib.ListN.{length};
 ghost use Rattle.planes.specs.Fill.{fill};
 ghost use Rattle.frame.specs.Sizes.{groupOf, sizesOf};
 ghost use Rattle.frame.specs.Laws.{Sound};
-ghost use Rattle.blocks.specs.Measures.{blocksAcross, blocksDown};
+ghost use Rattle.sigma_blocks.specs.Measures.{blocksAcross, blocksDown};
 ghost use Rattle.sigma.specs.Sigma.{missing, sigmaIn, blockSigmas};
 ghost use Rattle.sigma.specs.Outcome.{SigmasOutcome, sigmasOutcome};
 ghost use Rattle.sigma.specs.Runs.{aboveIn, rowSigma, RunFits, RunOf, RowFits, AllFits};
@@ -72,7 +72,7 @@ fn fill_run(
         return;
     }
     let width = table[entry + 1] as usize;
-    let answer = grids::grid_start(table, group);
+    let answer = sigma_grids::grid_start(table, group);
     let from = answer.start + (row as usize * width + column as usize);
     copy_run(sigmas, at, grids, from, n as usize);
 }
@@ -157,8 +157,8 @@ fn fill_rows(
     requires { ⌜ AllFits frame sizes blocks (now table) (now grids) × (length (now sigmas) ≡ blocksDown blocks * blocksAcross blocks) ⌝ }
     ensures { λ _. ⌜ now (sigmas .exit) ≡ blockSigmas frame blocks (now (table .entry)) (now (grids .entry)) modular ⌝ }
 {
-    let across = blocks::blocks_along(blocks.width);
-    let down = blocks::blocks_along(blocks.height);
+    let across = sigma_blocks::blocks_along(blocks.width);
+    let down = sigma_blocks::blocks_along(blocks.height);
     let mut y = 0;
     let mut o = 0;
     while y < down {
@@ -192,11 +192,11 @@ pub fn block_sigmas(
 ) -> u32
     ensures { λ r. ⌜ _≡_ {A = SigmasOutcome} (record { number = r; sigmas = now (sigmas .exit) }) (sigmasOutcome on frame blocks (now (table .entry)) (now (grids .entry)) «sigma_for_modular» (now (sigmas .entry))) ⌝ }
 {
-    let number = groups::check(on, frame, blocks, table, grids, sigmas.len());
-    if number != numbers::ACCEPTED {
+    let number = sigma_groups::check(on, frame, blocks, table, grids, sigmas.len());
+    if number != refusals::ACCEPTED {
         return number;
     }
-    if !numbers::flag_set(on) {
+    if !refusals::flag_set(on) {
         return number;
     }
     let answer = frame::group_sizes(frame);

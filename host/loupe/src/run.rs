@@ -106,7 +106,7 @@ entries! {
     ///
     /// ```
     /// // The Gabor-like filter and three iterations with default settings, in seven bits. The margin
-    /// // is 1 + 6 (`crates/passes/specs/Plan.antt`).
+    /// // is 1 + 6 (`crates/run_passes/specs/Plan.antt`).
     /// let (filter, next) = loupe::read_filters_vardct(&[0b000_11_01], 0).value()?;
     /// assert_eq!((next, loupe::margin(filter.into()).value()), (7, Ok(7)));
     /// # Ok::<(), loupe::Refusal>(())

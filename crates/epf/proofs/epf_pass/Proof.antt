@@ -6,11 +6,11 @@ use mir.Facts.{toZ-ofZ}
 use denote.Ref.{now}
 use lib.ListN.{length}
 use Rattle.planes.specs.declared.Layout.{Layout}
-use Rattle.tiles.specs.declared.Step.{Step}
-use Rattle.tiles.specs.Tile.{stepOver}
-use Rattle.numbers.specs.Flags.{flagSet}
-use Rattle.layout.specs.Outcome.{layoutOutcome}
-use Rattle.layout.specs.Fits.{Accepted}
+use Rattle.epf_tiles.specs.declared.Step.{Step}
+use Rattle.epf_tiles.specs.Tile.{stepOver}
+use Rattle.refusals.specs.Flags.{flagSet}
+use Rattle.planes_layout.specs.Outcome.{layoutOutcome}
+use Rattle.planes_layout.specs.Fits.{Accepted}
 use Rattle.epf.specs.Fits.{StepFits, step-fits, band-fits, not-placed, layout-held, refused, done}
 use Rattle.epf.proofs.epf_pass.Statement.{statement}
 use Rattle.epf.proofs.epf_pass.Tie as tie

@@ -3,7 +3,7 @@ use mathlib.Core.Path.{_≡_, sym, _∙_}
 use borrow.Author.Needs.{needs}
 use borrow.Author.Tests.{eq-eqb, ne-eqb}
 use native.Mathlib.Omega.{arith}
-use Rattle.numbers.specs.Checks.{firstOf}
+use Rattle.refusals.specs.Checks.{firstOf}
 use Rattle.frame.specs.Outcome.{frameChecks}
 use Rattle.frame.specs.Laws.{frame-sound}
 use Rattle.frame.proofs.group_sizes.Statement.{statement}

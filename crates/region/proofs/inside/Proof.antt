@@ -4,7 +4,7 @@ use mathlib.Core.Bool.{true, false}
 use Prim.Native.Nat.{ℕ}
 use native.Mathlib.Omega.{arith}
 use borrow.Author.Needs.{needs}
-use Rattle.interval.proofs.Flags.{not-true, not-false, yes}
+use Rattle.region_interval.proofs.Flags.{not-true, not-false, yes}
 use Rattle.region.specs.Regions.{inside}
 use Rattle.region.proofs.inside.Statement.{statement}
 use Rattle.region.proofs.inside.Tie as tie

@@ -4,7 +4,7 @@ use mathlib.Core.Bool.{true, false}
 use Prim.Native.Nat.{ℕ}
 use native.Mathlib.Omega.{arith}
 use borrow.Author.Needs.{needs}
-use Rattle.interval.proofs.Flags.{not-true, not-false, yes}
+use Rattle.region_interval.proofs.Flags.{not-true, not-false, yes}
 use Rattle.region.specs.Laws.{measured-axes}
 use Rattle.region.proofs.measured.Statement.{statement}
 use Rattle.region.proofs.measured.Tie as tie

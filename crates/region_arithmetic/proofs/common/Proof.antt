@@ -5,15 +5,15 @@ use Prim.Native.Nat.{ℕ}
 use native.Mathlib.Omega.{arith}
 use borrow.Author.Needs.{needs}
 use mir.Facts.{toZ-ofZ}
-use Rattle.interval.proofs.Flags.{not-true, not-false, yes, true-of}
-use Rattle.overlap.specs.Overlap.{vacant, meet}
+use Rattle.region_interval.proofs.Flags.{not-true, not-false, yes, true-of}
+use Rattle.region_overlap.specs.Overlap.{vacant, meet}
 use Rattle.region.specs.Answers.{given-holds}
 use Rattle.region_arithmetic.specs.Answers.{regionAnswer, judgedNumber}
 use Rattle.region.specs.Measures.{measured}
 use Rattle.region.specs.Laws.{meet-measured}
 use Rattle.region.specs.Regions.{columns, rows, regionOf}
 use Rattle.region_arithmetic.specs.Arithmetic.{intersected}
-use Rattle.interval.specs.declared.Span.{Span}
+use Rattle.region_interval.specs.declared.Span.{Span}
 use Rattle.region_arithmetic.specs.declared.RegionAnswer.{RegionAnswer}
 use Rattle.region_arithmetic.proofs.common.Statement.{statement}
 use Rattle.region_arithmetic.proofs.common.Tie as tie

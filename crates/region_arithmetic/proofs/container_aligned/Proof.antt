@@ -4,11 +4,11 @@ use mathlib.Core.Bool.{true, false}
 use Prim.Native.Nat.{ℕ, min}
 use native.Mathlib.Omega.{arith}
 use borrow.Author.Needs.{needs}
-use Rattle.interval.proofs.Flags.{not-true, not-false, yes}
+use Rattle.region_interval.proofs.Flags.{not-true, not-false, yes}
 use lib.Count.{trailingZeros}
 use mir.Facts.{toZ-ofZ}
 use Rattle.region_arithmetic.specs.Answers.{regionAnswer, isAlignment, setting-given, setting-fails, setting-judged}
-use Rattle.interval.specs.Powers.{power-found}
+use Rattle.region_interval.specs.Powers.{power-found}
 use Rattle.region_arithmetic.specs.Arithmetic.{alignedTo}
 use Rattle.region.specs.Measures.{measured}
 use Rattle.region_arithmetic.proofs.container_aligned.Statement.{statement}

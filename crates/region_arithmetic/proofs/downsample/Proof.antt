@@ -4,7 +4,7 @@ use mathlib.Core.Bool.{true, false}
 use Prim.Native.Nat.{ℕ, min}
 use native.Mathlib.Omega.{arith}
 use borrow.Author.Needs.{needs}
-use Rattle.interval.proofs.Flags.{not-true, not-false, yes}
+use Rattle.region_interval.proofs.Flags.{not-true, not-false, yes}
 use borrow.Author.Tests.{lt-leb, le-leb}
 use mir.Facts.{toZ-ofZ}
 use Rattle.region_arithmetic.specs.Answers.{regionAnswer, isFactor, setting-given, setting-fails, setting-judged}

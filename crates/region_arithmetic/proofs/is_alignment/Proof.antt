@@ -9,8 +9,8 @@ use native.Mathlib.Omega.{arith}
 use borrow.Author.Needs.{needs}
 use lib.Count.{trailingZeros}
 use lib.Dec.{eqb, eqb→eq}
-use Rattle.interval.specs.Powers.{power-found, power-in}
-use Rattle.interval.specs.Interval.{powerBelow}
+use Rattle.region_interval.specs.Powers.{power-found, power-in}
+use Rattle.region_interval.specs.Interval.{powerBelow}
 use Rattle.region_arithmetic.proofs.is_alignment.Statement.{statement}
 use Rattle.region_arithmetic.proofs.is_alignment.Tie as tie
 

@@ -4,11 +4,11 @@ use mathlib.Core.Bool.{true, false}
 use Prim.Native.Nat.{ℕ}
 use native.Mathlib.Omega.{arith}
 use borrow.Author.Needs.{needs}
-use Rattle.interval.proofs.Flags.{not-true, not-false, yes}
+use Rattle.region_interval.proofs.Flags.{not-true, not-false, yes}
 use mir.Syntax.{w32}
 use mir.Facts.{toZ-ofZ}
-use Rattle.axis.specs.Measures.{measured as measuredSpan}
-use Rattle.axis.specs.Laws.{axis-ok, axis-yes}
+use Rattle.region_axis.specs.Measures.{measured as measuredSpan}
+use Rattle.region_axis.specs.Laws.{axis-ok, axis-yes}
 use Rattle.region_arithmetic.specs.Answers.{regionAnswer, judgedNumber}
 use Rattle.region.specs.Measures.{measured}
 use Rattle.region.specs.Laws.{measured-spans}

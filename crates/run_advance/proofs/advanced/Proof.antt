@@ -1,7 +1,7 @@
 -- `run_advance::advanced` meets its contract. Assumes nothing.
 use native.Mathlib.Numerals.{add-one}
 use borrow.Author.Needs.{needs}
-use Rattle.record.specs.Record.{advanced}
+use Rattle.run_record.specs.Record.{advanced}
 use Rattle.run_advance.proofs.advanced.Statement.{statement}
 use Rattle.run_advance.proofs.advanced.Tie as tie
 

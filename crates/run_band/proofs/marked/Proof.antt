@@ -1,7 +1,7 @@
 -- `run_band::marked` meets its contract. Assumes nothing.
 use mathlib.Core.Path.{refl}
 use borrow.Author.Needs.{needs}
-use Rattle.record.specs.Record.{marked}
+use Rattle.run_record.specs.Record.{marked}
 use Rattle.run_band.proofs.marked.Statement.{statement}
 use Rattle.run_band.proofs.marked.Tie as tie
 

@@ -4,9 +4,9 @@ use mathlib.Core.Bool.{false}
 use borrow.Author.Needs.{needs}
 use denote.Ref.{now}
 use lib.ListN.{length}
-use Rattle.numbers.specs.Checks.{applies}
-use Rattle.runs.specs.Band.{setCheck}
-use Rattle.runs.specs.Result.{sliceCheck}
+use Rattle.refusals.specs.Checks.{applies}
+use Rattle.run_outcomes.specs.Band.{setCheck}
+use Rattle.run_outcomes.specs.Result.{sliceCheck}
 use Rattle.run_result.specs.Tests.{sets-refused, slice-refused, record-refused, Lent, lent, from-first, from-second}
 use Rattle.run_result.proofs.result.Statement.{statement}
 use Rattle.run_result.proofs.result.Tie as tie

@@ -2,12 +2,12 @@
 use mathlib.Core.Path.{_≡_, sym, ap, _∙_}
 use mathlib.Core.Bool.{Bool, true, false, cond, not, _&&_}
 use borrow.Author.Needs.{needs}
-use Rattle.numbers.specs.Checks.{applies}
-use Rattle.numbers.specs.Numbers.{outOfRange}
-use Rattle.placement.specs.Blocks.{onBlocks}
-use Rattle.passes.specs.Plan.{gaborFits}
-use Rattle.setup.specs.Setup.{itersFit, fullFits, heightFits, countFits, numbersFit}
-use Rattle.runs.specs.Band.{setCheck}
+use Rattle.refusals.specs.Checks.{applies}
+use Rattle.refusals.specs.Numbers.{outOfRange}
+use Rattle.region_placement.specs.Blocks.{onBlocks}
+use Rattle.run_passes.specs.Plan.{gaborFits}
+use Rattle.run_setup.specs.Setup.{itersFit, fullFits, heightFits, countFits, numbersFit}
+use Rattle.run_outcomes.specs.Band.{setCheck}
 use Rattle.run_start.specs.Pieces.{runsEpf}
 use Rattle.run_start.specs.Tests.{told-row}
 use Rattle.run_start.proofs.own_number.Statement.{statement}

@@ -1,7 +1,7 @@
 -- `run_start::start_number` meets its contract. Assumes nothing.
 use mathlib.Core.Path.{ap, _∙_}
 use borrow.Author.Needs.{needs}
-use Rattle.placement.specs.declared.PlacedAnswer.{PlacedAnswer}
+use Rattle.region_placement.specs.declared.PlacedAnswer.{PlacedAnswer}
 use Rattle.run_start.specs.Lowest.{lowest}
 use Rattle.run_start.specs.Pieces.{numberOf}
 use Rattle.run_start.proofs.start_number.Statement.{statement}

@@ -1,6 +1,6 @@
 -- `run_start::started` meets its contract. Assumes nothing.
 use mathlib.Core.Path.{refl}
-use Rattle.record.specs.Record.{started}
+use Rattle.run_record.specs.Record.{started}
 use Rattle.run_start.proofs.started.Statement.{statement}
 use Rattle.run_start.proofs.started.Tie as tie
 

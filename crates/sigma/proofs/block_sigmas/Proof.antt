@@ -8,11 +8,11 @@ use borrow.Author.Tests.{eq-eqb, ne-eqb, not-true, not-false}
 use denote.Ref.{now}
 use lib.ListN.{length}
 use lib.Ieee.{Float}
-use Rattle.numbers.specs.Flags.{flagSet}
+use Rattle.refusals.specs.Flags.{flagSet}
 use Rattle.sigma.specs.Sigma.{blockSigmas}
-use Rattle.groups.specs.Outcome.{sigmaCount}
+use Rattle.sigma_groups.specs.Outcome.{sigmaCount}
 use Rattle.sigma.specs.Outcome.{SigmasOutcome, leftIn}
-use Rattle.groups.specs.Laws.{Accepted, accepted-fits}
+use Rattle.sigma_groups.specs.Laws.{Accepted, accepted-fits}
 use Rattle.sigma.specs.Runs.{all-fits}
 use Rattle.sigma.proofs.block_sigmas.Statement.{statement}
 use Rattle.sigma.proofs.block_sigmas.Tie as tie

@@ -6,9 +6,9 @@ use native.Mathlib.Omega.{arith}
 use denote.Ref.{now}
 use lib.ListN.{length}
 use Rattle.planes.specs.Fill.{fill, fill-end}
-use Rattle.groups.specs.Held.{notHeld}
-use Rattle.grids.specs.Laws.{none-below}
-use Rattle.groups.specs.Laws.{Held, held}
+use Rattle.sigma_groups.specs.Held.{notHeld}
+use Rattle.sigma_grids.specs.Laws.{none-below}
+use Rattle.sigma_groups.specs.Laws.{Held, held}
 use Rattle.sigma.specs.Runs.{rowSigma, RunOf, run-fits, row-turn}
 use Rattle.sigma.proofs.fill_row.Statement.{statement}
 use Rattle.sigma.proofs.fill_row.Tie as tie

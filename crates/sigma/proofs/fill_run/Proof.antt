@@ -6,9 +6,9 @@ use native.Mathlib.Omega.{arith}
 use denote.Ref.{now}
 use Rattle.planes.specs.Copy.{copied-run}
 use Rattle.planes.specs.Fill.{fill-cong}
-use Rattle.grids.specs.declared.StartAnswer.{StartAnswer}
-use Rattle.grids.specs.Table.{gridStart, gridWidth}
-use Rattle.grids.specs.Laws.{start-le, start-accepted}
+use Rattle.sigma_grids.specs.declared.StartAnswer.{StartAnswer}
+use Rattle.sigma_grids.specs.Table.{gridStart, gridWidth}
+use Rattle.sigma_grids.specs.Laws.{start-le, start-accepted}
 use Rattle.sigma.specs.Runs.{Holds, row-le, run-room, run-present, run-missing}
 use Rattle.sigma.proofs.fill_run.Statement.{statement}
 use Rattle.sigma.proofs.fill_run.Tie as tie

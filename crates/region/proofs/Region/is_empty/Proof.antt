@@ -4,7 +4,7 @@ use mathlib.Core.Bool.{true, false}
 use Prim.Native.Nat.{ℕ}
 use native.Mathlib.Omega.{arith}
 use borrow.Author.Needs.{needs}
-use Rattle.interval.proofs.Flags.{not-true, not-false, yes}
+use Rattle.region_interval.proofs.Flags.{not-true, not-false, yes}
 use Rattle.region.specs.Answers.{boolAnswer, given-fails, given-holds}
 use Rattle.region.specs.Regions.{isEmpty}
 use Rattle.region.specs.Measures.{measured}

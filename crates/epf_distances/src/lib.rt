@@ -1,0 +1,322 @@
+// Distances between the samples of a tile and their neighbours, from windows of 14 rows of 64 columns a plane.
+// A neighbour's distances are those of the opposite neighbour that far before, so a step has a field for each pair.
+use rounding::difference;
+ghost use mathlib.Core.Path.{_≡_};
+ghost use Prim.Native.Nat.{ℕ, _+_, _-_, _*_, _<_, _≤_};
+ghost use lib.ListN.{length, getD};
+ghost use lib.Ieee.{nan};
+ghost use Rattle.planes.specs.Samples.{_⊕_, _⊗_, b0};
+ghost use Rattle.planes.specs.Fill.{fill};
+ghost use Rattle.epf_step.specs.Steps.{scaled};
+ghost use Rattle.epf_distances.specs.Seen.{nearby as nearbyOf, apartBy};
+ghost use Rattle.epf_distances.specs.Taps.{half as halfOf, shift as shiftOf, fieldOf, tapOf};
+ghost use Rattle.epf_distances.specs.Fields.{distAt, fieldsFill, distancesOf};
+
+const PLANES: usize = 3;
+
+// Positions of a window's row, of a plane's window and of three planes' windows; the place of a sample in its own window.
+const STRIDE: usize = 64;
+
+const PLANE: usize = 896;
+
+pub const WINDOWS: usize = 2688;
+
+const CENTRE: usize = 196;
+
+// Past the last of 56 lanes of a tile of no rows: CENTRE + 56 - STRIDE.
+const PAST: usize = 188;
+
+// The most fields of a step, one for each pair of opposite neighbours, and their positions: a plane's for each.
+const PAIRS: usize = 6;
+
+pub const FIELDS: usize = 5376;
+
+// The most rows of a tile.
+const ROWS: usize = 8;
+
+// A neighbour's place in the window of a sample, and where its distances start among the fields.
+pub struct Tap {
+    pub place: usize,
+    pub start: usize,
+}
+
+// How many fields a step has.
+fn half(step: usize) -> usize
+    ensures { λ r. ⌜ r ≡ halfOf step ⌝ }
+{
+    if step == 0 { PAIRS } else { 2 }
+}
+
+// How far apart the places are that field h of step 0 compares.
+fn shift_of_first(h: usize) -> usize
+    ensures { λ r. ⌜ r ≡ shiftOf 0 h ⌝ }
+{
+    if h == 0 {
+        return 1;
+    }
+    if h == 1 {
+        return 2;
+    }
+    if h == 2 {
+        return 63;
+    }
+    if h == 3 {
+        return 64;
+    }
+    if h == 4 { 65 } else { 128 }
+}
+
+// The same of every step.
+fn shift(step: usize, h: usize) -> usize
+    ensures { λ r. ⌜ r ≡ shiftOf step h ⌝ }
+{
+    if step == 0 {
+        return shift_of_first(h);
+    }
+    if h == 0 { 1 } else { 64 }
+}
+
+fn ahead(step: usize, h: usize) -> Tap
+    requires { ⌜ h < 6 ⌝ }
+    ensures { λ r. ⌜ r ≡ record { place = 196 + shiftOf step h; start = h * 896 + 196 } ⌝ }
+{
+    Tap {
+        place: CENTRE + shift(step, h),
+        start: h * PLANE + CENTRE,
+    }
+}
+
+fn behind(step: usize, h: usize) -> Tap
+    requires { ⌜ h < 6 ⌝ }
+    ensures { λ r. ⌜ r ≡ record { place = 196 - shiftOf step h; start = h * 896 + (196 - shiftOf step h) } ⌝ }
+{
+    let place = CENTRE - shift(step, h);
+    Tap {
+        place,
+        start: h * PLANE + place,
+    }
+}
+
+// The field of neighbour q.
+fn field_of(step: usize, q: usize) -> usize
+    ensures { λ r. ⌜ r ≡ fieldOf step q ⌝ }
+{
+    if step == 0 {
+        if q < PAIRS {
+            return PAIRS - 1 - q;
+        }
+        if q < 2 * PAIRS {
+            return q - PAIRS;
+        }
+        return PAIRS - 1;
+    }
+    if q < 2 { 1 } else { 0 }
+}
+
+// Neighbour q, counted in the order of the kernel offsets.
+pub fn neighbour(step: usize, q: usize) -> Tap
+    ensures { λ r. ⌜ r ≡ tapOf step q ⌝ }
+{
+    let h = field_of(step, q);
+    if step == 0 {
+        if q < 6 {
+            return behind(step, h);
+        }
+        return ahead(step, h);
+    }
+    if q % 2 == 1 {
+        return ahead(step, h);
+    }
+    behind(step, h)
+}
+
+// |differences| between the places from position `from` on and those k after them, in plane c.
+fn differences(
+    d: &mut [f32; PLANE],
+    win: &[f32; WINDOWS],
+    c: usize,
+    k: usize,
+    from: usize,
+    n: usize,
+)
+    requires { ⌜ (c < 3) × (from + n + k ≤ 896) ⌝ }
+    ensures { λ _. ⌜ now (d .exit) ≡ fill (now (d .entry)) from n (λ (i : ℕ). apartBy (now (win .entry)) c k (from + i)) ⌝ }
+{
+    let base = c * PLANE;
+    let mut i = 0;
+    while i < n {
+        let p = from + i;
+        d[from + i] = difference(win[base + (p + k)], win[base + p]);
+        i += 1;
+    }
+}
+
+// The differences that a distance of step 0 or 1 sums at position j, in its order.
+fn nearby(step: usize, d: &[f32; PLANE], j: usize) -> f32
+    requires { ⌜ (step < 2) × (64 ≤ j) × (j + 64 < 896) ⌝ }
+    ensures { λ r. ⌜ r ≡ nearbyOf step (λ (p : ℕ). getD (now (d .entry)) p nan) j ⌝ }
+{
+    if step == 0 {
+        return 0.0 + d[j - STRIDE] + d[j + 1] + d[j] + d[j - 1] + d[j + STRIDE];
+    }
+    0.0 + d[j - STRIDE] + d[j] + d[j + STRIDE] + d[j - 1] + d[j + 1]
+}
+
+// Adds a channel's scaled sums of differences to n distances.
+fn add_nearby(
+    fields: &mut [f32; FIELDS],
+    at: usize,
+    d: &[f32; PLANE],
+    scale: f32,
+    step: usize,
+    from: usize,
+    n: usize,
+)
+    requires { ⌜ (step < 2) × (64 ≤ from) × (from + n + 64 ≤ 896) × (at + n ≤ 5376) ⌝ }
+    ensures { λ _. ⌜ now (fields .exit) ≡ fill (now (fields .entry)) at n (λ (i : ℕ). getD (now (fields .entry)) (at + i) nan ⊕ scale ⊗ nearbyOf step (λ (p : ℕ). getD (now (d .entry)) p nan) (from + i)) ⌝ }
+{
+    let mut i = 0;
+    while i < n {
+        fields[at + i] = fields[at + i] + scale * nearby(step, d, from + i);
+        i += 1;
+    }
+}
+
+// The same of step 2, which compares single samples.
+fn add_single(
+    fields: &mut [f32; FIELDS],
+    at: usize,
+    win: &[f32; WINDOWS],
+    c: usize,
+    k: usize,
+    scale: f32,
+    from: usize,
+    n: usize,
+)
+    requires { ⌜ (c < 3) × (from + n + k ≤ 896) × (at + n ≤ 5376) ⌝ }
+    ensures { λ _. ⌜ now (fields .exit) ≡ fill (now (fields .entry)) at n (λ (i : ℕ). getD (now (fields .entry)) (at + i) nan ⊕ scale ⊗ nearbyOf 2 (apartBy (now (win .entry)) c k) (from + i)) ⌝ }
+{
+    let base = c * PLANE;
+    let mut i = 0;
+    while i < n {
+        let p = from + i;
+        fields[at + i] = fields[at + i]
+            + scale * (0.0 + difference(win[base + (p + k)], win[base + p]));
+        i += 1;
+    }
+}
+
+// Adds channel c to n distances.
+fn add_channel(
+    fields: &mut [f32; FIELDS],
+    at: usize,
+    d: &mut [f32; PLANE],
+    win: &[f32; WINDOWS],
+    c: usize,
+    step: usize,
+    k: usize,
+    scale: f32,
+    from: usize,
+    n: usize,
+)
+    requires { ⌜ (length (now d) ≡ 896) × (c < 3) × (64 ≤ from) × (from + n + 64 + k ≤ 896) × (at + n ≤ 5376) ⌝ }
+    ensures { λ _. ⌜ (now (fields .exit) ≡ fill (now (fields .entry)) at n (λ (i : ℕ). getD (now (fields .entry)) (at + i) nan ⊕ scale ⊗ nearbyOf step (apartBy (now (win .entry)) c k) (from + i))) × (length (now (d .exit)) ≡ 896) ⌝ }
+{
+    if 1 < step {
+        add_single(fields, at, win, c, k, scale, from, n);
+        return;
+    }
+    differences(d, win, c, k, from - STRIDE, n + 2 * STRIDE);
+    add_nearby(fields, at, d, scale, step, from, n);
+}
+
+fn clear(fields: &mut [f32; FIELDS], at: usize, n: usize)
+    requires { ⌜ at + n ≤ 5376 ⌝ }
+    ensures { λ _. ⌜ now (fields .exit) ≡ fill (now (fields .entry)) at n (λ (i : ℕ). b0) ⌝ }
+{
+    let mut i = 0;
+    while i < n {
+        fields[at + i] = 0.0;
+        i += 1;
+    }
+}
+
+// n distances from position `from` on, between places that lie k apart.
+fn field(
+    fields: &mut [f32; FIELDS],
+    at: usize,
+    d: &mut [f32; PLANE],
+    win: &[f32; WINDOWS],
+    step: usize,
+    k: usize,
+    scales: &[f32; PLANES],
+    planes: usize,
+    from: usize,
+    n: usize,
+)
+    requires { ⌜ (length (now d) ≡ 896) × (planes ≤ 3) × (64 ≤ from) × (from + n + 64 + k ≤ 896) × (at + n ≤ 5376) ⌝ }
+    ensures { λ _. ⌜ (now (fields .exit) ≡ fill (now (fields .entry)) at n (λ (i : ℕ). distAt step (scaled planes (now (scales .entry))) (now (win .entry)) k (from + i))) × (length (now (d .exit)) ≡ 896) ⌝ }
+{
+    clear(fields, at, n);
+    let mut c = 0;
+    while c < planes {
+        add_channel(fields, at, d, win, c, step, k, scales[c], from, n);
+        c += 1;
+    }
+}
+
+fn fill_fields(
+    fields: &mut [f32; FIELDS],
+    win: &[f32; WINDOWS],
+    step: usize,
+    scales: &[f32; PLANES],
+    planes: usize,
+    rows: usize,
+)
+    requires { ⌜ (planes ≤ 3) × (1 ≤ rows) × (rows ≤ 8) ⌝ }
+    ensures { λ _. ⌜ now (fields .exit) ≡ fieldsFill step (scaled planes (now (scales .entry))) (now (win .entry)) rows (now (fields .entry)) (halfOf step) ⌝ }
+{
+    let mut d = [0.0; PLANE];
+    let count = half(step);
+    let mut h = 0;
+    while h < count {
+        let k = shift(step, h);
+        let from = CENTRE - k;
+        field(
+            fields,
+            h * PLANE + from,
+            &mut d,
+            win,
+            step,
+            k,
+            scales,
+            planes,
+            from,
+            rows * STRIDE + PAST - from,
+        );
+        h += 1;
+    }
+}
+
+// The fields of a tile of one to eight rows, from windows of at most three planes; nothing for other numbers.
+pub fn distances(
+    fields: &mut [f32; FIELDS],
+    win: &[f32; WINDOWS],
+    step: usize,
+    scales: &[f32; PLANES],
+    planes: usize,
+    rows: usize,
+)
+    ensures { λ _. ⌜ now (fields .exit) ≡ distancesOf step planes (now (scales .entry)) (now (win .entry)) rows (now (fields .entry)) ⌝ }
+{
+    if PLANES < planes {
+        return;
+    }
+    if rows < 1 {
+        return;
+    }
+    if ROWS < rows {
+        return;
+    }
+    fill_fields(fields, win, step, scales, planes, rows)
+}

@@ -1,0 +1,46 @@
+-- `epf_lanes::filter_rows` meets its contract. The invariant: r rows are there. Assumes nothing.
+use mathlib.Core.Path.{_≡_, refl, _∙_}
+use Prim.Native.Nat.{ℕ, _+_, _-_, _≤_}
+use native.Mathlib.Omega.{arith}
+use borrow.Author.Needs.{needs}
+use denote.Ref.{now}
+use lib.ListN.{length}
+use Rattle.planes.specs.Rect.{planesFill}
+use Rattle.epf_slopes.specs.Slopes.{firstSlope, first-same, first-small}
+use Rattle.epf_lanes.specs.Lanes.{laneOf, row-next, rows-done, rows-end}
+use Rattle.epf_lanes.proofs.filter_rows.Statement.{statement}
+use Rattle.epf_lanes.proofs.filter_rows.Tie as tie
+
+abbrev Inv-loop : tie.InvT-loop
+Inv-loop out₀ e slopes win step planes top rows t₀ sum₀ offset r₀ out t sum r =
+    (r ≤ rows) × (length out ≡ length out₀) × (length t ≡ 768) × (length sum ≡ 64)
+    × (out ≡ planesFill 64 8 0 56 0 r (λ (c : ℕ) (i : ℕ) (r : ℕ). laneOf step e slopes win (firstSlope (top + r)) c i r) out₀ planes)
+
+abbrev μ-loop : tie.MeasureT-loop
+μ-loop out₀ e slopes win step planes top rows t₀ sum₀ offset r₀ out t sum r = rows - r
+
+loop-again : tie.Need-loop-again Inv-loop μ-loop
+loop-again c =
+    let l = c .before .before .before .before .before .before .before .before in let s = l .before .before in let f = c .before .before .filter-row in (
+      omega arith,
+      f .kept .0 ∙ l .loop .inv .1,
+      f .ensures .1,
+      f .ensures .2,
+      row-next (λ (c : ℕ) (i : ℕ) (r : ℕ). laneOf (s .args .step) (now (s .args .fields)) (now (s .args .slopes)) (now (s .args .win)) (firstSlope (s .args .top + r)) c i r) _ _ _ (s .args .planes) (l .loop .r) (omega arith) (omega arith) (s .pre .0) (l .loop .inv .4)
+          (rw (← (first-same _ (s .args .top) (l .loop .r) (c .before .before .before .before .before .before .first-slope .ensures))) (f .ensures .0)),
+    )
+
+pub filter-rows-spec : {M : Type 1} → statement M
+filter-rows-spec = tie.close
+    (tie.spec
+    Inv-loop
+    μ-loop
+    (λ c. (omega arith, refl, refl, refl, rows-done _ _ _))
+    (λ c. omega arith)
+    (λ c κs. search needs)
+    (λ c κs. let l = c .before .before .before .before .before in let inv = l .loop .inv in omega (arith, inv, l .before .before .pre, first-small _ _ (c .before .before .before .first-slope .ensures)))
+    (λ c. omega arith)
+    (λ c. omega arith)
+    loop-again
+    (λ c. c .before .loop .inv .1)
+    (λ c. let inv = c .before .loop .inv in rows-end _ _ _ _ _ _ (inv .4) (inv .0) (c .loop-test .left)))

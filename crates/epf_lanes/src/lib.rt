@@ -1,0 +1,317 @@
+// Weighted sums of a tile of an edge-preserving step, 56 lanes of a row at a time: from fields of distances, slopes and windows.
+// A tile has at most three planes of eight rows of 64 columns. Each loop goes along a row, so that it becomes vector code.
+use epf_distances::FIELDS;
+use epf_distances::WINDOWS;
+use epf_distances::neighbour;
+use epf_slopes::SLOPES;
+use epf_slopes::first_slope;
+use epf_step::kernel_len;
+use epf_step::weight;
+ghost use mathlib.Core.Path.{_≡_};
+ghost use Prim.Native.Nat.{ℕ, _+_, _-_, _*_, _%_, _<_, _≤_};
+ghost use lib.ListN.{length, getD};
+ghost use lib.Ieee.{nan};
+ghost use Rattle.planes.specs.Samples.{_⊕_, _⊗_, _⊘_, b1};
+ghost use Rattle.planes.specs.Fill.{fill};
+ghost use Rattle.planes.specs.Rect.{planesFill};
+ghost use Rattle.epf_step.specs.Steps.{kernel, weightBy};
+ghost use Rattle.epf_distances.specs.Taps.{tapOf};
+ghost use Rattle.epf_slopes.specs.Slopes.{firstSlope};
+ghost use Rattle.epf_lanes.specs.Lanes.{weightOf, storedTo, laneOf, lanesOf, Weighed};
+ghost use Rattle.epf_lanes.specs.Divisors.{DivisorsBounded};
+
+// Lanes that are computed, columns of a tile's row and samples of a tile's plane.
+const LANES: usize = 56;
+
+const STRIDE: usize = 64;
+
+const TILE_PLANE: usize = 512;
+
+// Samples of a plane's window, and the place of a sample in its own window.
+const PLANE: usize = 896;
+
+const CENTRE: usize = 196;
+
+const PLANES: usize = 3;
+
+pub const TILE: usize = 1536;
+
+const ROWS: usize = 8;
+
+const BLOCK: usize = 8;
+
+// The weights of a row: a stride for each of at most twelve neighbours.
+const WEIGHTS: usize = 768;
+
+fn ones(sum: &mut [f32; STRIDE])
+    ensures { λ _. ⌜ now (sum .exit) ≡ fill (now (sum .entry)) 0 56 (λ (i : ℕ). b1) ⌝ }
+{
+    let mut i = 0;
+    while i < LANES {
+        sum[i] = 1.0;
+        i += 1;
+    }
+}
+
+// The weights of one neighbour, and their sums.
+fn weigh(
+    stored: &mut [f32; WEIGHTS],
+    at: usize,
+    sum: &mut [f32; STRIDE],
+    fields: &[f32; FIELDS],
+    from: usize,
+    slopes: &[f32; SLOPES],
+    first: usize,
+)
+    requires { ⌜ (at + 56 ≤ 768) × (from + 56 ≤ 5376) × (first + 56 ≤ 128) ⌝ }
+    ensures { λ _. ⌜ (now (stored .exit) ≡ fill (now (stored .entry)) at 56 (λ (i : ℕ). weightBy (getD (now (slopes .entry)) (first + i) nan) (getD (now (fields .entry)) (from + i) nan))) × (now (sum .exit) ≡ fill (now (sum .entry)) 0 56 (λ (i : ℕ). getD (now (sum .entry)) (0 + i) nan ⊕ weightBy (getD (now (slopes .entry)) (first + i) nan) (getD (now (fields .entry)) (from + i) nan))) ⌝ }
+{
+    let mut i = 0;
+    while i < LANES {
+        let w = weight(fields[from + i], slopes[first + i]);
+        stored[at + i] = w;
+        sum[i] = sum[i] + w;
+        i += 1;
+    }
+}
+
+// The weights of all neighbours of row r, and the divisors: 1 plus the weights, with their bounds.
+fn weigh_all(
+    stored: &mut [f32; WEIGHTS],
+    sum: &mut [f32; STRIDE],
+    fields: &[f32; FIELDS],
+    slopes: &[f32; SLOPES],
+    step: usize,
+    r: usize,
+    first: usize,
+)
+    requires { ⌜ (length (now stored) ≡ 768) × (length (now sum) ≡ 64) × (r < 8) × (first ≤ 64) ⌝ }
+    ensures { λ _. ⌜ Weighed (λ (i : ℕ) (q : ℕ). weightOf step (now (fields .entry)) (now (slopes .entry)) first r i q) (now (stored .exit)) (now (sum .exit)) (length (kernel step)) × DivisorsBounded step (now (fields .entry)) (now (slopes .entry)) first r (now (sum .exit)) ⌝ }
+{
+    ones(sum);
+    let n = kernel_len(step);
+    let mut q = 0;
+    while q < n {
+        let start = neighbour(step, q).start;
+        weigh(
+            stored,
+            q * STRIDE,
+            sum,
+            fields,
+            start + r * STRIDE,
+            slopes,
+            first,
+        );
+        q += 1;
+    }
+}
+
+// The samples themselves.
+fn centre(out: &mut [f32], at: usize, win: &[f32; WINDOWS], from: usize)
+    requires { ⌜ (at + 56 ≤ length (now out)) × (from + 56 ≤ 2688) ⌝ }
+    ensures { λ _. ⌜ now (out .exit) ≡ fill (now (out .entry)) at 56 (λ (i : ℕ). getD (now (win .entry)) (from + i) nan) ⌝ }
+{
+    let mut i = 0;
+    while i < LANES {
+        out[at + i] = win[from + i];
+        i += 1;
+    }
+}
+
+// A lane's sum with four weighted neighbours more: weights from index a on, samples at four places.
+fn with_four(
+    x: f32,
+    stored: &[f32; WEIGHTS],
+    a: usize,
+    win: &[f32; WINDOWS],
+    k0: usize,
+    k1: usize,
+    k2: usize,
+    k3: usize,
+) -> f32
+    requires { ⌜ (a + 192 < 768) × (k0 < 2688) × (k1 < 2688) × (k2 < 2688) × (k3 < 2688) ⌝ }
+    ensures { λ r. ⌜ r ≡ x ⊕ getD (now (stored .entry)) a nan ⊗ getD (now (win .entry)) k0 nan ⊕ getD (now (stored .entry)) (a + 64) nan ⊗ getD (now (win .entry)) k1 nan ⊕ getD (now (stored .entry)) (a + 128) nan ⊗ getD (now (win .entry)) k2 nan ⊕ getD (now (stored .entry)) (a + 192) nan ⊗ getD (now (win .entry)) k3 nan ⌝ }
+{
+    let half = x + stored[a] * win[k0] + stored[a + STRIDE] * win[k1];
+    half + stored[a + 2 * STRIDE] * win[k2] + stored[a + 3 * STRIDE] * win[k3]
+}
+
+// Adds four neighbours to 56 lanes.
+fn add_four(
+    out: &mut [f32],
+    at: usize,
+    stored: &[f32; WEIGHTS],
+    a: usize,
+    win: &[f32; WINDOWS],
+    k0: usize,
+    k1: usize,
+    k2: usize,
+    k3: usize,
+)
+    requires { ⌜ (at + 56 ≤ length (now out)) × (a + 248 ≤ 768) × (k0 + 56 ≤ 2688) × (k1 + 56 ≤ 2688) × (k2 + 56 ≤ 2688) × (k3 + 56 ≤ 2688) ⌝ }
+    ensures { λ _. ⌜ now (out .exit) ≡ fill (now (out .entry)) at 56 (λ (i : ℕ). getD (now (out .entry)) (at + i) nan ⊕ getD (now (stored .entry)) (a + i) nan ⊗ getD (now (win .entry)) (k0 + i) nan ⊕ getD (now (stored .entry)) (a + i + 64) nan ⊗ getD (now (win .entry)) (k1 + i) nan ⊕ getD (now (stored .entry)) (a + i + 128) nan ⊗ getD (now (win .entry)) (k2 + i) nan ⊕ getD (now (stored .entry)) (a + i + 192) nan ⊗ getD (now (win .entry)) (k3 + i) nan) ⌝ }
+{
+    let mut i = 0;
+    while i < LANES {
+        out[at + i] = with_four(
+            out[at + i],
+            stored,
+            a + i,
+            win,
+            k0 + i,
+            k1 + i,
+            k2 + i,
+            k3 + i,
+        );
+        i += 1;
+    }
+}
+
+fn divide(out: &mut [f32], at: usize, sum: &[f32; STRIDE])
+    requires { ⌜ at + 56 ≤ length (now out) ⌝ }
+    ensures { λ _. ⌜ now (out .exit) ≡ fill (now (out .entry)) at 56 (λ (i : ℕ). getD (now (out .entry)) (at + i) nan ⊘ getD (now (sum .entry)) i nan) ⌝ }
+{
+    let mut i = 0;
+    while i < LANES {
+        out[at + i] = out[at + i] / sum[i];
+        i += 1;
+    }
+}
+
+// Where the samples of neighbour q start in a window, for lanes that start at `base`.
+fn samples_at(base: usize, step: usize, q: usize) -> usize
+    requires { ⌜ (base ≤ 2304) × (q < length (kernel step)) ⌝ }
+    ensures { λ r. ⌜ (r ≡ base + tapOf step q .place) × (r ≤ base + 324) ⌝ }
+{
+    base + neighbour(step, q).place
+}
+
+// Row r of plane c: the samples and their weighted neighbours.
+fn blend(
+    out: &mut [f32],
+    at: usize,
+    stored: &[f32; WEIGHTS],
+    win: &[f32; WINDOWS],
+    c: usize,
+    r: usize,
+    step: usize,
+)
+    requires { ⌜ (at + 56 ≤ length (now out)) × (c < 3) × (r < 8) ⌝ }
+    ensures { λ _. ⌜ now (out .exit) ≡ fill (now (out .entry)) at 56 (storedTo step (now (stored .entry)) (now (win .entry)) c r (length (kernel step))) ⌝ }
+{
+    let base = c * PLANE + r * STRIDE;
+    centre(out, at, win, base + CENTRE);
+    let n = kernel_len(step);
+    let mut q = 0;
+    while q < n {
+        let k0 = samples_at(base, step, q);
+        let k1 = samples_at(base, step, q + 1);
+        let k2 = samples_at(base, step, q + 2);
+        let k3 = samples_at(base, step, q + 3);
+        add_four(out, at, stored, q * STRIDE, win, k0, k1, k2, k3);
+        q += 4;
+    }
+}
+
+// Row r of each plane, divided by the sums of the weights.
+fn blend_planes(
+    out: &mut [f32],
+    stored: &[f32; WEIGHTS],
+    sum: &[f32; STRIDE],
+    win: &[f32; WINDOWS],
+    step: usize,
+    planes: usize,
+    r: usize,
+)
+    requires { ⌜ (length (now out) ≡ 1536) × (planes ≤ 3) × (r < 8) ⌝ }
+    ensures { λ _. ⌜ now (out .exit) ≡ planesFill 64 8 0 56 r 1 (λ (c : ℕ) (i : ℕ) (j : ℕ). storedTo step (now (stored .entry)) (now (win .entry)) c r (length (kernel step)) i ⊘ getD (now (sum .entry)) i nan) (now (out .entry)) planes ⌝ }
+{
+    let mut c = 0;
+    while c < planes {
+        let at = c * TILE_PLANE + r * STRIDE;
+        blend(out, at, stored, win, c, r, step);
+        divide(out, at, sum);
+        c += 1;
+    }
+}
+
+// The lanes of row r, whose slopes start at `first`.
+fn filter_row(
+    out: &mut [f32],
+    stored: &mut [f32; WEIGHTS],
+    sum: &mut [f32; STRIDE],
+    fields: &[f32; FIELDS],
+    slopes: &[f32; SLOPES],
+    win: &[f32; WINDOWS],
+    step: usize,
+    planes: usize,
+    r: usize,
+    first: usize,
+)
+    requires { ⌜ (length (now out) ≡ 1536) × (length (now stored) ≡ 768) × (length (now sum) ≡ 64) × (planes ≤ 3) × (r < 8) × (first ≤ 64) ⌝ }
+    ensures { λ _. ⌜ (now (out .exit) ≡ planesFill 64 8 0 56 r 1 (λ (c : ℕ) (i : ℕ) (j : ℕ). laneOf step (now (fields .entry)) (now (slopes .entry)) (now (win .entry)) first c i r) (now (out .entry)) planes) × (length (now (stored .exit)) ≡ 768) × (length (now (sum .exit)) ≡ 64) ⌝ }
+{
+    weigh_all(stored, sum, fields, slopes, step, r, first);
+    blend_planes(out, stored, sum, win, step, planes, r);
+}
+
+// The rows of a tile; row 0 is row `top` of the image.
+fn filter_rows(
+    out: &mut [f32],
+    fields: &[f32; FIELDS],
+    slopes: &[f32; SLOPES],
+    win: &[f32; WINDOWS],
+    step: usize,
+    planes: usize,
+    top: usize,
+    rows: usize,
+)
+    requires { ⌜ (length (now out) ≡ 1536) × (planes ≤ 3) × (rows ≤ 8) ⌝ }
+    ensures { λ _. ⌜ now (out .exit) ≡ planesFill 64 8 0 56 0 rows (λ (c : ℕ) (i : ℕ) (r : ℕ). laneOf step (now (fields .entry)) (now (slopes .entry)) (now (win .entry)) (firstSlope (top + r)) c i r) (now (out .entry)) planes ⌝ }
+{
+    let mut stored = [0.0; WEIGHTS];
+    let mut sum = [0.0; STRIDE];
+    let offset = top % BLOCK;
+    let mut r = 0;
+    while r < rows {
+        let first = first_slope(offset + r);
+        filter_row(
+            out,
+            &mut stored,
+            &mut sum,
+            fields,
+            slopes,
+            win,
+            step,
+            planes,
+            r,
+            first,
+        );
+        r += 1;
+    }
+}
+
+// The lanes of a tile of at most three planes and eight rows; nothing for more, or where `out` is no tile.
+pub fn filter_tile(
+    out: &mut [f32],
+    fields: &[f32; FIELDS],
+    slopes: &[f32; SLOPES],
+    win: &[f32; WINDOWS],
+    step: usize,
+    planes: usize,
+    top: usize,
+    rows: usize,
+)
+    ensures { λ _. ⌜ now (out .exit) ≡ lanesOf step (now (fields .entry)) (now (slopes .entry)) (now (win .entry)) planes top rows (now (out .entry)) ⌝ }
+{
+    if out.len() != TILE {
+        return;
+    }
+    if PLANES < planes {
+        return;
+    }
+    if ROWS < rows {
+        return;
+    }
+    filter_rows(out, fields, slopes, win, step, planes, top, rows)
+}

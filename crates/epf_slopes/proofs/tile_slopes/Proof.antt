@@ -1,0 +1,18 @@
+-- `epf_slopes::tile_slopes` meets its contract. Both kinds of rows, one after the other; where a test fails the slopes are as they were. Assumes nothing.
+use mathlib.Core.Path.{sym, _∙_}
+use native.Mathlib.Omega.{arith}
+use denote.Ref.{now}
+use Rattle.epf_slopes.specs.Slopes.{many-blocks, few-sigmas, slopes-done}
+use Rattle.epf_slopes.proofs.tile_slopes.Statement.{statement}
+use Rattle.epf_slopes.proofs.tile_slopes.Tie as tie
+
+pub tile-slopes-spec : {M : Type 1} → statement M
+tile-slopes-spec = tie.close
+    (tie.spec
+    (λ c. many-blocks _ _ _ _ _ _ (c .if1 .taken))
+    (λ c. few-sigmas _ _ _ _ _ _ (omega arith))
+    (λ c. omega arith)
+    (λ c. few-sigmas _ _ _ _ _ _ (omega arith))
+    (λ c κs. omega arith)
+    (λ c κs. omega arith)
+    (λ c. let s = c .before .before .before .before .before .before .before .before .args in c .row-slopes2 .ensures ∙ rw (c .before .before .row-slopes .ensures) (sym (slopes-done (now (s .sigmas)) (s .first) (s .blocks) (s .scale) (s .edge) (now (s .slopes)) (omega arith) (omega arith)))))

@@ -1,0 +1,110 @@
+// The slopes of a tile's columns, from the sigmas of its blocks: those of rows at no block's border, then those of rows that lie at one.
+use epf_step::at_border;
+use epf_step::multiplier;
+use epf_step::slope;
+ghost use mathlib.Core.Path.{_≡_};
+ghost use Prim.Native.Nat.{ℕ, _+_, _*_, _<_, _≤_};
+ghost use lib.ListN.{length};
+ghost use Rattle.planes.specs.Samples.{_⊗_};
+ghost use Rattle.planes.specs.Fill.{fill};
+ghost use Rattle.epf_step.specs.Steps.{multiplier as multiplierOf};
+ghost use Rattle.epf_slopes.specs.Slopes.{slopeAt, firstSlope, slopesOf};
+
+// Columns of a block, and the most blocks of a tile.
+const BLOCK: usize = 8;
+
+const BLOCKS: usize = 7;
+
+// Where the slopes of border rows start, and how many slopes there are.
+const BORDER: usize = 64;
+
+pub const SLOPES: usize = 128;
+
+// Image rows that stand for those at no border and for those at one.
+const INNER_ROW: usize = 1;
+
+const BORDER_ROW: usize = 0;
+
+// Where the slopes of a row of the image start.
+pub fn first_slope(row: usize) -> usize
+    ensures { λ r. ⌜ r ≡ firstSlope row ⌝ }
+{
+    if at_border(row) {
+        return BORDER;
+    }
+    0
+}
+
+// Eight columns of a block.
+fn block_slopes(
+    slopes: &mut [f32; SLOPES],
+    at: usize,
+    slope: f32,
+    scale: f32,
+    edge: f32,
+    row: usize,
+)
+    requires { ⌜ at + 8 ≤ 128 ⌝ }
+    ensures { λ _. ⌜ now (slopes .exit) ≡ fill (now (slopes .entry)) at 8 (λ (i : ℕ). slope ⊗ multiplierOf scale edge row i) ⌝ }
+{
+    let mut i = 0;
+    while i < BLOCK {
+        slopes[at + i] = slope * multiplier(scale, edge, row, i);
+        i += 1;
+    }
+}
+
+// The columns of some blocks, of rows like this one.
+fn row_slopes(
+    slopes: &mut [f32; SLOPES],
+    at: usize,
+    sigmas: &[f32],
+    first: usize,
+    blocks: usize,
+    scale: f32,
+    edge: f32,
+    row: usize,
+)
+    requires { ⌜ (at ≤ 64) × (blocks ≤ 7) × (first + blocks ≤ length (now sigmas)) ⌝ }
+    ensures { λ _. ⌜ now (slopes .exit) ≡ fill (now (slopes .entry)) at (blocks * 8) (slopeAt (now (sigmas .entry)) first scale edge row) ⌝ }
+{
+    let mut b = 0;
+    while b < blocks {
+        let s = slope(sigmas[first + b]);
+        block_slopes(slopes, at + b * BLOCK, s, scale, edge, row);
+        b += 1;
+    }
+}
+
+// The slopes of at most seven blocks, whose sigmas start at `first`, with `border_sad_mul` as `edge`. Nothing for more blocks or where sigmas are missing.
+pub fn tile_slopes(
+    slopes: &mut [f32; SLOPES],
+    sigmas: &[f32],
+    first: usize,
+    blocks: usize,
+    scale: f32,
+    edge: f32,
+)
+    ensures { λ _. ⌜ now (slopes .exit) ≡ slopesOf (now (sigmas .entry)) first blocks scale edge (now (slopes .entry)) ⌝ }
+{
+    if BLOCKS < blocks {
+        return;
+    }
+    if sigmas.len() < blocks {
+        return;
+    }
+    if sigmas.len() - blocks < first {
+        return;
+    }
+    row_slopes(slopes, 0, sigmas, first, blocks, scale, edge, INNER_ROW);
+    row_slopes(
+        slopes,
+        BORDER,
+        sigmas,
+        first,
+        blocks,
+        scale,
+        edge,
+        BORDER_ROW,
+    );
+}

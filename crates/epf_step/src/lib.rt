@@ -1,0 +1,64 @@
+// The parts of one sample of an edge-preserving step (document 01, "Edge-preserving steps").
+ghost use mathlib.Core.Path.{_≡_};
+ghost use lib.ListN.{length};
+ghost use Rattle.planes.specs.Samples.{_⊘_};
+ghost use Rattle.epf_step.specs.Steps.{kernel, positive as positiveOf, falloff, weightBy, copied as copiedOf, border, multiplier as multiplierOf};
+ghost use Rattle.epf_step.specs.Bounds.{WeightBounded};
+
+// How many neighbours a step has.
+pub fn kernel_len(step: usize) -> usize
+    ensures { λ r. ⌜ r ≡ length (kernel step) ⌝ }
+{
+    if step == 0 { 12 } else { 4 }
+}
+
+// NaN and negatives become 0.
+fn positive(x: f32) -> f32
+    ensures { λ r. ⌜ r ≡ positiveOf x ⌝ }
+{
+    if x > 0.0 { x } else { 0.0 }
+}
+
+// A neighbour's weight from its distance; in 0 to 1 where the distance is not negative and the slope not positive.
+pub fn weight(distance: f32, slope: f32) -> f32
+    ensures { λ r. ⌜ (r ≡ weightBy slope distance) × WeightBounded distance slope r ⌝ }
+{
+    positive(1.0 + distance * slope)
+}
+
+// The slope of a block's weights, before the multiplier.
+pub fn slope(sigma: f32) -> f32
+    ensures { λ r. ⌜ r ≡ falloff ⊘ sigma ⌝ }
+{
+    6.6 * (0.70710677 - 1.0) / sigma
+}
+
+// Whether a block's samples are copied: NaN is under no limit.
+pub fn copied(sigma: f32, limit: f32) -> bool
+    ensures { λ r. ⌜ r ≡ copiedOf sigma limit ⌝ }
+{
+    sigma < limit
+}
+
+// Whether a row or a column lies at the border of a block.
+pub fn at_border(p: usize) -> bool
+    ensures { λ r. ⌜ r ≡ border p ⌝ }
+{
+    if p % 8 == 0 {
+        return true;
+    }
+    p % 8 == 7
+}
+
+// The multiplier of a sample, with `border_sad_mul` as `edge`: `row` counts as the image's top does, `col` from the filter region's left.
+pub fn multiplier(scale: f32, edge: f32, row: usize, col: usize) -> f32
+    ensures { λ r. ⌜ r ≡ multiplierOf scale edge row col ⌝ }
+{
+    if at_border(row) {
+        return scale * edge;
+    }
+    if at_border(col) {
+        return scale * edge;
+    }
+    scale
+}

@@ -1,0 +1,68 @@
+-- `epf_tiles::strips::strips` meets its contract. The invariant: the rows above y are there. Assumes nothing.
+use mathlib.Core.Path.{_≡_, refl, sym, _∙_}
+use Prim.Native.Nat.{ℕ, _+_, _-_, _≤_}
+use native.Mathlib.Omega.{arith}
+use borrow.Author.Needs.{needs}
+use denote.Ref.{now}
+use lib.ListN.{length}
+use Rattle.planes.specs.Rect.{planesFill}
+use Rattle.epf_tiles.specs.Tile.{Scratch, stepOver}
+use Rattle.epf_tiles.specs.Region.{StripFits, rows-start, strip-fits, strip-below, region-long}
+use Rattle.epf_tiles.proofs.strips.strips.Statement.{statement}
+use Rattle.epf_tiles.proofs.strips.strips.Tie as tie
+
+abbrev Inv-loop : tie.InvT-loop
+Inv-loop dst₀ src l n s sigmas top from to win₀ fields₀ slopes₀ lanes₀ y₀ dst win fields slopes lanes y =
+    (from ≤ y) × (y ≤ to) × (length dst ≡ length dst₀) × Scratch win fields slopes lanes
+    × (dst ≡ planesFill (l .image .width) (l .image .height) (l .left) (l .width) (l .top + from) (y - from) (λ (c : ℕ) (i : ℕ) (r : ℕ). stepOver n l s top sigmas src c i (from + r)) dst₀ n)
+
+abbrev μ-loop : tie.MeasureT-loop
+μ-loop dst₀ src l n s sigmas top from to win₀ fields₀ slopes₀ lanes₀ y₀ dst win fields slopes lanes y = to - y
+
+-- in a turn
+module _ (c : tie.After-at-most Inv-loop μ-loop) where
+  abbrev start : tie.Start Inv-loop μ-loop
+  start = c .before .before .before .before .before .before
+
+  abbrev at : tie.At-loop Inv-loop μ-loop
+  at = c .before .before
+
+  fits : StripFits (start .args .l) (at .loop .y) (c .at-most .result)
+  fits = strip-fits (start .args .l) (at .loop .y) (start .args .to) _ (c .before .loop-test .taken) (start .pre .3) (c .at-most .ensures)
+
+loop-again : tie.Need-loop-again Inv-loop μ-loop
+loop-again c =
+    let d = c .before .before .before .before .before .before .before .before .before in
+    let s = start d in
+    let a = s .args in
+    let inv = at d .loop .inv in
+    let t = c .before .before .before .strip in (
+      omega (arith, inv .0),
+      omega (arith, d .at-most .ensures),
+      t .kept .0 ∙ inv .2,
+      t .ensures .1,
+      strip-below (a .l) (a .n) (stepOver (a .n) (a .l) (a .s) (a .top) (now (a .sigmas)) (now (a .src))) _ _ _ (a .from) (at d .loop .y) _ (s .pre .0 .set) (s .pre .0 .layout) (inv .0) (fits d .inside) (inv .4) (t .ensures .0),
+    )
+
+returns : tie.Need-returns Inv-loop μ-loop
+returns c =
+    let inv = c .before .loop .inv in
+    let z : c .before .loop .y ≡ c .before .before .before .before .before .args .to = omega (arith, inv .1, c .loop-test .left) in
+    rw z at (inv .4)
+
+pub strips-spec : {M : Type 1} → statement M
+strips-spec = tie.close
+    (tie.spec
+    Inv-loop
+    μ-loop
+    (λ c. (omega arith, c .before .before .before .pre .2, refl, record { windows = refl; far = refl; steep = refl; tile = refl }, rows-start _ _ _ _ _ _ _ _ _))
+    (λ c. omega arith)
+    (λ c. omega arith)
+    (λ c κs. search needs)
+    (λ c. sym (c .before .before .before .before .before .before .before .loop .inv .3 .tile))
+    (λ c κs. let d = c .before .before .before .before .before in let s = start d in let inv = at d .loop .inv in (region-long (inv .2) (s .pre .0), omega (arith, inv .2, s .pre .1), fits d, inv .3))
+    (λ c. let d = c .before .before .before .before .before .before .before .before .before in omega (arith, fits d .inside, start d .pre .0 .layout))
+    (λ c. let d = c .before .before .before .before .before .before .before .before .before in omega (arith, fits d .some, d .at-most .ensures))
+    loop-again
+    (λ c. c .before .loop .inv .2)
+    returns)

@@ -1,0 +1,149 @@
+// Rows of the filter region, by strips that lie within one row of blocks.
+use crate::Step;
+use crate::tile::blocks_of;
+use crate::tile::tile;
+use epf_distances::FIELDS;
+use epf_distances::WINDOWS;
+use epf_lanes::TILE;
+use epf_rects::Rect;
+use epf_slopes::SLOPES;
+use planes::Layout;
+use planes::at_most;
+use planes::set_fits;
+ghost use mathlib.Core.Path.{_≡_};
+ghost use Prim.Native.Nat.{ℕ, _+_, _-_, _*_, _<_, _≤_};
+ghost use lib.ListN.{length};
+ghost use Rattle.planes.specs.Rect.{planesFill};
+ghost use Rattle.epf_tiles.specs.Tile.{Scratch, stepOver};
+ghost use Rattle.epf_tiles.specs.Region.{RegionFits, StripFits, regionOf};
+
+// Columns of a tile, and rows and columns of a block.
+const COLUMNS: usize = 56;
+
+const BLOCK: usize = 8;
+
+const LAST_STEP: usize = 2;
+
+// A top of a region, which is an i32, is less; below it rows are counted without a carry.
+const MAX_TOP: usize = 4_294_967_296;
+
+// A strip of rows, tile after tile.
+fn strip(
+    dst: &mut [f32],
+    src: &[f32],
+    l: Layout,
+    n: usize,
+    s: Step,
+    sigmas: &[f32],
+    top: usize,
+    y: usize,
+    rows: usize,
+    win: &mut [f32; WINDOWS],
+    fields: &mut [f32; FIELDS],
+    slopes: &mut [f32; SLOPES],
+    lanes: &mut [f32],
+)
+    requires { ⌜ RegionFits l n s top (length (now dst)) (length (now sigmas)) × (length (now src) ≡ length (now dst)) × StripFits l y rows × Scratch (now win) (now fields) (now slopes) (now lanes) ⌝ }
+    ensures { λ _. ⌜ (now (dst .exit) ≡ planesFill (l .image .width) (l .image .height) (l .left) (l .width) (l .top + y) rows (λ (c : ℕ) (i : ℕ) (r : ℕ). stepOver n l s top (now (sigmas .entry)) (now (src .entry)) c i (y + r)) (now (dst .entry)) n) × Scratch (now (win .exit)) (now (fields .exit)) (now (slopes .exit)) (now (lanes .exit)) ⌝ }
+{
+    let mut x = 0;
+    while x < l.width {
+        let cols = at_most(l.width - x, COLUMNS);
+        let rect = Rect { x, y, rows, cols };
+        tile(
+            dst,
+            src,
+            l,
+            n,
+            s,
+            sigmas,
+            top,
+            rect,
+            win,
+            fields,
+            slopes,
+            lanes,
+        );
+        x += cols;
+    }
+}
+
+// Rows `from` up to `to`, strip after strip, with the local memory of a tile.
+fn strips(
+    dst: &mut [f32],
+    src: &[f32],
+    l: Layout,
+    n: usize,
+    s: Step,
+    sigmas: &[f32],
+    top: usize,
+    from: usize,
+    to: usize,
+)
+    requires { ⌜ RegionFits l n s top (length (now dst)) (length (now sigmas)) × (length (now src) ≡ length (now dst)) × (from ≤ to) × (to ≤ l .height) ⌝ }
+    ensures { λ _. ⌜ now (dst .exit) ≡ planesFill (l .image .width) (l .image .height) (l .left) (l .width) (l .top + from) (to - from) (λ (c : ℕ) (i : ℕ) (r : ℕ). stepOver n l s top (now (sigmas .entry)) (now (src .entry)) c i (from + r)) (now (dst .entry)) n ⌝ }
+{
+    let mut win = [0.0; WINDOWS];
+    let mut fields = [0.0; FIELDS];
+    let mut slopes = [0.0; SLOPES];
+    let mut lanes = [0.0; TILE];
+    let mut y = from;
+    while y < to {
+        let rows = at_most(to - y, BLOCK - y % BLOCK);
+        strip(
+            dst,
+            src,
+            l,
+            n,
+            s,
+            sigmas,
+            top,
+            y,
+            rows,
+            &mut win,
+            &mut fields,
+            &mut slopes,
+            &mut lanes,
+        );
+        y += rows;
+    }
+}
+
+// Rows `from` up to `to` of the filter region, in n planes; row 0 of it is row `top` of the image. Sigmas stand row of blocks after row of blocks.
+// Nothing where sets, sigmas, step or rows do not fit.
+pub fn filter_region(
+    dst: &mut [f32],
+    src: &[f32],
+    l: Layout,
+    n: usize,
+    s: Step,
+    sigmas: &[f32],
+    top: usize,
+    from: usize,
+    to: usize,
+)
+    ensures { λ _. ⌜ now (dst .exit) ≡ regionOf n l s top from to (now (sigmas .entry)) (now (src .entry)) (now (dst .entry)) ⌝ }
+{
+    if !set_fits(l, n, src.len()) {
+        return;
+    }
+    if !set_fits(l, n, dst.len()) {
+        return;
+    }
+    if sigmas.len() != blocks_of(l.height) * blocks_of(l.width) {
+        return;
+    }
+    if LAST_STEP < s.step {
+        return;
+    }
+    if MAX_TOP < top {
+        return;
+    }
+    if to < from {
+        return;
+    }
+    if l.height < to {
+        return;
+    }
+    strips(dst, src, l, n, s, sigmas, top, from, to);
+}

@@ -1,0 +1,110 @@
+// A row of a window, from the row of a plane that it shows.
+use crate::LEFT;
+use crate::WINDOWS;
+use mirror::mirrored;
+use planes::at_most;
+use planes::copy_run;
+ghost use mathlib.Core.Path.{_≡_};
+ghost use Prim.Native.Nat.{ℕ, _+_, _-_, _<_, _≤_};
+ghost use lib.ListN.{length, getD};
+ghost use lib.Ieee.{nan};
+ghost use Rattle.planes.specs.Fill.{fill};
+ghost use Rattle.epf_window.specs.Window.{rowSample, RowFits};
+
+// A row that a step reads: the plane, where the row starts in it, and how many samples it has.
+pub(crate) struct EpfInputRow<'a> {
+    plane: &'a [f32],
+    place: usize,
+    width: usize,
+}
+
+// How much x lacks of k.
+fn short_of(x: usize, k: usize) -> usize
+    ensures { λ r. ⌜ r ≡ k - x ⌝ }
+{
+    if x < k {
+        return k - x;
+    }
+    0
+}
+
+// n samples from four columns left of x on, mirrored in the row of w samples that starts at `row`.
+fn copy_mirrored(
+    win: &mut [f32; WINDOWS],
+    at: usize,
+    src: &[f32],
+    row: usize,
+    x: usize,
+    w: usize,
+    n: usize,
+)
+    requires { ⌜ (at + n ≤ 2688) × (row + w ≤ length (now src)) × (0 < w) × (x ≤ 65536) ⌝ }
+    ensures { λ _. ⌜ now (win .exit) ≡ fill (now (win .entry)) at n (rowSample (now (src .entry)) row x w) ⌝ }
+{
+    let mut j = 0;
+    while j < n {
+        let k = mirrored(x + j, LEFT, w);
+        win[at + j] = src[row + k];
+        j += 1;
+    }
+}
+
+// The same, without a mirror where the row has the samples.
+fn copy_row(
+    win: &mut [f32; WINDOWS],
+    at: usize,
+    src: &[f32],
+    row: usize,
+    x: usize,
+    w: usize,
+    cols: usize,
+)
+    requires { ⌜ RowFits at row x w cols (length (now src)) ⌝ }
+    ensures { λ _. ⌜ now (win .exit) ≡ fill (now (win .entry)) at cols (rowSample (now (src .entry)) row x w) ⌝ }
+{
+    let low = short_of(x, LEFT);
+    let high = at_most(w + LEFT - x, cols);
+    copy_mirrored(win, at, src, row, x, w, low);
+    copy_run(win, at + low, src, row + (x + low - LEFT), high - low);
+    copy_mirrored(win, at + high, src, row, x + high, w, cols - high);
+}
+
+// The same from a view.
+fn load_view<'w, 'a>(
+    win: &'w mut [f32; WINDOWS],
+    at: usize,
+    r: EpfInputRow<'a>,
+    x: usize,
+    cols: usize,
+)
+    requires { ⌜ RowFits at (r .place) x (r .width) cols (length (now (r .plane))) ⌝ }
+    ensures { λ _. ⌜ now (win .exit) ≡ fill (now (win .entry)) at cols (rowSample (now (r .entry .plane)) (r .entry .place) x (r .entry .width)) ⌝ }
+{
+    copy_row(win, at, r.plane, r.place, x, r.width, cols)
+}
+
+// The view is made here, and every other caller passes plain parameters.
+pub(crate) fn load_row(
+    win: &mut [f32; WINDOWS],
+    at: usize,
+    src: &[f32],
+    row: usize,
+    x: usize,
+    w: usize,
+    cols: usize,
+)
+    requires { ⌜ RowFits at row x w cols (length (now src)) ⌝ }
+    ensures { λ _. ⌜ now (win .exit) ≡ fill (now (win .entry)) at cols (rowSample (now (src .entry)) row x w) ⌝ }
+{
+    load_view(
+        win,
+        at,
+        EpfInputRow {
+            plane: src,
+            place: row,
+            width: w,
+        },
+        x,
+        cols,
+    )
+}

@@ -1,0 +1,32 @@
+-- Bits of a header, and fields of bits (document 01, "Header bits").
+use Prim.Native.Nat.{ℕ, zero, suc, _+_, _*_, _/_, _%_, _^_}
+use mathlib.Core.List.{List, [], _∷_}
+use lib.Dec.{ltb}
+use lib.ListN.{length, getD}
+use Rattle.refusals.specs.Numbers.{bitsRunOut, wrongLength}
+use Rattle.refusals.specs.Checks.{Check, always, firstOf}
+use Rattle.header_bits.specs.Outcome.{Outcome, accepted, refused, judged}
+use Rattle.header_bits.specs.declared.Bits.{Bits}
+use Rattle.header_bits.specs.declared.Bits.the-variants.{Value, Refused}
+
+-- bit p is bit p mod 8 of byte p / 8, the lowest first
+abbrev pub bit : List ℕ → ℕ → ℕ
+bit s p = getD s (p / 8) 0 / 2 ^ (p % 8) % 2
+
+-- a field of n bits: its first bit is its lowest
+unfoldable pub field : List ℕ → ℕ → ℕ → ℕ
+field s p zero = 0
+field s p (suc n) = bit s p + 2 * field s (p + 1) n
+
+-- a slice of more than 65,536 bytes, then a field that ends past the last bit
+abbrev pub fieldChecks : List ℕ → ℕ → ℕ → List Check
+fieldChecks s p n = always wrongLength (ltb 65536 (length s)) ∷ always bitsRunOut (ltb (length s * 8) (p + n)) ∷ []
+
+-- u(n) of ISO/IEC 18181-1, read at bit p
+unfoldable pub u : ℕ → List ℕ → ℕ → Outcome ℕ
+u n s p = judged (firstOf (fieldChecks s p n)) (field s p n) (p + n)
+
+-- the document's number and values for each case of the code's enum
+abbrev pub bitsOutcome : Bits → Outcome ℕ
+bitsOutcome (Value v next) = accepted v next
+bitsOutcome (Refused n) = refused n

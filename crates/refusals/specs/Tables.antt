@@ -1,0 +1,70 @@
+-- Tables of checks: the number is 0 where no check applies, and only there. Assumes nothing.
+use mathlib.Core.Path.{_≡_, refl, sym}
+use mathlib.Core.Bool.{Bool, true, false, true≢false, not, _&&_}
+use mathlib.Core.List.{List, [], _∷_}
+use Prim.Native.Nat.{ℕ, zero, suc, _<_}
+use native.Mathlib.Omega.{arith}
+use lib.Dec.{T, ltb, ltb→lt}
+use lib.ListN.{getD}
+use lib.Ieee.Fits.{and-l, and-r}
+use Rattle.refusals.specs.Checks.{Check, always, firstOf}
+
+-- ---- tests
+
+pub is-true : (b : Bool) → T b → b ≡ true
+is-true true t = refl
+is-true false t = absurd t
+
+pub of-true : (b : Bool) → b ≡ true → T b
+of-true true e = tt
+of-true false e = absurd (true≢false (sym e))
+
+-- a condition that does not apply, as it stands in a table: what it negates holds,
+pub met : (b : Bool) → not b ≡ false → T b
+met true e = tt
+met false e = absurd (true≢false e)
+
+-- where what it needs is in range
+pub met-given : (needs b : Bool) → (needs && not b) ≡ false → T needs → T b
+met-given true b e t = met b e
+met-given false b e t = absurd t
+
+-- ---- tables
+
+-- each check's number is above 0: by computation where the numbers are closed
+abbrev pub numbered : List Check → Bool
+numbered [] = true
+numbered (c ∷ cs) = ltb 0 (c .number) && numbered cs
+
+-- no check applies
+abbrev pub NoneApplies : List Check → Type 0
+NoneApplies [] = Unit {0}
+NoneApplies (c ∷ cs) = ((c .needs && c .fault) ≡ false) × NoneApplies cs
+
+pub zero-none : (cs : List Check) → T (numbered cs) → firstOf cs ≡ 0 → NoneApplies cs
+zero-none [] t e = tt
+zero-none (c ∷ cs) t e = go (λ z. zero-none cs (and-r (ltb 0 (c .number)) (numbered cs) t) z) (c .needs && c .fault) refl
+  where
+    above : 0 < c .number
+    above = ltb→lt 0 (c .number) (and-l (ltb 0 (c .number)) (numbered cs) t)
+
+    go : (firstOf cs ≡ 0 → NoneApplies cs) → (b : Bool) → (c .needs && c .fault) ≡ b → NoneApplies (c ∷ cs)
+    go rest true p = let z : c .number ≡ 0 = rw p at e in absurd (omega (arith, above))
+    go rest false p = (p, rest (rw p at e))
+
+pub none-zero : (cs : List Check) → NoneApplies cs → firstOf cs ≡ 0
+none-zero [] n = refl
+none-zero (c ∷ cs) n = rw (n .0) (none-zero cs (n .1))
+
+-- row i of a table, counted from 0; past the last, one that never applies
+abbrev pub rowOf : List Check → ℕ → Check
+rowOf cs i = getD cs i (always 0 false)
+
+none-at : (cs : List Check) → NoneApplies cs → (i : ℕ) → (rowOf cs i .needs && rowOf cs i .fault) ≡ false
+none-at [] n i = refl
+none-at (c ∷ cs) n zero = n .0
+none-at (c ∷ cs) n (suc i) = none-at cs (n .1) i
+
+-- where the number is 0, row i does not apply
+pub row-passed : (cs : List Check) → T (numbered cs) → firstOf cs ≡ 0 → (i : ℕ) → (rowOf cs i .needs && rowOf cs i .fault) ≡ false
+row-passed cs t e i = none-at cs (zero-none cs t e) i

@@ -1,0 +1,21 @@
+-- `in_measure` meets its contract. Assumes nothing.
+use mathlib.Core.Path.{sym, _∙_}
+use mathlib.Core.Bool.{true, false}
+use lib.IntN.{ℤ, negsuc}
+use lib.Signed.{ltZ, leZ}
+use mir.Facts.{toZ-ofZ}
+use Rattle.region_axis.specs.Measures.{place}
+use Rattle.region_interval.specs.Order.{lt-not-le, not-lt-le}
+use Rattle.region_axis.proofs.in_measure.Statement.{statement}
+use Rattle.region_axis.proofs.in_measure.Tie as tie
+
+returns : tie.Need-returns
+unfolding place
+returns c = let e = toZ-ofZ (c .before .fits .x) in rw (lt-not-le (c .before .args .x) (negsuc 1048575) (rw e at (c .if1 .taken)))
+
+returns-2 : tie.Need-returns-2
+unfolding place
+returns-2 c = let e = toZ-ofZ (c .before .fits .x) in rw (e, not-lt-le (c .before .args .x) (negsuc 1048575) (rw e at (c .if1 .left)))
+
+pub in-measure-spec : {M : Type 1} → statement M
+in-measure-spec = tie.close (tie.spec returns returns-2)

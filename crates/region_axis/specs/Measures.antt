@@ -1,0 +1,25 @@
+-- Document 01, "Measures", for one axis. Definitions only.
+use mathlib.Core.Bool.{Bool, true, false, cond, _&&_}
+use Prim.Native.Nat.{ℕ}
+use lib.Dec.{leb}
+use lib.IntN.{ℤ, pos, negsuc}
+use lib.Signed.{leZ}
+use Rattle.region_interval.specs.Interval.{extent}
+use Rattle.region_interval.specs.declared.Span.{Span}
+use Rattle.region_axis.specs.declared.Axis.{Axis}
+
+-- a left or a top: −1,048,576 to 1,048,576
+unfoldable pub place : ℤ → Bool
+place z = leZ (negsuc 1048575) z && leZ z (pos 1048576)
+
+-- a side as region arithmetic takes it: 0 to 16,384
+unfoldable pub side : ℕ → Bool
+side n = leb n 16384
+
+-- a span that region arithmetic takes
+unfoldable pub measured : Span → Bool
+measured s = place (s .start) && side (extent s)
+
+-- a span within the measures as a start and a length; zeros where it is not
+unfoldable pub axisOf : Span → Axis
+axisOf s = cond (measured s) (record { ok = true; start = s .start; len = extent s }) (record { ok = false; start = pos 0; len = 0 })

@@ -1,0 +1,93 @@
+// The measures of one axis: an interval as a start and a length, if document 01 takes it, and how far two places are apart.
+use region_interval::Span;
+ghost use mathlib.Core.Path.{_≡_};
+ghost use mathlib.Core.Bool.{false};
+ghost use Prim.Native.Nat.{_<_};
+ghost use lib.IntN.{pos, natAbs, _-ℤ_};
+ghost use lib.Signed.{mag};
+ghost use Rattle.region_axis.specs.Measures.{place, axisOf};
+
+// A span within the measures, as a region has it.
+pub struct Axis {
+    pub ok: bool,
+    pub start: i32,
+    pub len: u32,
+}
+
+const LARGEST_SIDE: u64 = 16_384;
+
+const LOWEST_PLACE: i64 = -1_048_576;
+
+const HIGHEST_PLACE: i64 = 1_048_576;
+// Past these an end is more than the largest side from any place within the measures.
+const LOWEST_END: i64 = -4_194_304;
+
+const HIGHEST_END: i64 = 4_194_304;
+
+// How far b is from a.
+fn distance(a: i64, b: i64) -> u64
+    requires { ⌜ (mag a < 0x4_0000_0000_0000) × (mag b < 0x4_0000_0000_0000) ⌝ }
+    ensures { λ r. ⌜ r ≡ natAbs (b -ℤ a) ⌝ }
+{
+    if a <= b {
+        (b - a) as u64
+    } else {
+        (a - b) as u64
+    }
+}
+
+fn in_measure(x: i64) -> bool
+    ensures { λ r. ⌜ r ≡ place x ⌝ }
+{
+    if x < LOWEST_PLACE {
+        return false;
+    }
+    x <= HIGHEST_PLACE
+}
+
+fn out_of_measure() -> Axis
+    ensures { λ r. ⌜ r ≡ record { ok = false; start = pos 0; len = 0 } ⌝ }
+{
+    Axis {
+        ok: false,
+        start: 0,
+        len: 0,
+    }
+}
+
+// The span of these ends as a start and a length, if it is within the measures.
+fn judged(start: i64, end: i64) -> Axis
+    ensures { λ r. ⌜ r ≡ axisOf (record { start = start; end = end }) ⌝ }
+{
+    if !in_measure(start) {
+        return out_of_measure();
+    }
+    if end < LOWEST_END {
+        return out_of_measure();
+    }
+    if HIGHEST_END < end {
+        return out_of_measure();
+    }
+    let len = distance(start, end);
+    if LARGEST_SIDE < len {
+        return out_of_measure();
+    }
+    Axis {
+        ok: true,
+        start: start as i32,
+        len: len as u32,
+    }
+}
+
+pub fn judge(s: Span) -> Axis
+    ensures { λ r. ⌜ r ≡ axisOf s ⌝ }
+{
+    judged(s.start, s.end)
+}
+
+// How far place b is from place a.
+pub fn offset(a: i32, b: i32) -> u32
+    ensures { λ r. ⌜ r ≡ natAbs (b -ℤ a) ⌝ }
+{
+    distance(a as i64, b as i64) as u32
+}

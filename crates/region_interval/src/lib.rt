@@ -1,0 +1,130 @@
+// One axis of a region: the places p with start ≤ p < end, on numbers so wide that the arithmetic refuses nothing.
+ghost use mathlib.Core.Path.{_≡_};
+ghost use Prim.Native.Nat.{_+_, _≤_, _<_, _^_, min};
+ghost use lib.IntN.{pos, negℤ, _+ℤ_, _*ℤ_};
+ghost use lib.Signed.{mag};
+ghost use Rattle.region_interval.specs.Integers.{floorDiv, ceilDiv};
+ghost use Rattle.region_interval.specs.Interval.{spanOf, moved, padded, shrunk, aligned};
+
+pub struct Span {
+    pub start: i64,
+    pub end: i64,
+}
+
+// Alignments are 2^0 to 2^13.
+const LARGEST_EXPONENT: u32 = 13;
+
+fn wide(x: i32) -> i64
+    ensures { λ r. ⌜ (r ≡ x) × (mag r < 0x8000_0000) ⌝ }
+{
+    x as i64
+}
+
+fn length(n: u32) -> i64
+    ensures { λ r. ⌜ (r ≡ pos n) × (mag r < 0x1_0000_0000) ⌝ }
+{
+    n as i64
+}
+
+fn negated(x: i64) -> i64
+    requires { ⌜ mag x < 0x10_0000_0000 ⌝ }
+    ensures { λ r. ⌜ (r ≡ negℤ x) × (mag r ≤ mag x + 1) ⌝ }
+{
+    -x
+}
+
+fn sum(a: i64, b: i64) -> i64
+    requires { ⌜ (mag a < 0x8_0000_0000) × (mag b < 0x8_0000_0000) ⌝ }
+    ensures { λ r. ⌜ (r ≡ a +ℤ b) × (mag r ≤ mag a + mag b + 1) ⌝ }
+{
+    a + b
+}
+
+// start + len
+fn end_of(start: i32, len: u32) -> i64
+    ensures { λ r. ⌜ (r ≡ start +ℤ pos len) × (mag r < 0x2_0000_0000) ⌝ }
+{
+    sum(wide(start), length(len))
+}
+
+// x / 2^f, rounded toward minus infinity.
+fn floor_shift(x: i64, f: u32) -> i64
+    requires { ⌜ f < 64 ⌝ }
+    ensures { λ r. ⌜ (r ≡ floorDiv x (2 ^ f)) × (mag r ≤ mag x) ⌝ }
+{
+    x >> f
+}
+
+// x / 2^f, rounded toward plus infinity.
+fn ceil_shift(x: i64, f: u32) -> i64
+    requires { ⌜ (f < 64) × (mag x < 0x8_0000_0000) ⌝ }
+    ensures { λ r. ⌜ (r ≡ ceilDiv x (2 ^ f)) × (mag r ≤ mag x + 2) ⌝ }
+{
+    negated(floor_shift(negated(x), f))
+}
+
+// q * 2^f
+fn multiple(q: i64, f: u32) -> i64
+    requires { ⌜ (f < 14) × (mag q < 0x8_0000_0000) ⌝ }
+    ensures { λ r. ⌜ r ≡ q *ℤ pos (2 ^ f) ⌝ }
+{
+    q * (1i64 << f)
+}
+
+// len places from start on.
+pub fn span_of(start: i32, len: u32) -> Span
+    ensures { λ r. ⌜ r ≡ spanOf start len ⌝ }
+{
+    Span {
+        start: wide(start),
+        end: end_of(start, len),
+    }
+}
+
+pub fn moved(start: i32, len: u32, d: i32) -> Span
+    ensures { λ r. ⌜ r ≡ moved d (spanOf start len) ⌝ }
+{
+    let by = wide(d);
+    Span {
+        start: sum(wide(start), by),
+        end: sum(end_of(start, len), by),
+    }
+}
+
+pub fn padded(start: i32, len: u32, n: u32) -> Span
+    ensures { λ r. ⌜ r ≡ padded n (spanOf start len) ⌝ }
+{
+    let by = length(n);
+    Span {
+        start: sum(wide(start), negated(by)),
+        end: sum(end_of(start, len), by),
+    }
+}
+
+// The cells of 2^f places that the span touches, an f past 63 counting as 63.
+pub fn shrunk(start: i32, len: u32, f: u32) -> Span
+    ensures { λ r. ⌜ r ≡ shrunk (2 ^ min f 63) (spanOf start len) ⌝ }
+{
+    let by = at_most(f, 63);
+    Span {
+        start: floor_shift(wide(start), by),
+        end: ceil_shift(end_of(start, len), by),
+    }
+}
+
+// The span widened to multiples of 2^f, an f past 13 counting as 13.
+pub fn aligned(start: i32, len: u32, f: u32) -> Span
+    ensures { λ r. ⌜ r ≡ aligned (2 ^ min f 13) (spanOf start len) ⌝ }
+{
+    let by = at_most(f, LARGEST_EXPONENT);
+    Span {
+        start: multiple(floor_shift(wide(start), by), by),
+        end: multiple(ceil_shift(end_of(start, len), by), by),
+    }
+}
+
+fn at_most(n: u32, limit: u32) -> u32
+    ensures { λ r. ⌜ r ≡ min n limit ⌝ }
+{
+    if n < limit { n } else { limit }
+}

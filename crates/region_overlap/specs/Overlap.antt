@@ -1,0 +1,24 @@
+-- What intervals have in common: none, all, or the meet (document 01, "Regions"). Definitions only.
+use mathlib.Core.Bool.{Bool, _&&_}
+use lib.Signed.{leZ, ltZ}
+use Rattle.region_interval.specs.Integers.{least, greatest}
+use Rattle.region_interval.specs.declared.Span.{Span}
+use lib.Dec.{T}
+use lib.IntN.{ℤ}
+
+-- no place
+abbrev pub vacant : Span → Bool
+vacant s = leZ (s .end) (s .start)
+
+-- each place of b is a place of a
+abbrev pub covers : Span → Span → Bool
+covers a b = leZ (a .start) (b .start) && leZ (b .end) (a .end)
+
+-- the places that are in both
+abbrev pub meet : Span → Span → Span
+meet a b = record { start = greatest (a .start) (b .start); end = least (a .end) (b .end) }
+
+-- p is a place of s
+pub record In (s : Span) (p : ℤ) : Type 0 where
+  pub from : T (leZ (s .start) p)
+  pub before : T (ltZ p (s .end))

@@ -1,0 +1,50 @@
+// What two intervals have in common, and whether one has a place at all.
+use region_interval::Span;
+ghost use mathlib.Core.Path.{_≡_};
+ghost use lib.Signed.{leZ};
+ghost use Rattle.region_interval.specs.Integers.{least, greatest};
+ghost use Rattle.region_overlap.specs.Overlap.{vacant, covers, meet};
+
+fn lesser(a: i64, b: i64) -> i64
+    ensures { λ r. ⌜ r ≡ least a b ⌝ }
+{
+    if a <= b { a } else { b }
+}
+
+fn greater(a: i64, b: i64) -> i64
+    ensures { λ r. ⌜ r ≡ greatest a b ⌝ }
+{
+    if a <= b { b } else { a }
+}
+
+// The places that are in both.
+pub fn meet(a: Span, b: Span) -> Span
+    ensures { λ r. ⌜ r ≡ meet a b ⌝ }
+{
+    Span {
+        start: greater(a.start, b.start),
+        end: lesser(a.end, b.end),
+    }
+}
+
+pub fn vacant(s: Span) -> bool
+    ensures { λ r. ⌜ r ≡ vacant s ⌝ }
+{
+    s.end <= s.start
+}
+
+fn not_after(a: i64, b: i64) -> bool
+    ensures { λ r. ⌜ r ≡ leZ a b ⌝ }
+{
+    a <= b
+}
+
+// Each place of b is a place of a.
+pub fn covers(a: Span, b: Span) -> bool
+    ensures { λ r. ⌜ r ≡ covers a b ⌝ }
+{
+    if not_after(a.start, b.start) {
+        return not_after(b.end, a.end);
+    }
+    false
+}

@@ -1,0 +1,43 @@
+-- Where a filter region lies in an image region (document 01, "Eleven numbers", 4 and 5): columns and rows from the image's corner, or zeros where it is refused.
+use mathlib.Core.Path.{_≡_}
+use mathlib.Core.Bool.{true, false, cond, _&&_, not}
+use mathlib.Core.List.{List, [], _∷_}
+use Prim.Native.Nat.{ℕ}
+use lib.Dec.{eqb}
+use lib.IntN.{natAbs, _-ℤ_}
+use Rattle.refusals.specs.Numbers.{outOfMeasure, notInside}
+use Rattle.refusals.specs.Checks.{Check, always, firstOf}
+use Rattle.region.specs.Measures.{pictured}
+use Rattle.region.specs.Regions.{inside}
+use Rattle.region.specs.declared.Region.{Region}
+use Rattle.region_placement.specs.declared.PlacedAnswer.{PlacedAnswer}
+
+abbrev pub placedChecks : Region → Region → List Check
+placedChecks image filter =
+    always outOfMeasure (not (pictured image && pictured filter))
+    ∷ always notInside (not (inside image filter)) ∷ []
+
+abbrev pub placedAnswer : ℕ → Region → Region → PlacedAnswer
+placedAnswer n image filter = record {
+  number = n;
+  x = cond (eqb n 0) (natAbs (filter .left -ℤ image .left)) 0;
+  y = cond (eqb n 0) (natAbs (filter .top -ℤ image .top)) 0;
+}
+
+abbrev pub placedOutcome : Region → Region → PlacedAnswer
+placedOutcome image filter = placedAnswer (firstOf (placedChecks image filter)) image filter
+
+-- ---- laws: the number given, by which test failed first
+
+module _ (image filter : Region) where
+  pub placed-image : pictured image ≡ false → firstOf (placedChecks image filter) ≡ outOfMeasure
+  placed-image e = rw e
+
+  pub placed-filter : pictured image ≡ true → pictured filter ≡ false → firstOf (placedChecks image filter) ≡ outOfMeasure
+  placed-filter e f = rw (e, f)
+
+  pub placed-outside : pictured image ≡ true → pictured filter ≡ true → inside image filter ≡ false → firstOf (placedChecks image filter) ≡ notInside
+  placed-outside e f g = rw (e, f, g)
+
+  pub placed-inside : pictured image ≡ true → pictured filter ≡ true → inside image filter ≡ true → firstOf (placedChecks image filter) ≡ 0
+  placed-inside e f g = rw (e, f, g)

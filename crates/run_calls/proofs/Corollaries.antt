@@ -1,0 +1,211 @@
+-- The corollaries of demand 3. Assumes nothing.
+use mathlib.Core.Path.{_≡_, refl, sym, _∙_}
+use mathlib.Core.Bool.{Bool, true, false, cond}
+use mathlib.Core.List.{List}
+use mathlib.Core.Logic.{inl, inr}
+use Prim.Native.Nat.{ℕ, _*_, _<_}
+use native.Mathlib.Omega.{arith}
+use lib.Dec.{T}
+use lib.IntN.{ℤ, pos, natAbs, _+ℤ_, _-ℤ_}
+use lib.ListN.{length}
+use lib.Seq.{ext-getD}
+use lib.Ieee.{Float, nan}
+use lib.Ieee.Fits.{and-i}
+use lib.Signed.{leZ, ltZ}
+use Rattle.region_interval.specs.declared.Span.{Span}
+use Rattle.region_overlap.specs.Overlap.{covers, In}
+use Rattle.region_interval.specs.Order.{le-refl}
+use Rattle.region.specs.declared.Region.{Region}
+use Rattle.region.specs.Regions.{columns, rows, inside, Holds}
+use Rattle.planes_layout.specs.Outcome.{layoutOf}
+use Rattle.planes.specs.Sets.{of}
+use Rattle.planes.specs.SetLaws.{length-setOf, sets-ext}
+use Rattle.planes.specs.Rect.{Between, between}
+use Rattle.planes.specs.Picture.{inRect}
+use Rattle.planes.specs.Band.{inFilter}
+use Rattle.run_setup.specs.declared.Setup.{Setup}
+use Rattle.run_setup.specs.Setup.{fullPlanes, layout, epfOn, resultRegion, resultLength}
+use Rattle.run_setup.specs.Laws.{SetupFits, setup-fits}
+use Rattle.run_outcomes.specs.Start.{Handed, startLeaves, sigmasFilled}
+use Rattle.run_outcomes.specs.Band.{State, source}
+use Rattle.run_outcomes.specs.Result.{resultOf}
+use Rattle.run_outcomes.specs.Laws.{PictureFits}
+use Rattle.run_calls.specs.Calls.{StartAccepted, startState, Calls, end}
+use Rattle.run_calls.specs.Places.{Clear, resultAt, sampleAt}
+use Rattle.run_calls.specs.Theorem.{CutFrom, Delivers}
+use Rattle.run_calls.specs.Corollaries.{FinishedRun, firstAt, SameButBands, handedOver, WholePicture, TwoCutsAgree, OutsideKept, BandsAlike}
+use Rattle.run_calls.proofs.Rows.{image-in-result}
+use Rattle.run_calls.proofs.Lists.{start-unrefused, picture-accepted, KeptFrom, after-start}
+use Rattle.run_calls.proofs.Places.{counted, narrower, nth-held, nth-counted, Covered, covered}
+use Rattle.run_calls.proofs.Finished.{result-sample, run-outside, handed-over-at}
+use Rattle.run_calls.proofs.Demand3.{demand-3}
+
+-- ---- a picture is cut from itself, and has no cut edge
+
+covers-itself : (s : Span) → T (covers s s)
+covers-itself s = and-i (leZ (s .start) (s .start)) (leZ (s .end) (s .end)) (le-refl (s .start)) (le-refl (s .end))
+
+inside-itself : (r : Region) → T (inside r r)
+unfolding inside
+inside-itself r = and-i (covers (columns r) (columns r)) (covers (rows r) (rows r)) (covers-itself (columns r)) (covers-itself (rows r))
+
+from-itself : (n : ℕ) (h : Handed) → StartAccepted n h → CutFrom n h h
+from-itself n h e = record { unrefused = start-unrefused n h e; contained = inside-itself (h .setup .filter); passes = refl; inputs = λ c x y p q. refl; sigmas = λ on x y q. refl }
+
+no-cut-edge : (m : ℕ) (r : Region) (x y : ℤ) → Clear m r r x y
+no-cut-edge m r x y = record { left = λ f. absurd (f refl); right = λ f. absurd (f refl); top = λ f. absurd (f refl); bottom = λ f. absurd (f refl) }
+
+module _ (n : ℕ) (K : Calls n) where
+  -- demand 3 of a finished run
+  cut-run : (h large : Handed) (r : FinishedRun n K h) → CutFrom n h large → Delivers n h large (handedOver n K h r)
+  cut-run h large r from = demand-3 n K h large (r .calls) (r .slice) (record { start-accepted = r .accepted; cut-from-larger = from; nobody-altered-anything = r .unaltered; run-finished = r .ended; slice-fits = r .room })
+
+  pub whole-picture : WholePicture n K
+  whole-picture h r =
+      let d = cut-run h h r (from-itself n h (r .accepted)) in
+      (d .accepted, λ c x y p q. d .samples c x y p q (no-cut-edge _ (h .setup .filter) x y))
+
+  pub two-cuts-agree : TwoCutsAgree n K
+  two-cuts-agree a b large from too r q c x y h i j clear clearToo = cut-run a large r from .samples c x y h i clear ∙ sym (cut-run b large q too .samples c x y h j clearToo)
+
+-- ---- outside the filter region
+
+-- a place of the image region that the filter region has not is outside it in the layout too
+not-in-filter : (s : Setup) → SetupFits s → (x y : ℤ) → Holds (s .image) x y → (Holds (s .filter) x y → ⊥)
+    → inFilter (layout s) (natAbs (x -ℤ s .image .left)) (natAbs (y -ℤ s .image .top)) ≡ false
+unfolding inFilter inRect layoutOf
+not-in-filter s fits x y held out =
+    go (between (natAbs (s .filter .left -ℤ s .image .left)) (s .filter .width) (natAbs (x -ℤ s .image .left)))
+    (between (natAbs (s .filter .top -ℤ s .image .top)) (s .filter .height) (natAbs (y -ℤ s .image .top)))
+  where
+    lies : Covered (s .image) (s .filter)
+    lies = covered (s .image) (s .filter) (fits .contained)
+
+    go : Between (natAbs (s .filter .left -ℤ s .image .left)) (s .filter .width) (natAbs (x -ℤ s .image .left))
+        → Between (natAbs (s .filter .top -ℤ s .image .top)) (s .filter .height) (natAbs (y -ℤ s .image .top))
+        → inFilter (layout s) (natAbs (x -ℤ s .image .left)) (natAbs (y -ℤ s .image .top)) ≡ false
+    go (inl a) (inl b) = absurd (out (record {
+      column = narrower (s .filter .left) (s .image .left) (s .filter .width) (s .image .width) (lies .left) (lies .right) x (held .column) (a .0) (a .1);
+      row = narrower (s .filter .top) (s .image .top) (s .filter .height) (s .image .height) (lies .top) (lies .bottom) y (held .row) (b .0) (b .1);
+    }))
+    go (inl a) (inr b) = rw (a .2, b .1)
+    go (inr a) b = rw (a .1)
+
+module _ (n : ℕ) (K : Calls n) (h : Handed) (r : FinishedRun n K h) where
+  abbrev state : State
+  state = end n K (startState n h) (r .calls)
+
+  fits : SetupFits (h .setup)
+  fits = setup-fits (h .setup) (picture-accepted n h (r .accepted) .setup)
+
+  kept : KeptFrom n h state
+  kept = after-start n K h (r .accepted) (r .calls) (r .unaltered)
+
+  -- the slice that is handed over
+  out-is : handedOver n K h r .out ≡ resultOf n (layout (h .setup)) (source state)
+  out-is = handed-over-at n h state kept (r .ended) (r .slice) (r .room) .1
+
+  out-length : length (handedOver n K h r .out) ≡ resultLength n (h .setup)
+  unfolding resultOf layoutOf
+  out-length = rw out-is (length-setOf n _ _ _ ∙ go (fullPlanes (h .setup)))
+    where
+      image : Region
+      image = h .setup .image
+
+      filter : Region
+      filter = h .setup .filter
+
+      go : (full : Bool) → n * cond full (image .height) (filter .height) * cond full (image .width) (filter .width) ≡ n * cond full image filter .height * cond full image filter .width
+      go true = refl
+      go false = refl
+
+  kept-outside : (c : ℕ) (x y : ℤ) → c < n → Holds (resultRegion (h .setup)) x y → (Holds (h .setup .filter) x y → ⊥)
+      → resultAt (h .setup) (handedOver n K h r .out) c x y ≡ firstAt n h c x y
+  unfolding layoutOf
+  kept-outside c x y p held out = rw out-is (result-sample n s fits (source state) c x y p held ∙ go (fullPlanes s) refl held)
+    where
+      s : Setup
+      s = h .setup
+
+      go : (full : Bool) → fullPlanes s ≡ full → Holds (cond full (s .image) (s .filter)) x y
+          → of (s .image .width) (s .image .height) (source state) c (natAbs (x -ℤ s .image .left)) (natAbs (y -ℤ s .image .top)) ≡ firstAt n h c x y
+      go true e held =
+          let column = counted (s .image .left) (s .image .width) x (held .column) in
+          let row = counted (s .image .top) (s .image .height) y (held .row) in
+          run-outside n h state kept c _ _ p (image-in-result (layout s) _ _ e column row) (not-in-filter s fits x y held out)
+      go false e held = absurd (out held)
+
+pub outside-kept : (n : ℕ) (K : Calls n) → OutsideKept n K
+outside-kept n K h r = kept-outside n K h r
+
+-- ---- every order of bands and every band height
+
+in-or-not : (s : Span) (p : ℤ) → Dec (In s p)
+in-or-not s p = go (leZ (s .start) p) refl (ltZ p (s .end)) refl
+  where
+    go : (a : Bool) → leZ (s .start) p ≡ a → (b : Bool) → ltZ p (s .end) ≡ b → Dec (In s p)
+    go true e true f = yes (record { from = rw e tt; before = rw f tt })
+    go true e false f = no (λ i. rw f at (i .before))
+    go false e b f = no (λ i. rw e at (i .from))
+
+holds-or-not : (r : Region) (x y : ℤ) → Dec (Holds r x y)
+holds-or-not r x y = go (in-or-not (columns r) x) (in-or-not (rows r) y)
+  where
+    go : Dec (In (columns r) x) → Dec (In (rows r) y) → Dec (Holds r x y)
+    go (yes a) (yes b) = yes (record { column = a; row = b })
+    go (yes a) (no b) = no (λ h. b (h .row))
+    go (no a) b = no (λ h. a (h .column))
+
+cond-second : (b : Bool) (u v w : List Float) → (b ≡ false → v ≡ w) → cond b u v ≡ cond b u w
+cond-second true u v w f = refl
+cond-second false u v w f = f refl
+
+module _ (n : ℕ) (a b : Handed) (same : SameButBands a b) where
+  region-same : resultRegion (a .setup) ≡ resultRegion (b .setup)
+  region-same = rw (same .image, same .filter, same .full)
+
+  leaves-same : startLeaves n a ≡ startLeaves n b
+  unfolding startLeaves
+  leaves-same = same .first
+
+  first-same : (c : ℕ) (x y : ℤ) → firstAt n a c x y ≡ firstAt n b c x y
+  first-same c x y = rw (leaves-same, same .image)
+
+  module _ (p : PictureFits n a) (q : PictureFits n b) where
+    -- with the edge filter off there are no block sigmas
+    sigmas-same : sigmasFilled n a ≡ sigmasFilled n b
+    unfolding sigmasFilled
+    sigmas-same = rw (same .settings, same .filter, same .frame, same .table, same .grids) (cond-second (epfOn (b .setup)) _ (a .sigmas) (b .sigmas) (λ off.
+        let none : length (a .sigmas) ≡ 0 = rw (same .settings, off) at (p .sigmas) in
+        let too : length (b .sigmas) ≡ 0 = rw off at (q .sigmas) in
+        ext-getD nan (a .sigmas) (b .sigmas) (none ∙ sym too) (λ k h. absurd (omega (arith, none)))))
+
+    sample-same : (c : ℕ) (x y : ℤ) → sampleAt n a c x y ≡ sampleAt n b c x y
+    sample-same c x y = rw (leaves-same, sigmas-same, same .image, same .filter, same .full, same .settings)
+
+module _ (n : ℕ) (K : Calls n) (a b : Handed) (same : SameButBands a b) (r : FinishedRun n K a) (q : FinishedRun n K b) where
+  each-same : (c : ℕ) (x y : ℤ) → c < n → Holds (resultRegion (a .setup)) x y → resultAt (a .setup) (handedOver n K a r .out) c x y ≡ resultAt (b .setup) (handedOver n K b q .out) c x y
+  each-same c x y h held = go (holds-or-not (a .setup .filter) x y)
+    where
+      go : Dec (Holds (a .setup .filter) x y) → resultAt (a .setup) (handedOver n K a r .out) c x y ≡ resultAt (b .setup) (handedOver n K b q .out) c x y
+      go (yes i) =
+          whole-picture n K a r .1 c x y h i ∙ sample-same n a b same (picture-accepted n a (r .accepted)) (picture-accepted n b (q .accepted)) c x y
+          ∙ sym (whole-picture n K b q .1 c x y h (rw (same .filter) at i))
+      go (no o) =
+          outside-kept n K a r c x y h held o ∙ first-same n a b same c x y
+          ∙ sym (outside-kept n K b q c x y h (rw (region-same n a b same) at held) (rw (same .filter) at o))
+
+  bands-same : handedOver n K a r .out ≡ handedOver n K b q .out
+  bands-same = sets-ext n (region .width) (region .height) (handedOver n K a r .out) (handedOver n K b q .out) (out-length n K a r) (rw (region-same n a b same) (out-length n K b q)) each
+    where
+      region : Region
+      region = resultRegion (a .setup)
+
+      each : (c x y : ℕ) → c < n → x < region .width → y < region .height
+          → of (region .width) (region .height) (handedOver n K a r .out) c x y ≡ of (region .width) (region .height) (handedOver n K b q .out) c x y
+      each c x y h i j =
+          rw (← region-same n a b same, nth-counted (region .left) x, nth-counted (region .top) y) at
+          (each-same c (region .left +ℤ pos x) (region .top +ℤ pos y) h (record { column = nth-held (region .left) (region .width) x i; row = nth-held (region .top) (region .height) y j }))
+
+pub bands-alike : (n : ℕ) (K : Calls n) → BandsAlike n K
+bands-alike n K a b same r q = bands-same n K a b same r q

@@ -1,0 +1,143 @@
+-- Demand 3: the samples that a finished run hands over are the larger picture's beyond the margin. Assumes nothing.
+use mathlib.Core.Path.{_≡_, _∙_}
+use mathlib.Core.List.{List}
+use Prim.Native.Nat.{ℕ, _+_, _*_, _/_, _<_}
+use native.Mathlib.Omega.{arith}
+use lib.Dec.{T, lt→ltb}
+use lib.ListN.{length}
+use lib.Ieee.{Float}
+use lib.Ieee.Fits.{and-l, and-r}
+use lib.IntN.{ℤ, pos, natAbs, _+ℤ_, _-ℤ_}
+use Rattle.mirror.specs.Cut.{Deep}
+use Rattle.region.specs.declared.Region.{Region}
+use Rattle.region.specs.Regions.{columns, rows, Holds}
+use Rattle.region_placement.specs.Blocks.{onBlock}
+use Rattle.run_passes.specs.Pass.{Area, passes}
+use Rattle.run_passes.specs.Cut.{Fits, SameBlocks, SomeStep, cut-same, plan-sound, plan-some-step}
+use Rattle.run_passes.specs.Plan.{plan, margin}
+use Rattle.run_passes.specs.PlanLaws.{plan-reach}
+use Rattle.run_setup.specs.declared.Setup.{Setup}
+use Rattle.run_setup.specs.Setup.{epfOn, area, resultLength}
+use Rattle.run_record.specs.Record.{finished}
+use Rattle.run_setup.specs.Laws.{setup-fits}
+use Rattle.run_outcomes.specs.Start.{Handed, sigmasFilled}
+use Rattle.run_outcomes.specs.Band.{State, source}
+use Rattle.run_outcomes.specs.Laws.{PictureFits, picture-fits}
+use Rattle.run_calls.specs.Calls.{StartAccepted, Calls, documentCalls}
+use Rattle.run_calls.specs.Places.{input, Clear}
+use Rattle.run_calls.specs.Theorem.{CutFrom, resultOn, Delivers, Demand3, DocumentDemand3}
+use Rattle.run_calls.proofs.Lists.{picture-accepted, KeptFrom, after-start}
+use Rattle.run_calls.proofs.Finished.{filter-sample, run-samples, handed-over-at}
+use Rattle.run_calls.proofs.Places.{part-fits, counted, counted-from, deep, nth-held, nth-counted, blocks-apart, Covered, covered}
+
+-- ---- the smaller picture's filter region is a cut of the larger's
+
+module _ (n : ℕ) (small large : Handed) (fits : PictureFits n small) (from : CutFrom n small large) where
+  abbrev f : Region
+  f = small .setup .filter
+
+  abbrev g : Region
+  g = large .setup .filter
+
+  -- columns and rows of the larger one before the smaller one's first
+  abbrev lx : ℕ
+  lx = natAbs (f .left -ℤ g .left)
+
+  abbrev ly : ℕ
+  ly = natAbs (f .top -ℤ g .top)
+
+  abbrev a : Area
+  a = area (small .setup) (sigmasFilled n small)
+
+  abbrev b : Area
+  b = area (large .setup) (sigmasFilled n large)
+
+  v : Covered g f
+  v = covered g f (from .contained)
+
+  cut : Fits a b lx ly
+  cut = record {
+    columns = part-fits (f .left) (g .left) (f .width) (g .width) (v .left) (v .right);
+    rows = part-fits (f .top) (g .top) (f .height) (g .height) (v .top) (v .bottom);
+  }
+
+  -- the place at column x and row y of the smaller filter region, and where it stands in the larger
+  nth-holds : (x y : ℕ) → x < f .width → y < f .height → Holds f (f .left +ℤ pos x) (f .top +ℤ pos y)
+  nth-holds x y p q = record { column = nth-held (f .left) (f .width) x p; row = nth-held (f .top) (f .height) y q }
+
+  nth-column : (x : ℕ) → x < f .width → natAbs (f .left +ℤ pos x -ℤ g .left) ≡ lx + x
+  nth-column x p = counted-from (f .left) (g .left) (f .width) (g .width) (v .left) (v .right) (f .left +ℤ pos x) (nth-held (f .left) (f .width) x p) ∙ rw (nth-counted (f .left) x)
+
+  nth-row : (y : ℕ) → y < f .height → natAbs (f .top +ℤ pos y -ℤ g .top) ≡ ly + y
+  nth-row y q = counted-from (f .top) (g .top) (f .height) (g .height) (v .top) (v .bottom) (f .top +ℤ pos y) (nth-held (f .top) (f .height) y q) ∙ rw (nth-counted (f .top) y)
+
+  inputs : (c x y : ℕ) → c < n → x < f .width → y < f .height → input n small c x y ≡ input n large c (lx + x) (ly + y)
+  inputs c x y h p q =
+      rw (nth-counted (f .left) x, nth-counted (f .top) y, nth-column x p, nth-row y q) at
+      (from .inputs c (f .left +ℤ pos x) (f .top +ℤ pos y) h (nth-holds x y p q))
+
+  -- where a step runs, both filter regions start at multiples of 8 and the smaller's blocks have the larger's sigmas
+  blocks : SomeStep (plan n (small .setup .settings)) → SameBlocks a b lx ly
+  blocks z =
+      let on : T (epfOn (small .setup)) = lt→ltb 0 (small .setup .settings .epf .iters) (plan-some-step n (small .setup .settings) z) in
+      let too : T (epfOn (large .setup)) = lt→ltb 0 (large .setup .settings .epf .iters) (plan-some-step n (large .setup .settings) (rw (from .passes) at z)) in
+      let p = setup-fits (small .setup) (fits .setup) .blocks on in
+      let q = setup-fits (large .setup) (picture-fits n large (from .unrefused) .setup) .blocks too in
+      let across = blocks-apart (f .left) (g .left) (v .left) (and-l (onBlock (f .left)) (onBlock (f .top)) p) (and-l (onBlock (g .left)) (onBlock (g .top)) q) in
+      let down = blocks-apart (f .top) (g .top) (v .top) (and-r (onBlock (f .left)) (onBlock (f .top)) p) (and-r (onBlock (g .left)) (onBlock (g .top)) q) in
+      record {
+        bx = lx / 8;
+        by = ly / 8;
+        tops = down .0;
+        eightX = across .1;
+        eightY = down .1;
+        sigmas = λ x y i j.
+            let c : natAbs (f .left +ℤ pos (8 * x) -ℤ f .left) / 8 ≡ x = omega (arith, nth-counted (f .left) (8 * x)) in
+            let r : natAbs (f .top +ℤ pos (8 * y) -ℤ f .top) / 8 ≡ y = omega (arith, nth-counted (f .top) (8 * y)) in
+            let cc : natAbs (f .left +ℤ pos (8 * x) -ℤ g .left) / 8 ≡ lx / 8 + x = omega (arith, nth-column (8 * x) i, across .1) in
+            let rr : natAbs (f .top +ℤ pos (8 * y) -ℤ g .top) / 8 ≡ ly / 8 + y = omega (arith, nth-row (8 * y) j, down .1) in
+            rw (c, r, cc, rr) at (from .sigmas on (f .left +ℤ pos (8 * x)) (f .top +ℤ pos (8 * y)) (nth-holds (8 * x) (8 * y) i j));
+      }
+
+  -- all passes over both, beyond the margin
+  beyond : (c : ℕ) (x y : ℤ) → c < n → Holds f x y → Clear (margin (small .setup .settings)) f g x y
+      → passes a (plan n (small .setup .settings)) (input n small) c (natAbs (x -ℤ f .left)) (natAbs (y -ℤ f .top))
+      ≡ passes b (plan n (large .setup .settings)) (input n large) c (natAbs (x -ℤ g .left)) (natAbs (y -ℤ g .top))
+  beyond c x y h held clear =
+      let s = small .setup .settings in
+      let i : Deep (margin s) lx (f .width) (g .width) (natAbs (x -ℤ f .left)) =
+      deep (f .left) (g .left) (f .width) (g .width) (v .left) (v .right) x (held .column) (margin s) (clear .left) (clear .right) in
+      let j : Deep (margin s) ly (f .height) (g .height) (natAbs (y -ℤ f .top)) =
+      deep (f .top) (g .top) (f .height) (g .height) (v .top) (v .bottom) y (held .row) (margin s) (clear .top) (clear .bottom) in
+      let column = counted-from (f .left) (g .left) (f .width) (g .width) (v .left) (v .right) x (held .column) in
+      let row = counted-from (f .top) (g .top) (f .height) (g .height) (v .top) (v .bottom) y (held .row) in
+      cut-same n a b lx ly cut (plan n s) (plan-sound n s) blocks (input n small) (input n large) inputs c (natAbs (x -ℤ f .left)) (natAbs (y -ℤ f .top)) h
+      (rw (plan-reach n s) i) (rw (plan-reach n s) j)
+      ∙ rw (from .passes, column, row)
+
+-- ---- the theorem
+
+-- of any finished state that is kept from an accepted start, by whatever calls
+pub demand-3-at : (n : ℕ) (small large : Handed) → StartAccepted n small → CutFrom n small large → (t : State) → KeptFrom n small t → T (finished (t .run))
+    → (out : List Float) → length out ≡ resultLength n (small .setup) → Delivers n small large (resultOn n t out)
+demand-3-at n small large e from t kept z out room =
+    let s : Setup = small .setup in
+    let fits = picture-accepted n small e in
+    let over = handed-over-at n small t kept z out room in
+    record {
+      accepted = over .0;
+      samples = λ c x y h held clear.
+          let column = counted (s .filter .left) (s .filter .width) x (held .column) in
+          let row = counted (s .filter .top) (s .filter .height) y (held .row) in
+          rw (over .1)
+          (filter-sample n s (setup-fits s (fits .setup)) (source t) c x y h held
+          ∙ run-samples n small t kept z (setup-fits s (fits .setup)) c (natAbs (x -ℤ s .filter .left)) (natAbs (y -ℤ s .filter .top)) h column row
+          ∙ beyond n small large fits from c x y h held clear);
+    }
+
+pub demand-3 : (n : ℕ) (K : Calls n) → Demand3 n K
+demand-3 n K small large cs out p = demand-3-at n small large (p .start-accepted) (p .cut-from-larger) _ (after-start n K small (p .start-accepted) cs (p .nobody-altered-anything)) (p .run-finished) out (p .slice-fits)
+
+-- document 01's planes and calls
+pub document-demand-3 : DocumentDemand3
+document-demand-3 = demand-3 3 (documentCalls 3)

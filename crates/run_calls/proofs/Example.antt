@@ -1,0 +1,72 @@
+-- The premises of demand 3 hold for the pictures and calls of specs/Example.antt. Assumes nothing.
+use mathlib.Core.Path.{_≡_, refl, sym, _∙_}
+use mathlib.Core.List.{List}
+use Prim.Native.Nat.{ℕ, suc, _+_, _<_}
+use native.Mathlib.Omega.{arith}
+use lib.IntN.{ℤ, pos, negsuc, natAbs, _-ℤ_}
+use lib.Ieee.{Float}
+use Rattle.region.specs.Regions.{inside, Holds}
+use Rattle.region.specs.Measures.{measured, pictured}
+use Rattle.region_axis.specs.Measures.{place, side}
+use Rattle.frame.specs.Sizes.{sizesOf}
+use Rattle.sigma_grids.specs.Table.{badGrid, cells, gridStart, someBelow}
+use Rattle.frame.specs.Outcome.{badSides, badSettings}
+use Rattle.sigma_groups.specs.Outcome.{tableFits, gridsFit}
+use Rattle.planes_layout.specs.Outcome.{layoutOf}
+use Rattle.planes.specs.Picture.{Picture}
+use Rattle.planes.specs.Sets.{setOf, tab}
+use Rattle.planes.specs.SetLaws.{of-setOf}
+use Rattle.planes.specs.Band.{inner}
+use Rattle.run_passes.specs.Plan.{plan, steps, stepMargin}
+use Rattle.run_setup.specs.Setup.{bandCount, numbersFit, setupFits, sized}
+use Rattle.run_record.specs.Record.{isDone, started, marked, advanced, bandMissing, strayDone, runFits}
+use Rattle.run_outcomes.specs.Start.{pictureChecks, startLeaves, sigmasFilled, startOutcome}
+use Rattle.run_outcomes.specs.Band.{bandChecks, bandOutcome, advanceOutcome}
+use Rattle.run_calls.specs.Calls.{StartAccepted, documentCalls, stateAfter, end}
+use Rattle.run_calls.specs.Places.{inputAt}
+use Rattle.run_calls.specs.Theorem.{CutFrom, Unrefused, Premises}
+use Rattle.run_calls.specs.Example.{larger, smaller, calls, slice, PremisesMet, PlaceClear}
+use Rattle.run_calls.proofs.Places.{counted, counted-from}
+
+module _ (p : Picture) (weights : List (List Float)) where
+  accepted : StartAccepted 3 (smaller p weights)
+  unfolding startOutcome pictureChecks pictured measured place side inside badSides badSettings sizesOf tableFits gridsFit gridStart cells someBelow badGrid bandCount layoutOf setOf tab
+  accepted = refl
+
+  unrefused : Unrefused 3 (larger p weights)
+  unfolding pictureChecks pictured measured place side inside badSides badSettings sizesOf tableFits gridsFit gridStart cells someBelow badGrid bandCount layoutOf setOf tab
+  unrefused = refl
+
+  inputs : (c : ℕ) (x y : ℤ) → c < 3 → Holds (smaller p weights .setup .filter) x y → inputAt 3 (smaller p weights) c x y ≡ inputAt 3 (larger p weights) c x y
+  unfolding startLeaves inner layoutOf
+  inputs c x y h held =
+      let column : natAbs (x -ℤ pos 0) < 3 = counted (pos 0) 3 x (held .column) in
+      let row : natAbs (y -ℤ pos 0) < 1 = counted (pos 0) 1 y (held .row) in
+      let further : natAbs (x -ℤ negsuc 0) ≡ 1 + natAbs (x -ℤ pos 0) = counted-from (pos 0) (negsuc 0) 3 4 tt tt x (held .column) in
+      let e : 0 + natAbs (x -ℤ negsuc 0) ≡ suc (0 + natAbs (x -ℤ pos 0)) = omega arith in
+      of-setOf 3 3 1 _ c (0 + natAbs (x -ℤ pos 0)) (0 + natAbs (y -ℤ pos 0)) h (omega arith) (omega arith)
+      ∙ rw e (sym (of-setOf 3 4 1 p c (suc (0 + natAbs (x -ℤ pos 0))) (0 + natAbs (y -ℤ pos 0)) h (omega arith) (omega arith)))
+
+  from : CutFrom 3 (smaller p weights) (larger p weights)
+  unfolding inside
+  from = record { unrefused = unrefused; contained = tt; passes = refl; inputs = inputs; sigmas = λ on. absurd on }
+
+  premises : Premises 3 (documentCalls 3) (smaller p weights) (larger p weights) (calls p weights) (slice p weights)
+  unfolding startOutcome startLeaves bandOutcome advanceOutcome pictureChecks badSides badSettings sizesOf tableFits gridsFit gridStart cells badGrid sigmasFilled stateAfter end started marked advanced bandChecks runFits strayDone bandMissing isDone numbersFit setupFits bandCount sized someBelow pictured measured place side inside layoutOf plan steps setOf tab
+  premises = record {
+    start-accepted = accepted;
+    cut-from-larger = from;
+    nobody-altered-anything = (λ e. refl, (λ e. absurd (omega (arith, e)), (λ e. absurd (omega (arith, e)), (λ e. refl, tt))));
+    run-finished = tt;
+    slice-fits = refl;
+  }
+
+pub premises-met : PremisesMet
+premises-met p weights = premises p weights
+
+pub place-clear : PlaceClear
+unfolding stepMargin
+place-clear p weights = (
+  record { column = record { from = tt; before = tt }; row = record { from = tt; before = tt } },
+  record { left = λ f. tt; right = λ f. tt; top = λ f. absurd (f refl); bottom = λ f. absurd (f refl) },
+)

@@ -1,0 +1,155 @@
+-- A run as a list of calls: the state that is lent, what each call answers and leaves, and that nobody altered anything (document 01, "Runs"). Definitions only.
+use mathlib.Core.Path.{_≡_}
+use mathlib.Core.Bool.{cond}
+use mathlib.Core.List.{List, [], _∷_}
+use Prim.Native.Nat.{ℕ, _+_}
+use lib.Dec.{eqb}
+use lib.Ieee.{Float}
+use Rattle.run_record.specs.declared.Run.{Run}
+use Rattle.run_outcomes.specs.declared.RunAnswer.{RunAnswer}
+use Rattle.run_outcomes.specs.Start.{Handed, StartOutcome, startOutcome}
+use Rattle.run_outcomes.specs.Band.{State, BandOutcome, bandOutcome, advanceOutcome}
+use Rattle.run_outcomes.specs.Result.{ResultOutcome, resultOutcome}
+
+-- ---- the start
+
+-- start accepts what it is handed
+abbrev pub StartAccepted : ℕ → Handed → Type 0
+StartAccepted n h = startOutcome n h .answer .number ≡ 0
+
+-- the state that a start leaves: record, block sigmas and first set are its outcome's; the second set, which it is lent to read alone, is as it was
+abbrev pub leftByStart : StartOutcome → List Float → State
+leftByStart o second = record { run = o .answer .run; sigmas = o .sigmas; first = o .first; second = second }
+
+abbrev pub startState : ℕ → Handed → State
+startState n h = leftByStart (startOutcome n h) (h .second)
+
+-- ---- document 01's calls after it
+
+-- Each with everything that it is handed. Of functions other than these four only the number is told: whatever they are handed, the state itself included.
+pub data DocumentCall : Type 0 where
+  band : State → ℕ → DocumentCall
+  advance : Run → DocumentCall
+  result : Run → List Float → List Float → List Float → DocumentCall
+  start : Handed → DocumentCall
+  other : ℕ → DocumentCall
+
+-- the whole answer of a call, with what it leaves in what it is lent: the outcome that its contract cites
+pub data Answer : Type 0 where
+  ofBand : BandOutcome → Answer
+  ofAdvance : RunAnswer → Answer
+  ofResult : ResultOutcome → Answer
+  ofStart : StartOutcome → Answer
+  ofOther : ℕ → Answer
+
+abbrev pub answer : ℕ → DocumentCall → Answer
+answer n (band t k) = ofBand (bandOutcome n t k)
+answer n (advance r) = ofAdvance (advanceOutcome r)
+answer n (result r first second out) = ofResult (resultOutcome n r first second out)
+answer n (start h) = ofStart (startOutcome n h)
+answer n (other k) = ofOther k
+
+-- the number in an answer
+abbrev pub numberIn : Answer → ℕ
+numberIn (ofBand o) = o .number
+numberIn (ofAdvance o) = o .number
+numberIn (ofResult o) = o .number
+numberIn (ofStart o) = o .answer .number
+numberIn (ofOther k) = k
+
+-- the state after an accepted call that was lent the state t: what the answer has of it, and the rest of t
+abbrev pub leftBy : State → Answer → State
+leftBy t (ofBand o) = o .state
+leftBy t (ofAdvance o) = record { run = o .run; sigmas = t .sigmas; first = t .first; second = t .second }
+leftBy t (ofResult o) = t
+leftBy t (ofStart o) = leftByStart o (t .second)
+leftBy t (ofOther k) = t
+
+-- What the call got of record, block sigmas and both sets is the state's. After the start that begins the run no other start and no other function is accepted.
+abbrev pub LentState : State → DocumentCall → Type 0
+LentState t (band u k) = u ≡ t
+LentState t (advance r) = r ≡ t .run
+LentState t (result r first second out) = (r ≡ t .run) × (first ≡ t .first) × (second ≡ t .second)
+LentState t (start h) = ⊥
+LentState t (other k) = ⊥
+
+abbrev pub asBands : DocumentCall → ℕ
+asBands (band t k) = 1
+asBands (advance r) = 0
+asBands (result r first second out) = 0
+asBands (start h) = 0
+asBands (other k) = 0
+
+abbrev pub asAdvances : DocumentCall → ℕ
+asAdvances (band t k) = 0
+asAdvances (advance r) = 1
+asAdvances (result r first second out) = 0
+asAdvances (start h) = 0
+asAdvances (other k) = 0
+
+-- ---- calls of any kinds, of which document 01's are some
+
+-- What an accepted call may do to the state: finish a band, advance, or nothing. The two numbers count accepted bands and accepted advances.
+pub data Effect (n : ℕ) (t : State) : ℕ → ℕ → State → Type 0 where
+  oneBand : (k : ℕ) → bandOutcome n t k .number ≡ 0 → Effect n t 1 0 (bandOutcome n t k .state)
+  oneAdvance : advanceOutcome (t .run) .number ≡ 0 → Effect n t 0 1 (leftBy t (ofAdvance (advanceOutcome (t .run))))
+  nothing : Effect n t 0 0 t
+
+-- Any kinds of calls: each with the number that it gives, whether it was lent a state, what it leaves of that state when it is accepted, and which effect that is.
+pub record Calls (n : ℕ) : Type 1 where
+  pub Call : Type 0
+  pub number : Call → ℕ
+  pub Lent : State → Call → Type 0
+  pub leaves : State → Call → State
+  pub bands : Call → ℕ
+  pub advances : Call → ℕ
+  pub effect : (t : State) (c : Call) → number c ≡ 0 → Lent t c → Effect n t (bands c) (advances c) (leaves t c)
+
+unfoldable pub documentEffect : (n : ℕ) (t : State) (c : DocumentCall) → numberIn (answer n c) ≡ 0 → LentState t c → Effect n t (asBands c) (asAdvances c) (leftBy t (answer n c))
+documentEffect n t (band u k) e l = rw l (oneBand k (rw l at e))
+documentEffect n t (advance r) e l = rw l (oneAdvance (rw l at e))
+documentEffect n t (result r first second out) e l = nothing
+documentEffect n t (start h) e l = absurd l
+documentEffect n t (other k) e l = absurd l
+
+abbrev pub documentCalls : (n : ℕ) → Calls n
+documentCalls n = record {
+  Call = DocumentCall;
+  number = λ c. numberIn (answer n c);
+  Lent = LentState;
+  leaves = λ t c. leftBy t (answer n c);
+  bands = asBands;
+  advances = asAdvances;
+  effect = documentEffect n;
+}
+
+-- ---- lists of them: runs of n planes by calls of the kinds K
+
+module _ (n : ℕ) (K : Calls n) where
+  -- a refused call changes nothing
+  unfoldable pub stateAfter : State → K .Call → State
+  stateAfter t c = cond (eqb (K .number c) 0) (K .leaves t c) t
+
+  -- the state after a list of calls
+  unfoldable pub end : State → List (K .Call) → State
+  end t [] = t
+  end t (c ∷ cs) = end (stateAfter t c) cs
+
+  -- nobody altered anything (document 01's own term): each accepted call was lent what the accepted calls before it left; a refused one may be lent anything
+  abbrev pub Unaltered : State → List (K .Call) → Type 0
+  Unaltered t [] = Unit {0}
+  Unaltered t (c ∷ cs) = (K .number c ≡ 0 → K .Lent t c) × Unaltered (stateAfter t c) cs
+
+  -- each call of a list is accepted
+  abbrev pub AllAccepted : List (K .Call) → Type 0
+  AllAccepted [] = Unit {0}
+  AllAccepted (c ∷ cs) = (K .number c ≡ 0) × AllAccepted cs
+
+  -- accepted bands and accepted advances of a list
+  unfoldable pub bandsIn : List (K .Call) → ℕ
+  bandsIn [] = 0
+  bandsIn (c ∷ cs) = cond (eqb (K .number c) 0) (K .bands c) 0 + bandsIn cs
+
+  unfoldable pub advancesIn : List (K .Call) → ℕ
+  advancesIn [] = 0
+  advancesIn (c ∷ cs) = cond (eqb (K .number c) 0) (K .advances c) 0 + advancesIn cs

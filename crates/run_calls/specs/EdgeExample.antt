@@ -1,0 +1,74 @@
+-- The same with the edge filter: one iteration, Gabor off. Settings that no pass reads differ, and so do frames, image regions and result kinds. Definitions only.
+use mathlib.Core.List.{List, [], _∷_}
+use Prim.Native.Nat.{ℕ, _+_}
+use lib.IntN.{pos}
+use lib.Ieee.{Float}
+use Rattle.region.specs.declared.Region.{Region}
+use Rattle.region.specs.Regions.{Holds}
+use Rattle.planes.specs.Samples.{b0, b1}
+use Rattle.planes.specs.Picture.{Picture}
+use Rattle.planes.specs.Sets.{setOf}
+use Rattle.run_passes.specs.declared.Settings.{Settings}
+use Rattle.run_passes.specs.Plan.{margin}
+use Rattle.run_record.specs.Record.{started, marked}
+use Rattle.run_outcomes.specs.Start.{Handed}
+use Rattle.run_calls.specs.Calls.{startState, DocumentCall, band, advance, documentCalls}
+use Rattle.run_calls.specs.Places.{Clear}
+use Rattle.run_calls.specs.Theorem.{Premises}
+
+module _ (p : Picture) (scales : List Float) (border sigma : Float) where
+  -- `unread` stands where one iteration without Gabor reads nothing
+  abbrev settingsOf : Float → Settings
+  settingsOf unread = record {
+    gabor = record { enabled = 0; weights = (unread ∷ unread ∷ []) ∷ (unread ∷ unread ∷ []) ∷ (unread ∷ unread ∷ []) ∷ [] };
+    epf = record {
+      iters = 1;
+      «channel_scale» = scales;
+      sigma = record { «quant_mul» = unread; «pass0_sigma_scale» = unread; «pass2_sigma_scale» = unread; «border_sad_mul» = border };
+      «sigma_for_modular» = sigma;
+    };
+  }
+
+  abbrev row : ℕ → ℕ → Region
+  row left width = record { left = pos left; top = pos 0; width = width; height = 1 }
+
+  -- columns 0 to 11, the filter region being the image region; no group has a grid, so each block has `sigma_for_modular`
+  abbrev pub larger : Handed
+  larger = record {
+    setup = record { image = row 0 12; filter = row 0 12; «preserve_outside» = 0; settings = settingsOf b0; «band_height» = 64 };
+    frame = record { width = 12; height = 1; upsampling = 1; «lf_level» = 0; «group_size_shift» = 0 };
+    table = 0 ∷ 0 ∷ 0 ∷ [];
+    grids = [];
+    first = setOf 3 12 1 p;
+    second = setOf 3 12 1 (λ c x y. b0);
+    sigmas = b0 ∷ b0 ∷ [];
+  }
+
+  -- columns 8 to 11 of them in an image region of columns 7 to 11: the left edge of the filter region is cut
+  abbrev pub smaller : Handed
+  smaller = record {
+    setup = record { image = row 7 5; filter = row 8 4; «preserve_outside» = 1; settings = settingsOf b1; «band_height» = 1 };
+    frame = record { width = 100; height = 100; upsampling = 2; «lf_level» = 0; «group_size_shift» = 1 };
+    table = 0 ∷ 5 ∷ 5 ∷ [];
+    grids = [];
+    first = setOf 3 5 1 (λ c x y. p c (7 + x) y);
+    second = setOf 3 5 1 (λ c x y. b0);
+    sigmas = b0 ∷ [];
+  }
+
+  abbrev pub calls : List DocumentCall
+  calls = band (startState 3 smaller) 0 ∷ advance (marked (started (smaller .setup)) 0) ∷ []
+
+  abbrev pub slice : List Float
+  slice = setOf 3 5 1 (λ c x y. b0)
+
+abbrev pub EdgePremisesMet : Type 0
+EdgePremisesMet = (p : Picture) (scales : List Float) (border sigma : Float)
+    → Premises 3 (documentCalls 3) (smaller p scales border sigma) (larger p scales border sigma) (calls p scales border sigma) (slice p scales border sigma)
+
+-- column 10 is clear of the cut edge, and column 9 is not
+abbrev pub EdgePlaceClear : Type 0
+EdgePlaceClear = (p : Picture) (scales : List Float) (border sigma : Float)
+    → let s = smaller p scales border sigma .setup in
+    let l = larger p scales border sigma .setup in
+    Holds (s .filter) (pos 10) (pos 0) × Clear (margin (s .settings)) (s .filter) (l .filter) (pos 10) (pos 0) × (Clear (margin (s .settings)) (s .filter) (l .filter) (pos 9) (pos 0) → ⊥)

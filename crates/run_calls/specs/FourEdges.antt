@@ -1,0 +1,135 @@
+-- Demand 3's premises met by a picture with all four edges cut: both filters, two passes of three bands each, sigmas from a grid, image regions that differ and
+-- reach below 0, full planes for the smaller one and the filter region alone for the larger one; and a refused start, a refused other call. Definitions only.
+use mathlib.Core.List.{List, [], _∷_}
+use Prim.Native.Nat.{ℕ, _+_}
+use lib.IntN.{pos, negsuc}
+use lib.Ieee.{Float}
+use Rattle.region.specs.Regions.{Holds}
+use Rattle.frame.specs.declared.Frame.{Frame}
+use Rattle.planes.specs.Samples.{b0}
+use Rattle.planes.specs.Picture.{Picture}
+use Rattle.planes.specs.Sets.{setOf, tab}
+use Rattle.run_passes.specs.declared.Settings.{Settings}
+use Rattle.run_passes.specs.Plan.{margin}
+use Rattle.run_outcomes.specs.Start.{Handed, noSetup}
+use Rattle.run_outcomes.specs.Band.{State}
+use Rattle.run_calls.specs.Calls.{startState, DocumentCall, band, advance, start, other, documentCalls, stateAfter}
+use Rattle.run_calls.specs.Places.{Clear}
+use Rattle.run_calls.specs.Theorem.{Premises, Delivers, resultAfter}
+
+-- whatever the samples, the settings that are floats, and the sigmas
+pub record Given : Type 0 where
+  pub picture : Picture
+  pub weights : List (List Float)
+  pub scales : List Float
+  pub border : Float
+  pub modular : Float
+  pub grid : ℕ → Float
+
+module _ (g : Given) where
+  abbrev settings : Settings
+  settings = record {
+    gabor = record { enabled = 1; weights = g .weights };
+    epf = record {
+      iters = 1;
+      «channel_scale» = g .scales;
+      sigma = record { «quant_mul» = g .modular; «pass0_sigma_scale» = g .modular; «pass2_sigma_scale» = g .modular; «border_sad_mul» = g .border };
+      «sigma_for_modular» = g .modular;
+    };
+  }
+
+  -- a frame of one group, whose grid has three cells each way
+  abbrev frame : Frame
+  frame = record { width = 24; height = 24; upsampling = 1; «lf_level» = 0; «group_size_shift» = 0 }
+
+  -- columns and rows 0 to 23, in an image region of −1 to 24
+  abbrev pub larger : Handed
+  larger = record {
+    setup = record {
+      image = record { left = negsuc 0; top = negsuc 0; width = 26; height = 26 };
+      filter = record { left = pos 0; top = pos 0; width = 24; height = 24 };
+      «preserve_outside» = 0;
+      settings = settings;
+      «band_height» = 5;
+    };
+    frame = frame;
+    table = 1 ∷ 3 ∷ 3 ∷ [];
+    grids = tab 9 (g .grid);
+    first = setOf 3 26 26 (g .picture);
+    second = setOf 3 26 26 (λ c x y. b0);
+    sigmas = tab 9 (λ i. b0);
+  }
+
+  -- columns and rows 8 to 15 of them, in an image region of 7 to 16; ten rows of the full planes by bands of four
+  abbrev pub smaller : Handed
+  smaller = record {
+    setup = record {
+      image = record { left = pos 7; top = pos 7; width = 10; height = 10 };
+      filter = record { left = pos 8; top = pos 8; width = 8; height = 8 };
+      «preserve_outside» = 1;
+      settings = settings;
+      «band_height» = 4;
+    };
+    frame = frame;
+    table = 1 ∷ 3 ∷ 3 ∷ [];
+    grids = tab 9 (g .grid);
+    first = setOf 3 10 10 (λ c x y. g .picture c (8 + x) (8 + y));
+    second = setOf 3 10 10 (λ c x y. b0);
+    sigmas = tab 1 (λ i. b0);
+  }
+
+  -- a start that is refused (4), though it is lent the run's own sets
+  abbrev pub empty : Handed
+  empty = record { setup = noSetup; frame = frame; table = []; grids = []; first = smaller .first; second = smaller .second; sigmas = smaller .sigmas }
+
+  abbrev next : State → DocumentCall → State
+  next t c = stateAfter 3 (documentCalls 3) t c
+
+  -- the states, one after another
+  abbrev pub begun : State
+  begun = startState 3 smaller
+
+  abbrev pub one : State
+  one = next begun (band begun 2)
+
+  abbrev pub two : State
+  two = next one (band one 0)
+
+  abbrev pub three : State
+  three = next two (band two 1)
+
+  abbrev pub turned : State
+  turned = next three (advance (three .run))
+
+  abbrev pub four : State
+  four = next turned (band turned 1)
+
+  abbrev pub five : State
+  five = next four (band four 2)
+
+  abbrev pub six : State
+  six = next five (band five 0)
+
+  -- bands 2, 0 and 1 of the first pass, and 1, 2 and 0 of the second
+  abbrev pub accepted-calls : List DocumentCall
+  accepted-calls = band begun 2 ∷ band one 0 ∷ band two 1 ∷ advance (three .run) ∷ band turned 1 ∷ band four 2 ∷ band five 0 ∷ advance (six .run) ∷ []
+
+  abbrev pub calls : List DocumentCall
+  calls = start empty ∷ other 9 ∷ accepted-calls
+
+  abbrev pub slice : List Float
+  slice = setOf 3 10 10 (λ c x y. b0)
+
+abbrev pub FourEdgesMet : Type 0
+FourEdgesMet = (g : Given) → Premises 3 (documentCalls 3) (smaller g) (larger g) (calls g) (slice g)
+
+-- the margin is 3: column 11 and row 12 are clear of the cut edges, and column 10 is not
+abbrev pub FourEdgesClear : Type 0
+FourEdgesClear = (g : Given) → let small = smaller g .setup in
+    let large = larger g .setup in
+    Holds (small .filter) (pos 11) (pos 12) × Clear (margin (small .settings)) (small .filter) (large .filter) (pos 11) (pos 12)
+    × (Clear (margin (small .settings)) (small .filter) (large .filter) (pos 10) (pos 12) → ⊥)
+
+-- so demand 3 says of them
+abbrev pub FourEdgesDelivered : Type 0
+FourEdgesDelivered = (g : Given) → Delivers 3 (smaller g) (larger g) (resultAfter 3 (documentCalls 3) (smaller g) (calls g) (slice g))

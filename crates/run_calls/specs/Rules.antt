@@ -1,0 +1,83 @@
+-- The run rule, the records to which accepted calls lead, and what refused calls leave (document 01, "Runs" and "Eleven numbers"). Statements only.
+use mathlib.Core.Path.{_≡_}
+use mathlib.Core.Logic.{_↔_}
+use mathlib.Core.List.{List}
+use Prim.Native.Nat.{ℕ, _*_}
+use lib.Dec.{T}
+use lib.ListN.{length}
+use Rattle.run_setup.specs.declared.Setup.{Setup}
+use Rattle.run_record.specs.declared.Run.{Run}
+use Rattle.run_setup.specs.Setup.{bandCount, setupFits}
+use Rattle.run_record.specs.Record.{passCount, finished, runFits, Reached}
+use Rattle.run_outcomes.specs.Start.{Handed, startOutcome}
+use Rattle.run_outcomes.specs.Band.{State, bandOutcome, advanceOutcome}
+use Rattle.run_outcomes.specs.Result.{resultOutcome}
+use Rattle.run_calls.specs.Calls.{StartAccepted, startState, DocumentCall, band, advance, result, start, other, answer, numberIn, leftBy, LentState, Calls, documentCalls, stateAfter, end, Unaltered, AllAccepted, bandsIn, advancesIn}
+
+-- ---- document 01's calls
+
+-- the state that a start leaves is that of its outcome, and the second set as it was handed over
+abbrev pub StartTied : Type 0
+StartTied = (n : ℕ) (h : Handed) → let t = startState n h in
+    let o = startOutcome n h in
+    (t .run ≡ o .answer .run) × (t .first ≡ o .first) × (t .sigmas ≡ o .sigmas) × (t .second ≡ h .second)
+
+-- where a call was lent the state, accepted or not, what its answer leaves is the state after it
+abbrev pub CallsTied : Type 0
+CallsTied = (n : ℕ) (t : State) (c : DocumentCall) → LentState t c → leftBy t (answer n c) ≡ stateAfter n (documentCalls n) t c
+
+-- what a call leaves of all that it was lent is as it was; functions other than these four say it of themselves
+abbrev pub Untouched : ℕ → DocumentCall → Type 0
+Untouched n (band t k) = bandOutcome n t k .state ≡ t
+Untouched n (advance r) = advanceOutcome r .run ≡ r
+Untouched n (result r first second out) = resultOutcome n r first second out .out ≡ out
+Untouched n (start h) = (startOutcome n h .first ≡ h .first) × (startOutcome n h .sigmas ≡ h .sigmas)
+Untouched n (other k) = Unit {0}
+
+-- so with each refused call
+abbrev pub RefusedUntouched : Type 0
+RefusedUntouched = (n : ℕ) (c : DocumentCall) → (numberIn (answer n c) ≡ 0 → ⊥) → Untouched n c
+
+-- from every accepted start some list of calls finishes the run
+abbrev pub CanFinish : Type 0
+CanFinish = (n : ℕ) (h : Handed) → StartAccepted n h
+    → (cs : List DocumentCall) × Unaltered n (documentCalls n) (startState n h) cs × T (finished (end n (documentCalls n) (startState n h) cs .run))
+
+-- ---- runs of n planes by calls of the kinds K
+
+module _ (n : ℕ) (K : Calls n) where
+  -- With p passes and b bands a run is finished after exactly p × b accepted bands and p accepted advances.
+  abbrev pub CountRule : Type 0
+  CountRule = (h : Handed) → StartAccepted n h → (cs : List (K .Call)) → Unaltered n K (startState n h) cs
+      → T (finished (end n K (startState n h) cs .run))
+      ↔ ((bandsIn n K cs ≡ passCount (h .setup) * bandCount (h .setup)) × (advancesIn n K cs ≡ passCount (h .setup)))
+
+  -- the record after any list of calls is sound
+  abbrev pub EndFits : Type 0
+  EndFits = (h : Handed) → StartAccepted n h → (cs : List (K .Call)) → Unaltered n K (startState n h) cs
+      → let r = end n K (startState n h) cs .run in (r .setup ≡ h .setup) × T (runFits r) × (length (r .done) ≡ 256)
+
+-- document 01's three planes and its calls
+abbrev pub DocumentCountRule : Type 0
+DocumentCountRule = CountRule 3 (documentCalls 3)
+
+-- ---- the records to which accepted calls lead
+
+-- what accepted calls return is sound
+abbrev pub ReachedFits : Type 0
+ReachedFits = (s : Setup) (r : Run) → T (setupFits s) → Reached s r → T (runFits r)
+
+-- each sound record is reached from the one that start gives
+abbrev pub FitsReached : Type 0
+FitsReached = (r : Run) → length (r .done) ≡ 256 → T (runFits r) → Reached (r .setup) r
+
+-- a list of document 01's calls after an accepted start, all accepted and lent what those before them left, that ends in the record r
+pub record LeadsTo (n : ℕ) (h : Handed) (cs : List DocumentCall) (r : Run) : Type 0 where
+  pub accepted : AllAccepted n (documentCalls n) cs
+  pub unaltered : Unaltered n (documentCalls n) (startState n h) cs
+  pub ends : end n (documentCalls n) (startState n h) cs .run ≡ r
+
+-- there is one for each sound record of that start: EndFits the other way round
+abbrev pub EachReached : Type 0
+EachReached = (n : ℕ) (h : Handed) → StartAccepted n h → (r : Run) → r .setup ≡ h .setup → T (runFits r) → length (r .done) ≡ 256
+    → (cs : List DocumentCall) × LeadsTo n h cs r

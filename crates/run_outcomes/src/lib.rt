@@ -1,0 +1,87 @@
+// Runs: what calls answer, and the lengths of what they are lent. The outcomes of start, band, advance and result are defined in specs/.
+use refusals::flag_fits;
+use refusals::flag_set;
+use region::Region;
+use run_passes::MAX_ITERS;
+use run_record::Run;
+use run_setup::Setup;
+use run_setup::sized;
+use sigma_blocks::blocks_along;
+ghost use mathlib.Core.Path.{_≡_};
+ghost use mathlib.Core.Bool.{true};
+ghost use Prim.Native.Nat.{_*_};
+ghost use Rattle.refusals.specs.Checks.{applies};
+ghost use Rattle.run_setup.specs.Setup.{sized, resultRegion};
+ghost use Rattle.run_outcomes.specs.Band.{setCheck, sigmaCheck};
+ghost use Rattle.run_outcomes.specs.Result.{sliceCheck};
+
+const PLANES: usize = 3;
+
+// The record as it is after the call: as it was handed in where a band or an advance is refused, and zeros where start is.
+#[repr(C)]
+pub struct RunAnswer {
+    pub number: u32,
+    pub run: Run,
+}
+
+fn set_length(r: Region) -> usize
+    requires { ⌜ sized r ≡ true ⌝ }
+    ensures { λ n. ⌜ n ≡ 3 * r .height * r .width ⌝ }
+{
+    PLANES * r.height as usize * r.width as usize
+}
+
+fn result_region(s: Setup) -> Region
+    ensures { λ r. ⌜ r ≡ resultRegion s ⌝ }
+{
+    if flag_set(s.preserve_outside) {
+        return s.image;
+    }
+    s.filter
+}
+
+// Whether a set has a wrong length; not known where the image region's sides or area are out of measure.
+pub fn sets_wrong(s: Setup, first: usize, second: usize) -> bool
+    ensures { λ b. ⌜ b ≡ applies (setCheck 3 s first second) ⌝ }
+{
+    if !sized(s.image) {
+        return false;
+    }
+    let n = set_length(s.image);
+    if first != n {
+        return true;
+    }
+    second != n
+}
+
+// Whether the block sigmas have a wrong length; not known where the iterations or, if on, the filter region's sides or area are out of range.
+pub fn sigmas_wrong(s: Setup, sigmas: usize) -> bool
+    ensures { λ b. ⌜ b ≡ applies (sigmaCheck 3 s sigmas) ⌝ }
+{
+    if MAX_ITERS < s.settings.epf.iters {
+        return false;
+    }
+    if s.settings.epf.iters == 0 {
+        return sigmas != 0;
+    }
+    if !sized(s.filter) {
+        return false;
+    }
+    let down = blocks_along(s.filter.height) as usize;
+    let across = blocks_along(s.filter.width) as usize;
+    sigmas != down * across
+}
+
+// Whether the result's slice has a wrong length; not known where the flag that chooses the result's region, or its sides or area, are out of range.
+pub fn slice_wrong(s: Setup, out: usize) -> bool
+    ensures { λ b. ⌜ b ≡ applies (sliceCheck 3 s out) ⌝ }
+{
+    if !flag_fits(s.preserve_outside) {
+        return false;
+    }
+    let r = result_region(s);
+    if !sized(r) {
+        return false;
+    }
+    out != set_length(r)
+}

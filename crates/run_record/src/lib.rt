@@ -1,0 +1,160 @@
+// The record of a run: what start was told, the pass, and which bands are done in it. It goes in by value and comes back by value.
+use refusals::ACCEPTED;
+use refusals::BAND_NOT_OPEN;
+use refusals::OUT_OF_RANGE;
+use refusals::PASS_NOT_DONE;
+use refusals::flag_set;
+use run_passes::pass_count;
+use run_setup::MAX_BANDS;
+use run_setup::Setup;
+use run_setup::band_count;
+use run_setup::setup_fits;
+ghost use mathlib.Core.Path.{_≡_};
+ghost use mathlib.Core.Bool.{not};
+ghost use Prim.Native.Nat.{ℕ, _<_, _≤_};
+ghost use lib.ListN.{getD};
+ghost use Rattle.refusals.specs.Checks.{firstOf};
+ghost use Rattle.sigma_grids.specs.Table.{someBelow};
+ghost use Rattle.run_setup.specs.Setup.{bandCount};
+ghost use Rattle.run_record.specs.Record.{isDone, strayFlag, finished, openBands, runFits, notOpen, openChecks, overChecks, finishedChecks};
+
+// `pass` counts the passes that are over; `done` has a flag for each band of the next one: 1 where it is done.
+#[repr(C)]
+pub struct Run {
+    pub setup: Setup,
+    pub pass: u32,
+    pub done: [u8; 256],
+}
+
+fn is_done(r: Run, k: usize) -> bool
+    requires { ⌜ k < 256 ⌝ }
+    ensures { λ b. ⌜ b ≡ isDone r k ⌝ }
+{
+    flag_set(r.done[k] as u32)
+}
+
+// Whether no accepted call gives band k this flag where the first `bands` may be done.
+fn stray(bands: usize, k: usize, flag: u8) -> bool
+    ensures { λ b. ⌜ b ≡ strayFlag bands k flag ⌝ }
+{
+    if k < bands {
+        return 1 < flag;
+    }
+    0 < flag
+}
+
+fn stray_done(r: Run, bands: usize) -> bool
+    ensures { λ b. ⌜ b ≡ someBelow 256 (λ (k : ℕ). strayFlag bands k (getD (r .done) k 0)) ⌝ }
+{
+    let done = r.done;
+    let mut k = 0;
+    while k < MAX_BANDS {
+        if stray(bands, k, done[k]) {
+            return true;
+        }
+        k += 1;
+    }
+    false
+}
+
+// Whether one of the first n bands is not done.
+fn band_missing(r: Run, n: usize) -> bool
+    requires { ⌜ n ≤ 256 ⌝ }
+    ensures { λ b. ⌜ b ≡ someBelow n (λ (k : ℕ). not (isDone r k)) ⌝ }
+{
+    let done = r.done;
+    let mut k = 0;
+    while k < n {
+        if !flag_set(done[k] as u32) {
+            return true;
+        }
+        k += 1;
+    }
+    false
+}
+
+// All passes are over.
+fn finished(r: Run) -> bool
+    ensures { λ b. ⌜ b ≡ finished r ⌝ }
+{
+    r.pass == pass_count(r.setup.settings)
+}
+
+// How many bands may be done.
+fn open_bands(r: Run) -> usize
+    ensures { λ n. ⌜ n ≡ openBands r ⌝ }
+{
+    if finished(r) {
+        return 0;
+    }
+    band_count(r.setup)
+}
+
+// Whether start would refuse none of it, and accepted calls lead to its pass and done bands.
+pub fn run_fits(r: Run) -> bool
+    ensures { λ b. ⌜ b ≡ runFits r ⌝ }
+{
+    if !setup_fits(r.setup) {
+        return false;
+    }
+    if pass_count(r.setup.settings) < r.pass {
+        return false;
+    }
+    !stray_done(r, open_bands(r))
+}
+
+// Whether the run is finished, there is no band k, or it is done.
+fn not_open(r: Run, k: usize) -> bool
+    requires { ⌜ bandCount (r .setup) ≤ 256 ⌝ }
+    ensures { λ b. ⌜ b ≡ notOpen r k ⌝ }
+{
+    if finished(r) {
+        return true;
+    }
+    if band_count(r.setup) <= k {
+        return true;
+    }
+    is_done(r, k)
+}
+
+// The number that the record gives a band: 9 or 10.
+pub fn band_number(r: Run, k: u32) -> u32
+    ensures { λ n. ⌜ n ≡ firstOf (openChecks r k) ⌝ }
+{
+    if !run_fits(r) {
+        return OUT_OF_RANGE;
+    }
+    if not_open(r, k as usize) {
+        return BAND_NOT_OPEN;
+    }
+    ACCEPTED
+}
+
+// The number that the record gives an advance: 9 or 11.
+pub fn advance_number(r: Run) -> u32
+    ensures { λ n. ⌜ n ≡ firstOf (overChecks r) ⌝ }
+{
+    if !run_fits(r) {
+        return OUT_OF_RANGE;
+    }
+    if finished(r) {
+        return PASS_NOT_DONE;
+    }
+    if band_missing(r, band_count(r.setup)) {
+        return PASS_NOT_DONE;
+    }
+    ACCEPTED
+}
+
+// The number that the record gives the result: 9 or 11.
+pub fn result_number(r: Run) -> u32
+    ensures { λ n. ⌜ n ≡ firstOf (finishedChecks r) ⌝ }
+{
+    if !run_fits(r) {
+        return OUT_OF_RANGE;
+    }
+    if finished(r) {
+        return ACCEPTED;
+    }
+    PASS_NOT_DONE
+}

@@ -1,0 +1,95 @@
+-- What start is told and a record holds: which of it is in range, and what follows from it (document 01, "Runs", "Measures", "Eleven numbers"). Definitions only.
+use mathlib.Core.Bool.{Bool, true, cond, _&&_}
+use mathlib.Core.List.{List}
+use Prim.Native.Nat.{ℕ, _+_, _-_, _*_, _/_, min}
+use lib.Dec.{leb, ltb}
+use lib.Ieee.{Float}
+use Rattle.refusals.specs.Flags.{flagFits, flagSet}
+use Rattle.region.specs.declared.Region.{Region}
+use Rattle.region.specs.Regions.{inside}
+use Rattle.region.specs.Measures.{areaFits, pictured}
+use Rattle.planes.specs.declared.Layout.{Layout}
+use Rattle.planes.specs.Band.{resultHeight}
+use Rattle.planes_layout.specs.Outcome.{layoutOf}
+use Rattle.epf_tiles.specs.Blocks.{blockColumns, sigmaOf, blockRows}
+use Rattle.region_placement.specs.Blocks.{ahead, onBlocks}
+use Rattle.run_passes.specs.Pass.{Area}
+use Rattle.run_passes.specs.Plan.{gaborFits, iterationsFit}
+use Rattle.run_setup.specs.declared.Setup.{Setup}
+
+-- the result is the full planes, or else the filter region's part
+abbrev pub fullPlanes : Setup → Bool
+fullPlanes s = flagSet (s .«preserve_outside»)
+
+-- where the filter region lies in the planes, and the result
+abbrev pub layout : Setup → Layout
+layout s = layoutOf (s .image) (s .filter) (fullPlanes s)
+
+-- the edge filter is on: the iterations alone say it
+abbrev pub epfOn : Setup → Bool
+epfOn s = ltb 0 (s .settings .epf .iters)
+
+-- the filter region with its block sigmas, row of blocks after row of blocks
+abbrev pub area : Setup → List Float → Area
+area s sigmas = record { width = s .filter .width; height = s .filter .height; top = ahead (s .filter .top); sigma = sigmaOf (blockColumns (layout s)) sigmas }
+
+-- ---- bands, a term of document 01's own: rows of the result, the last band perhaps shorter
+
+abbrev pub rowCount : Setup → ℕ
+rowCount s = resultHeight (layout s)
+
+unfoldable pub bandCount : Setup → ℕ
+bandCount s = (rowCount s + s .«band_height» - 1) / s .«band_height»
+
+-- band k has the rows from the first up to the second
+abbrev pub bandFrom : Setup → ℕ → ℕ
+bandFrom s k = k * s .«band_height»
+
+abbrev pub bandTo : Setup → ℕ → ℕ
+bandTo s k = min (bandFrom s k + s .«band_height») (rowCount s)
+
+-- ---- what start would not refuse under 4, 5, 6 and 9
+
+-- sides of 1 to 16,384 and an area of at most 16,777,216
+unfoldable pub sized : Region → Bool
+sized r = (leb (r .width) 16384 && leb (r .height) 16384) && areaFits (r .width) (r .height)
+
+abbrev pub itersFit : Setup → Bool
+itersFit s = iterationsFit (s .settings)
+
+abbrev pub fullFits : Setup → Bool
+fullFits s = flagFits (s .«preserve_outside»)
+
+-- the filter region starts at multiples of 8 where the edge filter is on
+abbrev pub blocksFit : Setup → Bool
+blocksFit s = cond (epfOn s) (onBlocks (s .filter)) true
+
+abbrev pub heightFits : Setup → Bool
+heightFits s = leb 1 (s .«band_height») && leb (s .«band_height») 16384
+
+abbrev pub countFits : Setup → Bool
+countFits s = leb (bandCount s) 256
+
+-- the iterations, both flags, the band height and the count of bands
+unfoldable pub numbersFit : Setup → Bool
+numbersFit s = itersFit s && (fullFits s && (gaborFits (s .settings) && (heightFits s && countFits s)))
+
+unfoldable pub setupFits : Setup → Bool
+setupFits s = ((pictured (s .image) && pictured (s .filter)) && (inside (s .image) (s .filter) && blocksFit s)) && numbersFit s
+
+-- ---- lengths of what is lent, for n planes
+
+-- a set: the image region's samples
+abbrev pub setLength : ℕ → Setup → ℕ
+setLength n s = n * s .image .height * s .image .width
+
+-- one sigma a block of the filter region, none with the edge filter off
+abbrev pub sigmaLength : Setup → ℕ
+sigmaLength s = cond (epfOn s) (blockRows (layout s) * blockColumns (layout s)) 0
+
+-- the result's own region
+abbrev pub resultRegion : Setup → Region
+resultRegion s = cond (fullPlanes s) (s .image) (s .filter)
+
+abbrev pub resultLength : ℕ → Setup → ℕ
+resultLength n s = n * resultRegion s .height * resultRegion s .width

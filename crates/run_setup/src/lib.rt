@@ -1,0 +1,119 @@
+// What start is told and no call of a run changes: which of it is in range, and the rows and bands of the result.
+use refusals::ACCEPTED;
+use refusals::flag_fits;
+use refusals::flag_set;
+use region::Region;
+use region_placement::on_blocks;
+use region_placement::placed;
+use run_passes::MAX_ITERS;
+use run_passes::Settings;
+ghost use mathlib.Core.Path.{_≡_};
+ghost use Prim.Native.Nat.{_<_};
+ghost use Rattle.run_setup.specs.Setup.{rowCount, sized, bandCount, blocksFit, heightFits, numbersFit, setupFits};
+
+// Document 01, "Measures" and "Runs".
+pub const MAX_SIDE: u32 = 16384;
+
+const MAX_AREA: u32 = 16777216;
+
+pub const MAX_BANDS: usize = 256;
+
+// What start is told and no call changes. `preserve_outside` is a flag: the result is the full planes. `band_height` is in rows of the result.
+#[repr(C)]
+pub struct Setup {
+    pub image: Region,
+    pub filter: Region,
+    pub preserve_outside: u32,
+    pub settings: Settings,
+    pub band_height: u32,
+}
+
+// Sides of 1 to 16,384 and an area of at most 16,777,216.
+pub fn sized(r: Region) -> bool
+    ensures { λ b. ⌜ b ≡ sized r ⌝ }
+{
+    if MAX_SIDE < r.width {
+        return false;
+    }
+    if MAX_SIDE < r.height {
+        return false;
+    }
+    if r.width < 1 {
+        return false;
+    }
+    if r.height < 1 {
+        return false;
+    }
+    r.width * r.height <= MAX_AREA
+}
+
+// The rows of the result.
+pub fn row_count(s: Setup) -> usize
+    ensures { λ r. ⌜ (r ≡ rowCount s) × (r < 4294967296) ⌝ }
+{
+    if flag_set(s.preserve_outside) {
+        return s.image.height as usize;
+    }
+    s.filter.height as usize
+}
+
+pub fn band_count(s: Setup) -> usize
+    ensures { λ r. ⌜ r ≡ bandCount s ⌝ }
+{
+    let height = s.band_height as usize;
+    if height == 0 {
+        return 0;
+    }
+    (row_count(s) + height - 1) / height
+}
+
+fn blocks_fit(s: Setup) -> bool
+    ensures { λ r. ⌜ r ≡ blocksFit s ⌝ }
+{
+    if s.settings.epf.iters == 0 {
+        return true;
+    }
+    on_blocks(s.filter)
+}
+
+fn height_fits(s: Setup) -> bool
+    ensures { λ r. ⌜ r ≡ heightFits s ⌝ }
+{
+    if s.band_height < 1 {
+        return false;
+    }
+    s.band_height <= MAX_SIDE
+}
+
+// Whether the iterations, both flags, the band height and the count of bands are in range.
+pub fn numbers_fit(s: Setup) -> bool
+    ensures { λ r. ⌜ r ≡ numbersFit s ⌝ }
+{
+    if MAX_ITERS < s.settings.epf.iters {
+        return false;
+    }
+    if !flag_fits(s.preserve_outside) {
+        return false;
+    }
+    if !flag_fits(s.settings.gabor.enabled) {
+        return false;
+    }
+    if !height_fits(s) {
+        return false;
+    }
+    band_count(s) <= MAX_BANDS
+}
+
+// Whether start would refuse none of it under 4, 5, 6 and 9.
+pub fn setup_fits(s: Setup) -> bool
+    ensures { λ r. ⌜ r ≡ setupFits s ⌝ }
+{
+    let place = placed(s.image, s.filter);
+    if place.number != ACCEPTED {
+        return false;
+    }
+    if !blocks_fit(s) {
+        return false;
+    }
+    numbers_fit(s)
+}

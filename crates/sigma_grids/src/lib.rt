@@ -1,0 +1,117 @@
+// The group table of a frame, and where the grid of each group starts in the slice of all grids (document 01, "Block sigmas").
+ghost use mathlib.Core.Path.{_≡_};
+ghost use mathlib.Core.Bool.{false};
+ghost use Prim.Native.Nat.{_+_, _*_, _≤_};
+ghost use lib.ListN.{length};
+ghost use Rattle.sigma_grids.specs.Table.{badGridSide, badGrid, cells, gridStart, someBelow};
+ghost use Rattle.sigma_grids.specs.Start.{startOutcome};
+
+const MAX_GRID_SIDE: u32 = 1_024;
+
+const PRESENT: u32 = 1;
+// Presence, grid width, grid height.
+const ENTRY: usize = 3;
+// 256 groups: 16 by 16 of 1,024 samples each way.
+const MAX_TABLE: usize = 768;
+
+#[repr(C)]
+pub struct StartAnswer {
+    pub number: u32,
+    pub start: usize,
+}
+
+fn bad_side(side: u32) -> bool
+    ensures { λ r. ⌜ r ≡ badGridSide side ⌝ }
+{
+    if side < 1 {
+        return true;
+    }
+    MAX_GRID_SIDE < side
+}
+
+// A present grid with a side out of measure.
+fn bad_grid(table: &[u32], group: usize) -> bool
+    requires { ⌜ 3 * group + 3 ≤ length (now table) ⌝ }
+    ensures { λ r. ⌜ r ≡ badGrid (now (table .entry)) group ⌝ }
+{
+    let entry = ENTRY * group;
+    if table[entry] != PRESENT {
+        return false;
+    }
+    if bad_side(table[entry + 1]) {
+        return true;
+    }
+    bad_side(table[entry + 2])
+}
+
+fn some_bad_grid(table: &[u32], groups: usize) -> bool
+    requires { ⌜ 3 * groups ≤ length (now table) ⌝ }
+    ensures { λ r. ⌜ r ≡ someBelow groups (badGrid (now (table .entry))) ⌝ }
+{
+    let mut g = 0;
+    while g < groups {
+        if bad_grid(table, g) {
+            return true;
+        }
+        g += 1;
+    }
+    false
+}
+
+// A group's cells in the grids slice.
+fn cells(table: &[u32], group: usize) -> usize
+    requires { ⌜ (3 * group + 3 ≤ length (now table)) × (badGrid (now table) group ≡ false) ⌝ }
+    ensures { λ r. ⌜ r ≡ cells (now (table .entry)) group ⌝ }
+{
+    let entry = ENTRY * group;
+    if table[entry] != PRESENT {
+        return 0;
+    }
+    wide(table[entry + 1]) * wide(table[entry + 2])
+}
+
+fn wide(x: u32) -> usize
+    ensures { λ r. ⌜ r ≡ x ⌝ }
+{
+    x as usize
+}
+
+// The cells of the groups before one.
+fn cells_before(table: &[u32], group: usize) -> usize
+    requires { ⌜ (3 * group ≤ length (now table)) × (group ≤ 256) × (someBelow group (badGrid (now table)) ≡ false) ⌝ }
+    ensures { λ r. ⌜ r ≡ gridStart (now (table .entry)) group ⌝ }
+{
+    let mut start = 0;
+    let mut g = 0;
+    while g < group {
+        start += cells(table, g);
+        g += 1;
+    }
+    start
+}
+
+fn no_start(number: u32) -> StartAnswer
+    ensures { λ r. ⌜ r ≡ record { number = number; start = 0 } ⌝ }
+{
+    StartAnswer { number, start: 0 }
+}
+
+// Where a group's grid starts in the grids slice.
+pub fn grid_start(table: &[u32], group: u32) -> StartAnswer
+    ensures { λ r. ⌜ r ≡ startOutcome (now (table .entry)) group ⌝ }
+{
+    let before = group as usize;
+    if MAX_TABLE < table.len() {
+        return no_start(refusals::WRONG_LENGTH);
+    }
+    if table.len() < ENTRY * before {
+        return no_start(refusals::WRONG_LENGTH);
+    }
+    if some_bad_grid(table, before) {
+        return no_start(refusals::OUT_OF_MEASURE);
+    }
+    StartAnswer {
+        number: refusals::ACCEPTED,
+        start: cells_before(table, before),
+    }
+}
