@@ -1,4 +1,4 @@
-//! Writes the modules that are compiled from the original's folder, `LOUPE_RUST_SRC`, once its files have their digests.
+//! Writes the modules that are compiled from the original's folder, `RESTORATION_RUST_SRC`, once its files have their digests.
 
 use std::{env, fs, path::PathBuf};
 

@@ -1,4 +1,4 @@
-//! Writes the modules that are compiled from the original's folder, `LOUPE_RUST_SRC`, once its files
+//! Writes the modules that are compiled from the original's folder, `RESTORATION_RUST_SRC`, once its files
 //! have their digests.
 //!
 //! Files of which only a part is wanted have that part's text taken out of them, into the build's

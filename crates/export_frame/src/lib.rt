@@ -12,7 +12,7 @@ ghost use Rattle.sigma.specs.Outcome.{SigmasOutcome, sigmasOutcome};
 // Numbers: 0; 4 for a frame side outside 1 to 16,384; 9 for an upsampling that is none of 1, 2, 4 and 8, an LF level over 4 or a group size shift over 3.
 // The lowest that applies is given. A refusal has 0 in every other field.
 #[no_mangle]
-pub extern "C" fn loupe_group_sizes(f: Frame) -> FrameAnswer
+pub extern "C" fn restoration_group_sizes(f: Frame) -> FrameAnswer
     ensures { λ a. ⌜ a ≡ frameOutcome f ⌝ }
 {
     frame::group_sizes(f)
@@ -21,7 +21,7 @@ pub extern "C" fn loupe_group_sizes(f: Frame) -> FrameAnswer
 // The group that a block's column or row lies in, and its cell in that group.
 // Numbers: 0; 9 for a group size shift over 3. A refusal has 0 in every other field.
 #[no_mangle]
-pub extern "C" fn loupe_split_block(block: u32, group_size_shift: u32) -> SplitAnswer
+pub extern "C" fn restoration_split_block(block: u32, group_size_shift: u32) -> SplitAnswer
     ensures { λ a. ⌜ a ≡ splitOutcome block «group_size_shift» ⌝ }
 {
     frame::split_block(block, group_size_shift)
@@ -36,7 +36,7 @@ pub extern "C" fn loupe_split_block(block: u32, group_size_shift: u32) -> SplitA
 // that is neither 0 nor 1, or `on` neither 0 nor 1. The lowest that applies is given; a check that needs a number faulty under 9 is passed over: the
 // sigmas' length and 8 need `on`. A refusal leaves `sigmas` as they were. `table` and `grids` are only read.
 #[no_mangle]
-pub extern "C" fn loupe_block_sigmas(
+pub extern "C" fn restoration_block_sigmas(
     on: u32,
     frame: Frame,
     blocks: Blocks,

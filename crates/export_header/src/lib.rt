@@ -19,7 +19,7 @@ ghost use Rattle.header.specs.Restoration.{restorationAt, restorationAnswer};
 // Numbers: 0; 7 for more than 65,536 bytes; else 1 where the bits run out, 2 for exponent field 31. A refusal has 0 in every other field.
 // `bytes` is only read.
 #[no_mangle]
-pub extern "C" fn loupe_read_half(bytes: &[u8], at: usize) -> HalfAnswer
+pub extern "C" fn restoration_read_half(bytes: &[u8], at: usize) -> HalfAnswer
     ensures { λ a. ⌜ a ≡ halfAnswer (f16 (now (bytes .entry)) at) ⌝ }
 {
     header_half::read_half(bytes, at)
@@ -30,7 +30,7 @@ pub extern "C" fn loupe_read_half(bytes: &[u8], at: usize) -> HalfAnswer
 // Numbers: 0; 7 for more than 65,536 bytes; else the first in bit order of 1 where the bits run out, 2 for a half with exponent field 31, 3 where a channel's
 // |1 + (w0 + w1) * 4| is under 2^-23. A refusal has 0 in every other field. `bytes` is only read.
 #[no_mangle]
-pub extern "C" fn loupe_read_gabor(bytes: &[u8], at: usize) -> GaborAnswer
+pub extern "C" fn restoration_read_gabor(bytes: &[u8], at: usize) -> GaborAnswer
     ensures { λ a. ⌜ a ≡ gaborAnswer (gaborAt (now (bytes .entry)) at) ⌝ }
 {
     Gabor::parse(bytes, at)
@@ -42,7 +42,7 @@ pub extern "C" fn loupe_read_gabor(bytes: &[u8], at: usize) -> GaborAnswer
 // Numbers: 0; 7 for more than 65,536 bytes; else the first in bit order of 1 where the bits run out, 2 for a half with exponent field 31.
 // A refusal has 0 in every other field. `bytes` is only read.
 #[no_mangle]
-pub extern "C" fn loupe_read_epf_vardct(bytes: &[u8], at: usize) -> EpfAnswer
+pub extern "C" fn restoration_read_epf_vardct(bytes: &[u8], at: usize) -> EpfAnswer
     ensures { λ a. ⌜ a ≡ epfAnswer (epfAt VarDct (now (bytes .entry)) at) ⌝ }
 {
     EdgePreservingFilter::parse(bytes, at, Encoding::VarDct)
@@ -54,29 +54,29 @@ pub extern "C" fn loupe_read_epf_vardct(bytes: &[u8], at: usize) -> EpfAnswer
 // Numbers: 0; 7 for more than 65,536 bytes; else the first in bit order of 1 where the bits run out, 2 for a half with exponent field 31.
 // A refusal has 0 in every other field. `bytes` is only read.
 #[no_mangle]
-pub extern "C" fn loupe_read_epf_modular(bytes: &[u8], at: usize) -> EpfAnswer
+pub extern "C" fn restoration_read_epf_modular(bytes: &[u8], at: usize) -> EpfAnswer
     ensures { λ a. ⌜ a ≡ epfAnswer (epfAt Modular (now (bytes .entry)) at) ⌝ }
 {
     EdgePreservingFilter::parse(bytes, at, Encoding::Modular)
 }
 
 // Reads both bundles of a frame encoded as VarDCT from bit place `at` on, the Gabor-like filter's and then the edge-preserving filter's, as
-// `loupe_read_gabor` and `loupe_read_epf_vardct` do. Answers both and the next bit place.
+// `restoration_read_gabor` and `restoration_read_epf_vardct` do. Answers both and the next bit place.
 // Numbers: 0; 7 for more than 65,536 bytes; else the first in bit order of 1, 2 and 3 as those functions give them. A refusal has 0 in every other field.
 // `bytes` is only read.
 #[no_mangle]
-pub extern "C" fn loupe_read_filters_vardct(bytes: &[u8], at: usize) -> RestorationAnswer
+pub extern "C" fn restoration_read_filters_vardct(bytes: &[u8], at: usize) -> RestorationAnswer
     ensures { λ a. ⌜ a ≡ restorationAnswer (restorationAt VarDct (now (bytes .entry)) at) ⌝ }
 {
     RestorationFilter::parse(bytes, at, Encoding::VarDct)
 }
 
 // Reads both bundles of a frame encoded as Modular from bit place `at` on, the Gabor-like filter's and then the edge-preserving filter's, as
-// `loupe_read_gabor` and `loupe_read_epf_modular` do. Answers both and the next bit place.
+// `restoration_read_gabor` and `restoration_read_epf_modular` do. Answers both and the next bit place.
 // Numbers: 0; 7 for more than 65,536 bytes; else the first in bit order of 1, 2 and 3 as those functions give them. A refusal has 0 in every other field.
 // `bytes` is only read.
 #[no_mangle]
-pub extern "C" fn loupe_read_filters_modular(bytes: &[u8], at: usize) -> RestorationAnswer
+pub extern "C" fn restoration_read_filters_modular(bytes: &[u8], at: usize) -> RestorationAnswer
     ensures { λ a. ⌜ a ≡ restorationAnswer (restorationAt Modular (now (bytes .entry)) at) ⌝ }
 {
     RestorationFilter::parse(bytes, at, Encoding::Modular)

@@ -13,7 +13,7 @@ ghost use Rattle.mirror.specs.Outcome.{mirrorOutcome};
 // else 2 * len - 1 - m.
 // Numbers: 0; 9 for a length outside 1 to 16,384 or an offset outside -1,048,576 to 1,048,576. A refusal has place 0.
 #[no_mangle]
-pub extern "C" fn loupe_mirror(offset: isize, len: usize) -> MirrorAnswer
+pub extern "C" fn restoration_mirror(offset: isize, len: usize) -> MirrorAnswer
     ensures { λ a. ⌜ a ≡ mirrorOutcome offset len ⌝ }
 {
     mirror::mirror(offset, len)
@@ -26,7 +26,7 @@ pub extern "C" fn loupe_mirror(offset: isize, len: usize) -> MirrorAnswer
 // inside the image region; 7 for a set that has not exactly 3 * width * height samples of the image region; 9 for `preserve_outside` neither 0 nor 1, `from`
 // after `to`, or `to` past the last row of the result. The lowest that applies is given. A refusal leaves `dst` as it was. `src` is only read.
 #[no_mangle]
-pub extern "C" fn loupe_gabor_pass(
+pub extern "C" fn restoration_gabor_pass(
     image: Region,
     filter: Region,
     preserve_outside: u32,
@@ -43,13 +43,13 @@ pub extern "C" fn loupe_gabor_pass(
 }
 
 // Step 0, 1 or 2 of the edge-preserving filter over rows `from` up to `to` of its result, which is the full planes (`preserve_outside` 1) or the filter region
-// alone (0). Reads `src` and writes `dst` as `loupe_gabor_pass` does. `sigmas` has one sigma for each block of 8 by 8 samples of the filter region, row of
+// alone (0). Reads `src` and writes `dst` as `restoration_gabor_pass` does. `sigmas` has one sigma for each block of 8 by 8 samples of the filter region, row of
 // blocks after row; sigmas, scales and multipliers are any floats.
 // Numbers: 0; 4 for a region out of measure; 5 for a filter region that is not inside the image region; 6 for a left or top of the filter region that is
 // negative or no multiple of 8; 7 for a set or sigmas of another length; 9 for a step over 2, `preserve_outside` neither 0 nor 1, `from` after `to`, or `to`
 // past the last row of the result. The lowest that applies is given. A refusal leaves `dst` as it was. `src` and `sigmas` are only read.
 #[no_mangle]
-pub extern "C" fn loupe_epf_pass(
+pub extern "C" fn restoration_epf_pass(
     image: Region,
     filter: Region,
     preserve_outside: u32,

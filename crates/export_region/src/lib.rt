@@ -1,4 +1,4 @@
-// The C boundary of regions: each function passes on what it is handed. Names begin with `loupe_`.
+// The C boundary of regions: each function passes on what it is handed. Names begin with `restoration_`.
 use region::BoolAnswer;
 use region::EdgeAnswer;
 use region::Region;
@@ -10,7 +10,7 @@ ghost use Rattle.region_arithmetic.specs.Answers.{translateOutcome, intersectio
 // Whether a region has a side of 0.
 // Numbers: 0; 4 for a region out of measure: a side over 16,384, or left or top outside -1,048,576 to 1,048,576. A refusal answers false.
 #[no_mangle]
-pub extern "C" fn loupe_region_is_empty(r: Region) -> BoolAnswer
+pub extern "C" fn restoration_region_is_empty(r: Region) -> BoolAnswer
     ensures { λ a. ⌜ a ≡ isEmptyOutcome r ⌝ }
 {
     r.is_empty()
@@ -19,7 +19,7 @@ pub extern "C" fn loupe_region_is_empty(r: Region) -> BoolAnswer
 // The column past a region's last: left + width.
 // Numbers: 0; 4 for a region out of measure. A refusal has edge 0.
 #[no_mangle]
-pub extern "C" fn loupe_region_right(r: Region) -> EdgeAnswer
+pub extern "C" fn restoration_region_right(r: Region) -> EdgeAnswer
     ensures { λ a. ⌜ a ≡ rightOutcome r ⌝ }
 {
     r.right()
@@ -28,7 +28,7 @@ pub extern "C" fn loupe_region_right(r: Region) -> EdgeAnswer
 // The row past a region's last: top + height.
 // Numbers: 0; 4 for a region out of measure. A refusal has edge 0.
 #[no_mangle]
-pub extern "C" fn loupe_region_bottom(r: Region) -> EdgeAnswer
+pub extern "C" fn restoration_region_bottom(r: Region) -> EdgeAnswer
     ensures { λ a. ⌜ a ≡ bottomOutcome r ⌝ }
 {
     r.bottom()
@@ -37,7 +37,7 @@ pub extern "C" fn loupe_region_bottom(r: Region) -> EdgeAnswer
 // Whether the first region contains the second, `target`. An empty target is contained.
 // Numbers: 0; 4 where either region is out of measure. A refusal answers false.
 #[no_mangle]
-pub extern "C" fn loupe_region_contains(r: Region, target: Region) -> BoolAnswer
+pub extern "C" fn restoration_region_contains(r: Region, target: Region) -> BoolAnswer
     ensures { λ a. ⌜ a ≡ containsOutcome r target ⌝ }
 {
     r.contains(target)
@@ -46,7 +46,7 @@ pub extern "C" fn loupe_region_contains(r: Region, target: Region) -> BoolAnswer
 // The region moved by `x` columns and `y` rows.
 // Numbers: 0; 4 where the region or the moved one is out of measure. A refusal has the region 0, 0, 0, 0.
 #[no_mangle]
-pub extern "C" fn loupe_region_translate(r: Region, x: i32, y: i32) -> RegionAnswer
+pub extern "C" fn restoration_region_translate(r: Region, x: i32, y: i32) -> RegionAnswer
     ensures { λ a. ⌜ a ≡ translateOutcome r x y ⌝ }
 {
     region_arithmetic::translate(r, x, y)
@@ -55,7 +55,7 @@ pub extern "C" fn loupe_region_translate(r: Region, x: i32, y: i32) -> RegionAns
 // What two regions have in common; regions that only touch, or are apart, meet in the region 0, 0, 0, 0.
 // Numbers: 0; 4 where either region is out of measure. A refusal has the region 0, 0, 0, 0.
 #[no_mangle]
-pub extern "C" fn loupe_region_intersection(a: Region, b: Region) -> RegionAnswer
+pub extern "C" fn restoration_region_intersection(a: Region, b: Region) -> RegionAnswer
     ensures { λ c. ⌜ c ≡ intersectionOutcome a b ⌝ }
 {
     region_arithmetic::intersection(a, b)
@@ -64,7 +64,7 @@ pub extern "C" fn loupe_region_intersection(a: Region, b: Region) -> RegionAnswe
 // The region with `size` samples more on each of its four sides.
 // Numbers: 0; 4 where the region or the padded one is out of measure. A refusal has the region 0, 0, 0, 0.
 #[no_mangle]
-pub extern "C" fn loupe_region_pad(r: Region, size: u32) -> RegionAnswer
+pub extern "C" fn restoration_region_pad(r: Region, size: u32) -> RegionAnswer
     ensures { λ a. ⌜ a ≡ padOutcome r size ⌝ }
 {
     region_arithmetic::pad(r, size)
@@ -74,7 +74,7 @@ pub extern "C" fn loupe_region_pad(r: Region, size: u32) -> RegionAnswer
 // Numbers: 0; 4 where the region, or with a factor in range the result, is out of measure; 9 for a factor over 16. The lowest that applies is given. A refusal
 // has the region 0, 0, 0, 0.
 #[no_mangle]
-pub extern "C" fn loupe_region_downsample(r: Region, factor: u32) -> RegionAnswer
+pub extern "C" fn restoration_region_downsample(r: Region, factor: u32) -> RegionAnswer
     ensures { λ a. ⌜ a ≡ downsampleOutcome r factor ⌝ }
 {
     region_arithmetic::downsample(r, factor)
@@ -84,7 +84,7 @@ pub extern "C" fn loupe_region_downsample(r: Region, factor: u32) -> RegionAnswe
 // Numbers: 0; 4 where the region, or with an alignment in range the result, is out of measure; 9 for an alignment that is no power of two from 1 to 8,192. The
 // lowest that applies is given. A refusal has the region 0, 0, 0, 0.
 #[no_mangle]
-pub extern "C" fn loupe_region_container_aligned(r: Region, grid_dim: u32) -> RegionAnswer
+pub extern "C" fn restoration_region_container_aligned(r: Region, grid_dim: u32) -> RegionAnswer
     ensures { λ a. ⌜ a ≡ alignedOutcome r «grid_dim» ⌝ }
 {
     region_arithmetic::container_aligned(r, grid_dim)

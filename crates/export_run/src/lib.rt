@@ -15,7 +15,7 @@ ghost use Rattle.run_outcomes.specs.Result.{ResultOutcome, resultOutcome};
 // picture has. It is 1 where the Gabor-like filter is on, plus 0, 2, 3 or 6 for 0, 1, 2 or 3 iterations of the edge-preserving filter.
 // Numbers: 0; 9 where `gabor.enabled` is neither 0 nor 1 or `epf.iters` is over 3, and then the margin is 0. Nothing else of the settings is read.
 #[no_mangle]
-pub extern "C" fn loupe_margin(settings: Settings) -> MarginAnswer
+pub extern "C" fn restoration_margin(settings: Settings) -> MarginAnswer
     ensures { λ r. ⌜ r ≡ marginOutcome settings ⌝ }
 {
     run_passes::margin(settings)
@@ -31,7 +31,7 @@ pub extern "C" fn loupe_margin(settings: Settings) -> MarginAnswer
 // needs a setting faulty under 9 is passed over.
 // Accepted, `sigmas` is filled (where there are any) and `first` and `second` are as they were. Refused, the record is all zeros and every slice is as it was.
 #[no_mangle]
-pub extern "C" fn loupe_start(
+pub extern "C" fn restoration_start(
     setup: Setup,
     frame: Frame,
     table: &[u32],
@@ -53,7 +53,7 @@ pub extern "C" fn loupe_start(
 // Accepted, the set that is read, the block sigmas and the rest of the other set are as they were. Refused, the record is the one handed in and every slice is as
 // it was.
 #[no_mangle]
-pub extern "C" fn loupe_band(
+pub extern "C" fn restoration_band(
     run: Run,
     sigmas: &[f32],
     first: &mut [f32],
@@ -69,7 +69,7 @@ pub extern "C" fn loupe_band(
 // Numbers, the lowest that applies: 0; 9 where the record is none that accepted calls give (as for a band); 11 where a band is missing or the run is finished.
 // Refused, the record is the one handed in.
 #[no_mangle]
-pub extern "C" fn loupe_advance(run: Run) -> RunAnswer
+pub extern "C" fn restoration_advance(run: Run) -> RunAnswer
     ensures { λ r. ⌜ r ≡ advanceOutcome run ⌝ }
 {
     run_advance::advance(run)
@@ -81,7 +81,12 @@ pub extern "C" fn loupe_advance(run: Run) -> RunAnswer
 // 9 where the record is none that accepted calls give (as for a band); 11 where the run is not finished.
 // Both sets are as they were. Refused, `out` is as it was too.
 #[no_mangle]
-pub extern "C" fn loupe_result(run: Run, first: &[f32], second: &[f32], out: &mut [f32]) -> u32
+pub extern "C" fn restoration_result(
+    run: Run,
+    first: &[f32],
+    second: &[f32],
+    out: &mut [f32],
+) -> u32
     ensures { λ r. ⌜ _≡_ {A = ResultOutcome} (record { number = r; out = now (out .exit) }) (resultOutcome 3 run (now (first .entry)) (now (second .entry)) (now (out .entry))) ⌝ }
 {
     run_result::result(run, first, second, out)

@@ -2,7 +2,7 @@
 //! engraver does it, and a strip of lettering. Every operation is exact or correctly rounded, so
 //! that the picture is the same everywhere.
 
-use loupe::{BLOCK, CHANNELS};
+use restoration::{BLOCK, CHANNELS};
 
 use crate::{
     lettering,

@@ -32,11 +32,11 @@ use std::{
     process::ExitCode,
 };
 
-use loupe::{CHANNELS, Refusal, Region};
 use options::{Chosen, Command, Job, Written};
 use pfm::Pfm;
 use picture::Picture;
 use refused::{Asked, Refused};
+use restoration::{CHANNELS, Refusal, Region};
 use smooth::Filters;
 
 /// More bytes than the file of any picture that is taken: its samples, and a header.

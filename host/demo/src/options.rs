@@ -5,7 +5,7 @@ use std::{
     path::PathBuf,
 };
 
-use loupe::{CHANNELS, Region};
+use restoration::{CHANNELS, Region};
 
 use crate::{number, refused::Refused};
 

@@ -1,6 +1,6 @@
 //! The original Rust on the same picture.
 
-use loupe::{CHANNELS, EpfSettings, Region};
+use restoration::{CHANNELS, EpfSettings, Region};
 
 use crate::{picture::Picture, smooth::Filters};
 

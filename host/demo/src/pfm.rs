@@ -1,7 +1,7 @@
 //! The portable float map: `PF`, sides, a scale whose sign tells the byte order, and three samples
 //! a place, row after row from the bottom.
 
-use loupe::{CHANNELS, Refusal, Region};
+use restoration::{CHANNELS, Refusal, Region};
 
 use crate::{
     number,

@@ -1,6 +1,6 @@
 //! Three planes and where they lie.
 
-use loupe::{CHANNELS, Region};
+use restoration::{CHANNELS, Region};
 
 /// Planes of a region, one after another, each row after row from the top.
 #[derive(Clone)]

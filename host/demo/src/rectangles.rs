@@ -1,6 +1,6 @@
 //! A picture cut into rectangles that lie edge to edge.
 
-use loupe::{Refusal, Region};
+use restoration::{Refusal, Region};
 
 use crate::{picture::Picture, smooth::Filters};
 

@@ -2,7 +2,7 @@
 
 use core::fmt;
 
-use loupe::Refusal;
+use restoration::Refusal;
 
 /// Document 01's refusal, and what was wrong here.
 pub struct Refused {

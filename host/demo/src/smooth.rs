@@ -1,6 +1,6 @@
 //! Smoothing by the proved library, of whole pictures and of rectangles.
 
-use loupe::{BLOCK, Frame, Refusal, Region, Settings, Setup, Smoothing};
+use restoration::{BLOCK, Frame, Refusal, Region, Settings, Setup, Smoothing};
 
 use crate::{
     options::{Chosen, GaborChoice},
@@ -27,7 +27,7 @@ impl Filters {
     /// One sigma for a picture with these sides: no group has a grid.
     pub fn of_one_sigma(picture: Region, settings: Settings) -> Result<Self, Refusal> {
         let frame = frame(picture);
-        let groups = loupe::group_sizes(frame).value()?.num_groups;
+        let groups = restoration::group_sizes(frame).value()?.num_groups;
         Ok(Self {
             settings,
             frame,
@@ -38,7 +38,7 @@ impl Filters {
 
     /// How far the passes read beyond a sample.
     pub fn margin(&self) -> Result<u32, Refusal> {
-        loupe::margin(self.settings).value()
+        restoration::margin(self.settings).value()
     }
 
     /// All passes over a picture or a part of it by itself.
@@ -93,7 +93,7 @@ pub fn settings(chosen: &Chosen) -> Settings {
 }
 
 fn header(bits: u8) -> Settings {
-    let read = loupe::read_filters_vardct(&[bits], 0).value();
+    let read = restoration::read_filters_vardct(&[bits], 0).value();
     let (filter, _) = read.expect("a header of seven bits");
     filter.into()
 }
@@ -104,7 +104,7 @@ pub fn judge(picture: Region, part: Region, samples: usize) -> Result<(), Refusa
     let setup = setup(picture, part, header(OFF));
     let (mut first, second) = (vec![0.0; samples], vec![0.0; samples]);
     let (frame, table) = (frame(at_corner(1, 1)), [0; 3]);
-    loupe::start(setup, frame, &table, &[], &mut first, &second, &mut []).value()?;
+    restoration::start(setup, frame, &table, &[], &mut first, &second, &mut []).value()?;
     Ok(())
 }
 

@@ -125,7 +125,7 @@ fn resolved(target: &Path) -> io::Result<(PathBuf, Option<Permissions>)> {
 fn new_beside(target: &Path) -> io::Result<(PathBuf, File)> {
     let mut n = 0;
     loop {
-        let path = target.with_file_name(format!(".loupe-{}-{n}.part", process::id()));
+        let path = target.with_file_name(format!(".restoration-{}-{n}.part", process::id()));
         match File::create_new(&path) {
             Err(error) if error.kind() == ErrorKind::AlreadyExists => n += 1,
             made => return Ok((path, made?)),
@@ -144,7 +144,7 @@ mod tests {
     /// A target that cannot take its name when all are written.
     #[test]
     fn where_a_name_is_refused_all_is_as_it_was() {
-        let folder = std::env::temp_dir().join(format!("loupe-store-{}", process::id()));
+        let folder = std::env::temp_dir().join(format!("restoration-store-{}", process::id()));
         fs::create_dir(&folder).unwrap();
         fs::write(folder.join("old"), "as it was").unwrap();
         let part = |name| Part::write(&folder.join(name), b"new").unwrap();

@@ -11,11 +11,11 @@ use std::{
 
 const LIST: &str = include_str!("../original.sha256");
 
-/// For a build: the folder `part` of the original, `LOUPE_RUST_SRC`, once the files listed below it
+/// For a build: the folder `part` of the original, `RESTORATION_RUST_SRC`, once the files listed below it
 /// have their digests. The build runs again where one of them changes. Where the folder or a file is
 /// not there, or a file is altered, the build ends with an error that names it.
 pub fn checked_folder(part: &str) -> PathBuf {
-    println!("cargo::rerun-if-env-changed=LOUPE_RUST_SRC");
+    println!("cargo::rerun-if-env-changed=RESTORATION_RUST_SRC");
     println!("cargo::rerun-if-changed=build.rs");
     folder_of(part).unwrap_or_else(|wrong| {
         println!("cargo::error={wrong}");
@@ -24,8 +24,8 @@ pub fn checked_folder(part: &str) -> PathBuf {
 }
 
 fn folder_of(part: &str) -> Result<PathBuf, String> {
-    let root = env::var_os("LOUPE_RUST_SRC").ok_or(
-        "LOUPE_RUST_SRC is not set: the folder that has crates/jxl-frame and crates/jxl-render",
+    let root = env::var_os("RESTORATION_RUST_SRC").ok_or(
+        "RESTORATION_RUST_SRC is not set: the folder that has crates/jxl-frame and crates/jxl-render",
     )?;
     let folder = Path::new(&root).join(part);
     let folder =
@@ -75,7 +75,7 @@ mod tests {
 
     /// The original's folder, copied to one of the build's own.
     fn copy(name: &str) -> PathBuf {
-        let root = env::var("LOUPE_RUST_SRC").expect("LOUPE_RUST_SRC");
+        let root = env::var("RESTORATION_RUST_SRC").expect("RESTORATION_RUST_SRC");
         let folder = env::temp_dir().join(format!("digests-{}-{name}", std::process::id()));
         fs::create_dir_all(&folder).unwrap();
         for (file, _) in listed(PART) {

@@ -12,7 +12,7 @@ use std::{
     time::{Duration, Instant},
 };
 
-use loupe::Region;
+use restoration::Region;
 
 use crate::random::Random;
 

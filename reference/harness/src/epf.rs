@@ -59,7 +59,7 @@ impl pass::Pass for Pass<'_> {
         let place = self.place;
         let (image, filter) = (region(place.image), region(place.filter));
         let settings = step_of(self.step, self.settings);
-        loupe::epf_pass(
+        restoration::epf_pass(
             image, filter, self.full, settings, self.sigmas, from, to, source, target,
         )
     }
@@ -108,8 +108,8 @@ impl pass::Pass for Pass<'_> {
     }
 }
 
-pub fn sigma_settings(sigma: oracle::Sigma) -> loupe::EpfSigma {
-    loupe::EpfSigma {
+pub fn sigma_settings(sigma: oracle::Sigma) -> restoration::EpfSigma {
+    restoration::EpfSigma {
         quant_mul: sigma.quant_mul,
         pass0_sigma_scale: sigma.pass0_sigma_scale,
         pass2_sigma_scale: sigma.pass2_sigma_scale,
@@ -118,8 +118,8 @@ pub fn sigma_settings(sigma: oracle::Sigma) -> loupe::EpfSigma {
 }
 
 /// What a step reads of the settings; step 1 has no scale of its own.
-pub fn step_of(step: u32, settings: oracle::Edge) -> loupe::EpfStep {
-    loupe::EpfStep {
+pub fn step_of(step: u32, settings: oracle::Edge) -> restoration::EpfStep {
+    restoration::EpfStep {
         step,
         channel_scale: settings.channel_scale,
         multiplier: match step {

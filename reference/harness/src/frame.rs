@@ -19,7 +19,7 @@ pub const GROUP_SIZES: Subject = Subject {
     outputs: 7,
     numbers: &[0, 4, 9],
     ours: |c| {
-        let answer = loupe::group_sizes(loupe::Frame {
+        let answer = restoration::group_sizes(restoration::Frame {
             width: c[0] as u32,
             height: c[1] as u32,
             upsampling: c[2] as u32,
@@ -86,7 +86,7 @@ pub const SPLIT_BLOCK: Subject = Subject {
     outputs: 2,
     numbers: &[0, 9],
     ours: |c| {
-        let answer = loupe::split_block(c[0] as u32, c[1] as u32);
+        let answer = restoration::split_block(c[0] as u32, c[1] as u32);
         Answer::new(answer.number, &[answer.group.into(), answer.inner.into()])
     },
     rule: |c| match expected::split_block(c[0], c[1]) {

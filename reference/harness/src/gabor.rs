@@ -45,11 +45,11 @@ impl pass::Pass for Pass {
     fn ours(&self, (from, to): Rows, source: &[f32], target: &mut [f32]) -> u32 {
         let place = self.place;
         let (image, filter) = (region(place.image), region(place.filter));
-        let settings = loupe::GaborSettings {
+        let settings = restoration::GaborSettings {
             enabled: 1,
             weights: self.weights,
         };
-        loupe::gabor_pass(image, filter, self.full, settings, from, to, source, target)
+        restoration::gabor_pass(image, filter, self.full, settings, from, to, source, target)
     }
 
     fn rust(&self, source: &[f32]) -> oracle::Planes {

@@ -2,7 +2,7 @@
 
 use core::hint::black_box;
 
-use loupe::{EdgePreservingFilter, Encoding, Gabor};
+use restoration::{EdgePreservingFilter, Encoding, Gabor};
 
 use crate::{
     epf::sigma_settings,
@@ -63,7 +63,7 @@ pub const READERS: [Reader; 4] = [
         encoded: false,
         kernel: false,
         ours: |(bytes, place, _)| {
-            let a = loupe::read_half(bytes, place);
+            let a = restoration::read_half(bytes, place);
             given(a.number, vec![a.value.to_bits()], a.next)
         },
         rule: |(bytes, place, _)| expected::half(bytes, place),
@@ -78,7 +78,7 @@ pub const READERS: [Reader; 4] = [
         encoded: false,
         kernel: true,
         ours: |(bytes, place, _)| {
-            let a = loupe::read_gabor(bytes, place);
+            let a = restoration::read_gabor(bytes, place);
             given(a.number, gabor_fields(&a.gabor), a.next)
         },
         rule: |(bytes, place, _)| expected::gabor(bytes, place),
@@ -93,7 +93,7 @@ pub const READERS: [Reader; 4] = [
         encoded: true,
         kernel: false,
         ours: |(bytes, place, modular)| {
-            let a = loupe::read_epf(bytes, place, encoding(modular));
+            let a = restoration::read_epf(bytes, place, encoding(modular));
             given(a.number, epf_fields(&a.epf), a.next)
         },
         rule: |(bytes, place, modular)| expected::epf(bytes, place, modular),
@@ -108,7 +108,7 @@ pub const READERS: [Reader; 4] = [
         encoded: true,
         kernel: true,
         ours: |(bytes, place, modular)| {
-            let a = loupe::read_filters(bytes, place, encoding(modular));
+            let a = restoration::read_filters(bytes, place, encoding(modular));
             let fields = [gabor_fields(&a.filter.gabor), epf_fields(&a.filter.epf)].concat();
             given(a.number, fields, a.next)
         },

@@ -12,7 +12,7 @@ pub const MIRROR: Subject = Subject {
     outputs: 1,
     numbers: &[0, 9],
     ours: |c| {
-        let answer = loupe::mirror(c[0] as isize, c[1] as usize);
+        let answer = restoration::mirror(c[0] as isize, c[1] as usize);
         Answer::new(answer.number, &[answer.place as i128])
     },
     rule: |c| match expected::mirror(c[0], c[1]) {

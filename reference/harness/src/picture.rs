@@ -115,8 +115,8 @@ pub fn agree(a: f32, b: f32) -> bool {
     a.to_bits() == b.to_bits() || a.is_nan() && b.is_nan()
 }
 
-pub fn region(r: oracle::Region) -> loupe::Region {
-    loupe::Region {
+pub fn region(r: oracle::Region) -> restoration::Region {
+    restoration::Region {
         left: r.left,
         top: r.top,
         width: r.width,

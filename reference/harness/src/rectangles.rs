@@ -4,7 +4,7 @@
 
 mod regroup;
 
-use loupe::{Region, Settings};
+use restoration::{Region, Settings};
 
 use crate::{
     bits,
@@ -145,7 +145,7 @@ impl Pair {
     fn compare(&self, random: &mut Random, row: &mut Row) -> u64 {
         row.count(0);
         let case = (&self.smaller, &self.larger);
-        let answered = loupe::margin(self.smaller.setup.settings);
+        let answered = restoration::margin(self.smaller.setup.settings);
         if answered.value() != Ok(self.margin) {
             row.differs(&case, &answered, &self.margin);
         }
@@ -336,7 +336,7 @@ fn finished(handed: &Handed, random: &mut Random) -> Result<Vec<f32>, Stopped> {
         let call = random.within(0, 1 + rule.bands());
         number = match call {
             0 => advance(&mut state),
-            1 => loupe::result(state.run, &state.first, &state.second, &mut out),
+            1 => restoration::result(state.run, &state.first, &state.second, &mut out),
             _ => any_band(&mut state, rule.bands(), random),
         };
         if number != 0 {
@@ -353,7 +353,7 @@ fn finished(handed: &Handed, random: &mut Random) -> Result<Vec<f32>, Stopped> {
 }
 
 fn advance(state: &mut State) -> u32 {
-    let answer = loupe::advance(state.run);
+    let answer = restoration::advance(state.run);
     state.run = answer.run;
     answer.number
 }
@@ -362,7 +362,7 @@ fn advance(state: &mut State) -> u32 {
 fn any_band(state: &mut State, bands: i128, random: &mut Random) -> u32 {
     let k = random.within(0, bands) as u32;
     let (first, second) = (&mut state.first, &mut state.second);
-    let answer = loupe::band(state.run, &state.sigmas, first, second, k);
+    let answer = restoration::band(state.run, &state.sigmas, first, second, k);
     state.run = answer.run;
     answer.number
 }

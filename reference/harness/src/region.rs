@@ -1,6 +1,6 @@
 //! Region arithmetic: inputs are left, top, width, height of each region, then the settings.
 
-use loupe::{BoolAnswer, EdgeAnswer, RegionAnswer};
+use restoration::{BoolAnswer, EdgeAnswer, RegionAnswer};
 
 use crate::{
     expected::{self, Ruled},
@@ -19,7 +19,7 @@ pub const SUBJECTS: [Subject; 9] = [
         inputs: ONE,
         outputs: 1,
         numbers: &[0, 4],
-        ours: |c| holds(loupe::region_is_empty(region(c))),
+        ours: |c| holds(restoration::region_is_empty(region(c))),
         rule: |c| ruled(expected::is_empty(wide(c)), |holds| [i128::from(holds)]),
         rust: |c| Answer::new(0, &[i128::from(original(c).is_empty())]),
         near: &[("near zero", &[(-9, 9), (-9, 9), (0, 9), (0, 9)])],
@@ -30,7 +30,7 @@ pub const SUBJECTS: [Subject; 9] = [
         inputs: ONE,
         outputs: 1,
         numbers: &[0, 4],
-        ours: |c| edge(loupe::region_right(region(c))),
+        ours: |c| edge(restoration::region_right(region(c))),
         rule: |c| ruled(expected::right(wide(c)), |edge| [edge]),
         rust: |c| Answer::new(0, &[original(c).right().into()]),
         near: &[("near zero", &[(-9, 9), (-9, 9), (0, 9), (0, 9)])],
@@ -41,7 +41,7 @@ pub const SUBJECTS: [Subject; 9] = [
         inputs: ONE,
         outputs: 1,
         numbers: &[0, 4],
-        ours: |c| edge(loupe::region_bottom(region(c))),
+        ours: |c| edge(restoration::region_bottom(region(c))),
         rule: |c| ruled(expected::bottom(wide(c)), |edge| [edge]),
         rust: |c| Answer::new(0, &[original(c).bottom().into()]),
         near: &[("near zero", &[(-9, 9), (-9, 9), (0, 9), (0, 9)])],
@@ -52,7 +52,7 @@ pub const SUBJECTS: [Subject; 9] = [
         inputs: TWO,
         outputs: 1,
         numbers: &[0, 4],
-        ours: |c| holds(loupe::region_contains(region(c), region(&c[4..]))),
+        ours: |c| holds(restoration::region_contains(region(c), region(&c[4..]))),
         rule: |c| {
             ruled(expected::contains(wide(c), wide(&c[4..])), |holds| {
                 [i128::from(holds)]
@@ -74,7 +74,7 @@ pub const SUBJECTS: [Subject; 9] = [
         numbers: &[0, 4],
         ours: |c| {
             let (x, y) = (c[4] as i32, c[5] as i32);
-            whole(loupe::region_translate(region(c), x, y))
+            whole(restoration::region_translate(region(c), x, y))
         },
         rule: |c| ruled(expected::translate(wide(c), c[4], c[5]), of_wide),
         rust: |c| accepted(original(c).translate(c[4] as i32, c[5] as i32)),
@@ -95,7 +95,7 @@ pub const SUBJECTS: [Subject; 9] = [
         numbers: &[0, 4],
         ours: |c| {
             let (a, b) = (region(c), region(&c[4..]));
-            whole(loupe::region_intersection(a, b))
+            whole(restoration::region_intersection(a, b))
         },
         rule: |c| ruled(expected::intersection(wide(c), wide(&c[4..])), of_wide),
         rust: |c| accepted(original(c).intersection(original(&c[4..]))),
@@ -111,7 +111,7 @@ pub const SUBJECTS: [Subject; 9] = [
         inputs: &[&CORNER, &CORNER, &SIDE, &SIDE, &PADDING],
         outputs: 4,
         numbers: &[0, 4],
-        ours: |c| whole(loupe::region_pad(region(c), c[4] as u32)),
+        ours: |c| whole(restoration::region_pad(region(c), c[4] as u32)),
         rule: |c| ruled(expected::pad(wide(c), c[4]), of_wide),
         rust: |c| accepted(original(c).pad(c[4] as u32)),
         near: &[("near zero", &[(-5, 5), (-5, 5), (0, 5), (0, 5), (0, 9)])],
@@ -127,7 +127,7 @@ pub const SUBJECTS: [Subject; 9] = [
         inputs: &[&CORNER, &CORNER, &SIDE, &SIDE, &FACTOR],
         outputs: 4,
         numbers: &[0, 4, 9],
-        ours: |c| whole(loupe::region_downsample(region(c), c[4] as u32)),
+        ours: |c| whole(restoration::region_downsample(region(c), c[4] as u32)),
         rule: |c| ruled(expected::downsample(wide(c), c[4]), of_wide),
         rust: |c| accepted(original(c).downsample(c[4] as u32)),
         near: &[
@@ -149,7 +149,7 @@ pub const SUBJECTS: [Subject; 9] = [
         numbers: &[0, 4, 9],
         ours: |c| {
             let dim = c[4] as u32;
-            whole(loupe::region_container_aligned(region(c), dim))
+            whole(restoration::region_container_aligned(region(c), dim))
         },
         rule: |c| ruled(expected::container_aligned(wide(c), c[4]), of_wide),
         rust: |c| accepted(oracle::container_aligned(original(c), c[4] as u32)),
@@ -178,8 +178,8 @@ const TWO_NEAR: &[(i128, i128)] = &[
     (0, 3),
 ];
 
-fn region(c: &[i128]) -> loupe::Region {
-    loupe::Region {
+fn region(c: &[i128]) -> restoration::Region {
+    restoration::Region {
         left: c[0] as i32,
         top: c[1] as i32,
         width: c[2] as u32,

@@ -45,7 +45,7 @@ const CORNERS: [u32; 5] = [127, 128, 131_072, 131_073, u32::MAX];
 #[derive(Clone)]
 pub struct Case {
     pub frame: oracle::Frame,
-    pub blocks: loupe::Blocks,
+    pub blocks: restoration::Blocks,
     pub table: Vec<u32>,
     pub grids: Vec<f32>,
     pub modular: f32,
@@ -64,14 +64,14 @@ impl fmt::Debug for Case {
 
 impl Case {
     pub fn ours(&self, on: u32, sigmas: &mut [f32]) -> u32 {
-        let frame = loupe::Frame {
+        let frame = restoration::Frame {
             width: self.frame.width,
             height: self.frame.height,
             upsampling: self.frame.upsampling,
             lf_level: self.frame.lf_level,
             group_size_shift: self.frame.group_size_shift,
         };
-        loupe::block_sigmas(
+        restoration::block_sigmas(
             on, frame, self.blocks, &self.table, &self.grids, self.modular, sigmas,
         )
     }
@@ -259,7 +259,7 @@ pub fn carried(shift: u32, random: &mut Random) -> [Case; 4] {
             lf_level: 0,
             group_size_shift: shift,
         },
-        blocks: loupe::Blocks {
+        blocks: restoration::Blocks {
             left: 0,
             top,
             width: 8,
@@ -296,7 +296,7 @@ pub fn meeting(shift: u32, groups: (u32, u32), narrow: bool, random: &mut Random
     let (left, columns) = around(dim, groups.0, random);
     let (top, rows) = around(dim, groups.1, random);
     let part = |random: &mut Random| random.within(0, 7) as u32;
-    let blocks = loupe::Blocks {
+    let blocks = restoration::Blocks {
         left,
         top,
         width: 8 * columns - part(random),
@@ -342,7 +342,7 @@ pub fn frame(shift: u32, groups: (u32, u32), random: &mut Random) -> oracle::Fra
 /// Grids for the blocks: each is missing, just large enough, a little larger, or narrow.
 pub fn filled(
     frame: oracle::Frame,
-    blocks: loupe::Blocks,
+    blocks: restoration::Blocks,
     (across, down): (u32, u32),
     narrow: bool,
     random: &mut Random,
@@ -395,7 +395,7 @@ fn whole(shift: u32, width: u32, height: u32, random: &mut Random) -> Case {
         lf_level: 0,
         group_size_shift: shift,
     };
-    let blocks = loupe::Blocks {
+    let blocks = restoration::Blocks {
         left: 0,
         top: 0,
         width,
@@ -452,7 +452,7 @@ pub fn wrong_frame(frame: &mut oracle::Frame, random: &mut Random) {
     }
 }
 
-fn wrong_blocks(blocks: &mut loupe::Blocks, random: &mut Random) {
+fn wrong_blocks(blocks: &mut restoration::Blocks, random: &mut Random) {
     match random.within(0, 4) {
         0 => blocks.width = random.one_of(&SIDES),
         1 => blocks.height = random.one_of(&SIDES),

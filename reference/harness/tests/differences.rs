@@ -3,8 +3,8 @@
 
 use std::panic::{AssertUnwindSafe, catch_unwind};
 
-use loupe::{Blocks, Encoding, EpfStep, Frame, GaborSettings, Region, Settings, Setup};
 use oracle::Place;
+use restoration::{Blocks, Encoding, EpfStep, Frame, GaborSettings, Region, Settings, Setup};
 
 /// 2^-24.
 const TINY: f32 = 1.0 / (1 << 24) as f32;
@@ -12,7 +12,7 @@ const DEFAULT_WEIGHTS: [f32; 2] = [0.115_169_525, 0.061_248_592];
 
 /// The number of the edge filter's reader, `sigma_for_modular` and the next bit place.
 fn read_epf(bytes: &[u8], encoding: Encoding) -> (u32, f32, usize) {
-    let answer = loupe::read_epf(bytes, 0, encoding);
+    let answer = restoration::read_epf(bytes, 0, encoding);
     (answer.number, answer.epf.sigma_for_modular, answer.next)
 }
 
@@ -66,7 +66,7 @@ fn gabor(weights: [f32; 2]) -> GaborSettings {
 fn gabor_number(image: Region, filter: Region, (from, to): (u32, u32), samples: usize) -> u32 {
     let (source, mut target) = (vec![0.0; samples], vec![0.0; samples]);
     let settings = gabor(DEFAULT_WEIGHTS);
-    loupe::gabor_pass(image, filter, 1, settings, from, to, &source, &mut target)
+    restoration::gabor_pass(image, filter, 1, settings, from, to, &source, &mut target)
 }
 
 /// The first plane of a Gabor-like pass over a picture that is its filter region, by the original and here.
@@ -77,7 +77,7 @@ fn gabor_planes(width: u32, weights: [f32; 2], plane: &[f32]) -> [Vec<f32>; 2] {
     let mut ours = [plane; 3].concat();
     let source = ours.clone();
     let settings = gabor(weights);
-    let number = loupe::gabor_pass(image, image, 1, settings, 0, height, &source, &mut ours);
+    let number = restoration::gabor_pass(image, image, 1, settings, 0, height, &source, &mut ours);
     assert_eq!(number, 0);
     ours.truncate(plane.len());
     let [first, ..] = rust;
@@ -113,7 +113,7 @@ fn step_number(filter: Region, step: u32) -> u32 {
     let samples = 3 * (filter.width * filter.height) as usize;
     let (source, mut target) = (vec![0.0; samples], vec![0.0; samples]);
     let settings = plain_step(step);
-    loupe::epf_pass(
+    restoration::epf_pass(
         filter,
         filter,
         1,
@@ -162,16 +162,16 @@ fn sigmas_number(f: oracle::Frame, filter: Region, table: &[u32], grids: &[f32])
         height: filter.height,
     };
     let mut sigmas = vec![0.0; (filter.width.div_ceil(8) * filter.height.div_ceil(8)) as usize];
-    loupe::block_sigmas(1, frame(f), blocks, table, grids, 1.0, &mut sigmas)
+    restoration::block_sigmas(1, frame(f), blocks, table, grids, 1.0, &mut sigmas)
 }
 
 fn setup(image: Region, filter: Region, iterations: u32, band_height: u32) -> Setup {
-    let mut settings: Settings = loupe::Settings {
+    let mut settings: Settings = restoration::Settings {
         gabor: gabor(DEFAULT_WEIGHTS),
-        epf: loupe::EpfSettings {
+        epf: restoration::EpfSettings {
             iters: iterations,
             channel_scale: [1.0; 3],
-            sigma: loupe::EpfSigma {
+            sigma: restoration::EpfSigma {
                 quant_mul: 1.0,
                 pass0_sigma_scale: 1.0,
                 pass2_sigma_scale: 1.0,
@@ -191,7 +191,7 @@ fn setup(image: Region, filter: Region, iterations: u32, band_height: u32) -> Se
 }
 
 /// Start on a picture of zeros with a table; block sigmas where there are iterations.
-fn start(setup: Setup, table: &[u32]) -> loupe::RunAnswer {
+fn start(setup: Setup, table: &[u32]) -> restoration::RunAnswer {
     let samples = 3 * (setup.image.width * setup.image.height) as usize;
     let (mut first, second) = (vec![0.0; samples], vec![0.0; samples]);
     let blocks = setup.filter.width.div_ceil(8) * setup.filter.height.div_ceil(8);
@@ -203,7 +203,7 @@ fn start(setup: Setup, table: &[u32]) -> loupe::RunAnswer {
             0
         } as usize
     ];
-    loupe::start(
+    restoration::start(
         setup,
         frame(SMALL),
         table,
@@ -218,10 +218,10 @@ fn start(setup: Setup, table: &[u32]) -> loupe::RunAnswer {
 fn regions_outside_the_measures() {
     let long = sized(16_385, 1);
     assert!(!original(long).is_empty());
-    assert_eq!(loupe::region_is_empty(long).number, 4);
+    assert_eq!(restoration::region_is_empty(long).number, 4);
     let far = at(1_048_576, 0, 1, 1);
     assert_eq!(original(far).translate(1, 0).left, 1_048_577);
-    assert_eq!(loupe::region_translate(far, 1, 0).number, 4);
+    assert_eq!(restoration::region_translate(far, 1, 0).number, 4);
     let image = sized(16_384, 1_025);
     assert_eq!(gabor_number(image, sized(1, 1), (0, 1), 0), 4);
 }
@@ -230,18 +230,18 @@ fn regions_outside_the_measures() {
 fn shrink_factor_and_alignment() {
     let one = sized(1, 1);
     assert_eq!(original(one).downsample(17), original(one));
-    assert_eq!(loupe::region_downsample(one, 17).number, 9);
-    assert_eq!(loupe::region_container_aligned(one, 3).number, 9);
+    assert_eq!(restoration::region_downsample(one, 17).number, 9);
+    assert_eq!(restoration::region_container_aligned(one, 3).number, 9);
 }
 
 #[test]
 fn mirror_lengths_and_offsets() {
     // The original never returns for length 0.
-    assert_eq!(loupe::mirror(0, 0).number, 9);
+    assert_eq!(restoration::mirror(0, 0).number, 9);
     assert_eq!(oracle::mirror(1_048_577, 1), 0);
-    assert_eq!(loupe::mirror(1_048_577, 1).number, 9);
+    assert_eq!(restoration::mirror(1_048_577, 1).number, 9);
     assert_eq!(oracle::mirror(0, 16_385), 0);
-    assert_eq!(loupe::mirror(0, 16_385).number, 9);
+    assert_eq!(restoration::mirror(0, 16_385).number, 9);
 }
 
 #[test]
@@ -251,14 +251,14 @@ fn frame_settings() {
         ..SMALL
     };
     assert_eq!(oracle::group_sizes(frame).sample_width, 3);
-    assert_eq!(loupe::group_sizes(self::frame(frame)).number, 9);
+    assert_eq!(restoration::group_sizes(self::frame(frame)).number, 9);
 }
 
 #[test]
 fn long_header() {
     let bytes = vec![0; 65_537];
     assert_eq!(oracle::parse_gabor(&bytes, 0), Ok((None, 1)));
-    assert_eq!(loupe::read_gabor(&bytes, 0).number, 7);
+    assert_eq!(restoration::read_gabor(&bytes, 0).number, 7);
 }
 
 #[test]
@@ -323,7 +323,7 @@ fn iterations() {
     // Finished from the start: no pass runs.
     let answer = start(setup(image, image, 0, 1), &[0; 3]);
     assert_eq!(answer.number, 0);
-    assert_eq!(loupe::advance(answer.run).number, 11);
+    assert_eq!(restoration::advance(answer.run).number, 11);
 }
 
 #[test]
@@ -388,9 +388,9 @@ fn a_run_without_passes() {
     assert_eq!(answer.number, 0);
     let planes = [7.0, 8.0, 7.0, 8.0, 7.0, 8.0];
     let mut out = [0.0; 3];
-    let number = loupe::result(answer.run, &planes, &[0.0; 6], &mut out);
+    let number = restoration::result(answer.run, &planes, &[0.0; 6], &mut out);
     assert_eq!((number, out), (0, [7.0; 3]));
-    let number = loupe::result(answer.run, &planes, &[0.0; 6], &mut [0.0; 6]);
+    let number = restoration::result(answer.run, &planes, &[0.0; 6], &mut [0.0; 6]);
     assert_eq!(number, 7);
 }
 
@@ -414,7 +414,7 @@ fn gabor_mirrors_at_the_filter_region() {
     let source = [plane; 3].concat();
     let mut target = [1.0; 6];
     let settings = gabor([0.5, 0.25]);
-    let number = loupe::gabor_pass(image, filter, 1, settings, 0, 2, &source, &mut target);
+    let number = restoration::gabor_pass(image, filter, 1, settings, 0, 2, &source, &mut target);
     assert_eq!((number, &target[..]), (0, &source[..]));
 }
 
@@ -543,7 +543,7 @@ fn step_order_of_sums() {
     let (image, source) = (sized(2, 2), planes.concat());
     let mut target = [0.0; 12];
     let settings = plain_step(1);
-    let number = loupe::epf_pass(
+    let number = restoration::epf_pass(
         image,
         image,
         1,

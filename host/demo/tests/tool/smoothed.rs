@@ -1,7 +1,7 @@
 //! What the tool writes.
 
 use crate::{Folder, pfm};
-use loupe::{Frame, GaborSettings, Region, Settings, Setup, Smoothing};
+use restoration::{Frame, GaborSettings, Region, Settings, Setup, Smoothing};
 
 const PICTURE: &str = "picture.pfm";
 const OUT: &str = "out.pfm";
@@ -151,7 +151,9 @@ fn by_run(
     (width, height): (u32, u32),
     change: impl Fn(&mut Settings),
 ) -> Vec<f32> {
-    let (filter, _) = loupe::read_filters_vardct(&[0b1101], 0).value().unwrap();
+    let (filter, _) = restoration::read_filters_vardct(&[0b1101], 0)
+        .value()
+        .unwrap();
     let mut settings = filter.into();
     change(&mut settings);
     let (left, top, upsampling, lf_level, group_size_shift) = (0, 0, 1, 0, 3);

@@ -2,7 +2,7 @@
 
 use std::{arch::asm, fs, hint::black_box, thread};
 
-use loupe::Run;
+use restoration::Run;
 
 use super::{head, run};
 
@@ -111,14 +111,15 @@ fn stacks(side: u32) -> [usize; CALLS.len()] {
     for pass in 0..run::PASSES as usize {
         for k in 0..side.div_ceil(run.setup.band_height) {
             let sets = (&mut handed.first, &mut handed.second);
-            let used = stack_of(|| run = loupe::band(run, &handed.sigmas, sets.0, sets.1, k).run);
+            let used =
+                stack_of(|| run = restoration::band(run, &handed.sigmas, sets.0, sets.1, k).run);
             most[FIRST_PASS + pass] = used.max(most[FIRST_PASS + pass]);
         }
-        most[ADVANCE] = stack_of(|| run = loupe::advance(run).run);
+        most[ADVANCE] = stack_of(|| run = restoration::advance(run).run);
     }
     let mut number = 1;
     most[RESULT] =
-        stack_of(|| number = loupe::result(run, &handed.first, &handed.second, &mut out));
+        stack_of(|| number = restoration::result(run, &handed.first, &handed.second, &mut out));
     assert_eq!(number, 0);
     most
 }

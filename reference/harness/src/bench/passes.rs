@@ -2,7 +2,7 @@
 
 use std::{cell::RefCell, hint::black_box};
 
-use loupe::{EpfStep, GaborSettings, Region};
+use restoration::{EpfStep, GaborSettings, Region};
 
 use super::{FILTERED, Times, best, head, region, row, run, smooth};
 use crate::{
@@ -104,13 +104,13 @@ fn epf(step: u32, side: u32, sigma: f32) -> Times {
 /// All rows of an image that is filtered whole.
 pub fn gabor_pass(image: Region, settings: GaborSettings, source: &[f32], target: &mut [f32]) {
     let to = image.height;
-    let number = loupe::gabor_pass(image, image, 1, settings, 0, to, source, target);
+    let number = restoration::gabor_pass(image, image, 1, settings, 0, to, source, target);
     assert_eq!(number, 0);
 }
 
 pub fn epf_pass(image: Region, step: EpfStep, sigmas: &[f32], source: &[f32], target: &mut [f32]) {
     let to = image.height;
-    let number = loupe::epf_pass(image, image, 1, step, sigmas, 0, to, source, target);
+    let number = restoration::epf_pass(image, image, 1, step, sigmas, 0, to, source, target);
     assert_eq!(number, 0);
 }
 
@@ -121,7 +121,8 @@ fn header() {
     let bytes = vec![0u8; 65_536];
     let read = |place: usize| {
         for _ in 0..TIMES {
-            let answer = loupe::read_filters(&bytes, black_box(place), loupe::Encoding::VarDct);
+            let answer =
+                restoration::read_filters(&bytes, black_box(place), restoration::Encoding::VarDct);
             assert_eq!(black_box(answer).number, 0);
         }
     };

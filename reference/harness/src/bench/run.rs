@@ -2,7 +2,7 @@
 
 use std::hint::black_box;
 
-use loupe::{Run, Setup};
+use restoration::{Run, Setup};
 
 use super::{
     FILTERED, Times, best_timed, head,
@@ -115,9 +115,9 @@ fn to_the_finish(handed: &mut Handed) -> Run {
     for _ in 0..PASSES {
         for k in 0..bands {
             let sets = (&mut handed.first, &mut handed.second);
-            run = loupe::band(run, &handed.sigmas, sets.0, sets.1, k).run;
+            run = restoration::band(run, &handed.sigmas, sets.0, sets.1, k).run;
         }
-        run = loupe::advance(run).run;
+        run = restoration::advance(run).run;
     }
     assert_eq!(run.pass, PASSES);
     run
@@ -125,7 +125,7 @@ fn to_the_finish(handed: &mut Handed) -> Run {
 
 pub fn with_result(handed: &mut Handed, out: &mut [f32]) {
     let run = to_the_finish(handed);
-    let number = loupe::result(run, &handed.first, &handed.second, out);
+    let number = restoration::result(run, &handed.first, &handed.second, out);
     assert_eq!(number, 0);
 }
 

@@ -53,7 +53,7 @@ pub fn compare(amount: Amount, report: &mut Report) {
 /// Two samples under each named sigma, from a grid and from a missing one.
 fn named(random: &mut Random, row: &mut Row) {
     let frame = sigma::frame(0, (1, 1), random);
-    let blocks = loupe::Blocks {
+    let blocks = restoration::Blocks {
         left: 0,
         top: 0,
         width: 2,
@@ -88,7 +88,7 @@ fn all_placements((width, height): (u32, u32), amount: Amount, random: &mut Rand
             if !row.takes(amount) {
                 continue;
             }
-            let blocks = loupe::Blocks {
+            let blocks = restoration::Blocks {
                 left: place.filter.left as u32 / 8,
                 top: place.filter.top as u32 / 8,
                 width,

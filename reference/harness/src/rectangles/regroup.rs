@@ -1,6 +1,6 @@
 //! A frame with groups and grids of its own that give a part of a filter region the same sigmas.
 
-use loupe::{Region, Settings};
+use restoration::{Region, Settings};
 
 use crate::{
     picture::agree,

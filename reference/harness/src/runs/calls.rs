@@ -2,7 +2,7 @@
 
 use core::{fmt::Debug, hint::black_box};
 
-use loupe::{EpfSettings, EpfSigma, GaborSettings, Region, Run, Settings, Setup};
+use restoration::{EpfSettings, EpfSigma, GaborSettings, Region, Run, Settings, Setup};
 
 use super::handed::{Handed, State, fields, place, record_rule, result_part, setup_rule};
 use crate::{
@@ -112,7 +112,7 @@ pub fn margin(setup: &Setup, tally: &mut Tally) -> u32 {
     let s = setup_rule(setup);
     let due = rule::margin(s);
     let margin = if due == 0 { s.margin() as u32 } else { 0 };
-    let answer = loupe::margin(setup.settings);
+    let answer = restoration::margin(setup.settings);
     let parts = [("margin", answer.margin == margin)];
     judge(&mut tally.margin, setup, answer.number, due, &parts);
     answer.number
@@ -151,7 +151,7 @@ pub fn band(state: &mut State, k: u32, tally: &mut Tally) -> u32 {
     let mut before = state.clone();
     let run = record_rule(&before.run);
     let due = rule::band(run, before.sets(), before.sigmas.len(), k.into());
-    let answer = loupe::band(
+    let answer = restoration::band(
         state.run,
         &state.sigmas,
         &mut state.first,
@@ -190,7 +190,7 @@ fn rewrite(before: &mut State, after: &mut State, k: u32) {
 pub fn advance(run: &mut Run, tally: &mut Tally) -> u32 {
     let before = *run;
     let due = rule::advance(record_rule(&before));
-    let answer = loupe::advance(before);
+    let answer = restoration::advance(before);
     *run = if due == 0 {
         Run {
             setup: before.setup,
@@ -211,7 +211,7 @@ pub fn result(state: &mut State, out: &mut [f32], tally: &mut Tally) -> u32 {
     let (before, lent) = (state.clone(), out.to_vec());
     let run = record_rule(&before.run);
     let due = rule::result(run, before.sets(), out.len());
-    let number = loupe::result(state.run, &state.first, &state.second, out);
+    let number = restoration::result(state.run, &state.first, &state.second, out);
     let copied = if due == 0 {
         let setup = state.run.setup;
         let [read, _] = state.by_turns();

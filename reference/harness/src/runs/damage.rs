@@ -1,7 +1,7 @@
 //! What is lent, with one to four things wrong: every field of a setup and a record, the frame, its
 //! table and grids, and lengths.
 
-use loupe::{Region, Run, Settings, Setup};
+use restoration::{Region, Run, Settings, Setup};
 
 use super::handed::{Handed, State, setup_rule};
 use crate::{

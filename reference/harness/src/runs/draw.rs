@@ -1,6 +1,6 @@
 //! Random pictures that start accepts.
 
-use loupe::{Blocks, GaborSettings, Region, Settings, Setup};
+use restoration::{Blocks, GaborSettings, Region, Settings, Setup};
 
 use super::handed::{Handed, epf_settings, setup_rule};
 use crate::{

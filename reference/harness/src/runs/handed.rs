@@ -2,7 +2,7 @@
 
 use core::fmt;
 
-use loupe::{Run, RunAnswer, Setup};
+use restoration::{Run, RunAnswer, Setup};
 
 use crate::{
     bits, epf,
@@ -55,14 +55,14 @@ impl Handed {
 
     /// Calls start with it all.
     pub fn start(&mut self) -> RunAnswer {
-        let frame = loupe::Frame {
+        let frame = restoration::Frame {
             width: self.frame.width,
             height: self.frame.height,
             upsampling: self.frame.upsampling,
             lf_level: self.frame.lf_level,
             group_size_shift: self.frame.group_size_shift,
         };
-        loupe::start(
+        restoration::start(
             self.setup,
             frame,
             &self.table,
@@ -94,7 +94,7 @@ impl Handed {
 
     /// A whole run by the original, which has copies of planes and grids and owns them.
     pub fn rust_run(&self) -> impl FnOnce() -> oracle::Planes + use<> {
-        let loupe::Settings { gabor, epf } = self.setup.settings;
+        let restoration::Settings { gabor, epf } = self.setup.settings;
         let weights = (gabor.enabled == 1).then_some(gabor.weights);
         let edge = (epf.iters > 0).then(|| edge(epf));
         let grids = sigma::rust_grids(&self.table, &self.grids);
@@ -178,11 +178,11 @@ pub fn record_rule(run: &Run) -> rule::Record<'_> {
     }
 }
 
-fn wide(r: loupe::Region) -> expected::Region {
+fn wide(r: restoration::Region) -> expected::Region {
     picture::wide(plain(r))
 }
 
-fn plain(r: loupe::Region) -> oracle::Region {
+fn plain(r: restoration::Region) -> oracle::Region {
     oracle::Region {
         left: r.left,
         top: r.top,
@@ -211,7 +211,7 @@ pub fn result_part(s: &Setup, set: &[f32]) -> Vec<f32> {
 /// Every field of a record, floats by their bits.
 pub fn fields(run: &Run) -> Vec<u32> {
     let s = run.setup;
-    let loupe::Settings { gabor, epf } = s.settings;
+    let restoration::Settings { gabor, epf } = s.settings;
     let sigma = epf.sigma;
     let mut all = Vec::with_capacity(300);
     for r in [s.image, s.filter] {
@@ -234,7 +234,7 @@ pub fn fields(run: &Run) -> Vec<u32> {
 }
 
 /// The settings of an edge filter that is on, as the original has them.
-fn edge(epf: loupe::EpfSettings) -> oracle::Edge {
+fn edge(epf: restoration::EpfSettings) -> oracle::Edge {
     oracle::Edge {
         iters: epf.iters,
         sharp_lut: [0.0; 8],
@@ -250,8 +250,8 @@ fn edge(epf: loupe::EpfSettings) -> oracle::Edge {
 }
 
 /// The settings of an edge filter with so many iterations, as they cross the boundary.
-pub fn epf_settings(edge: oracle::Edge) -> loupe::EpfSettings {
-    loupe::EpfSettings {
+pub fn epf_settings(edge: oracle::Edge) -> restoration::EpfSettings {
+    restoration::EpfSettings {
         iters: edge.iters,
         channel_scale: edge.channel_scale,
         sigma: epf::sigma_settings(edge.sigma),

@@ -1,6 +1,6 @@
 //! Document 01's instances of runs.
 
-use loupe::Setup;
+use restoration::Setup;
 
 use super::{
     calls::{self, Tally},

@@ -1,6 +1,6 @@
 //! NaNs of any kind in all that a call is handed, so that a refused one is seen to leave their bits.
 
-use loupe::Setup;
+use restoration::Setup;
 
 use super::handed::{Handed, State};
 use crate::{bits, random::Random};

@@ -1,7 +1,7 @@
 //! Named refusals: which number is given where several things are wrong, and which conditions a
 //! faulty setting hides.
 
-use loupe::{Region, Setup};
+use restoration::{Region, Setup};
 
 use super::{
     calls::{self, Tally},

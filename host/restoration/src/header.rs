@@ -54,13 +54,13 @@ answers! {
 entries! {
     /// ```
     /// // Document 01, "Instances": halves 0001 and 7C00.
-    /// let (value, next) = loupe::read_half(&[0x01, 0x00], 0).value()?;
+    /// let (value, next) = restoration::read_half(&[0x01, 0x00], 0).value()?;
     /// assert_eq!((value.to_bits(), next), (0x3380_0000, 16));
-    /// let refused = loupe::read_half(&[0x00, 0x7C], 0).value();
-    /// assert_eq!(refused, Err(loupe::Refusal::HalfNotFinite));
-    /// # Ok::<(), loupe::Refusal>(())
+    /// let refused = restoration::read_half(&[0x00, 0x7C], 0).value();
+    /// assert_eq!(refused, Err(restoration::Refusal::HalfNotFinite));
+    /// # Ok::<(), restoration::Refusal>(())
     /// ```
-    read_half = loupe_read_half(bytes: &[u8], at: usize) -> HalfAnswer;
+    read_half = restoration_read_half(bytes: &[u8], at: usize) -> HalfAnswer;
 
     /// ```
     /// // Document 01, "Instances": weights -1/8, -1/8 and 1/4, 0, after the enabled and custom bits.
@@ -68,19 +68,19 @@ entries! {
     ///     let pair = w0 | w1 << 16;
     ///     (0b11 | pair << 2 | pair << 34 | pair << 66).to_le_bytes()
     /// };
-    /// let refused = loupe::read_gabor(&header(0xB000, 0xB000), 0).value();
-    /// assert_eq!(refused, Err(loupe::Refusal::KernelNearZero));
-    /// let (gabor, next) = loupe::read_gabor(&header(0x3400, 0), 0).value()?;
+    /// let refused = restoration::read_gabor(&header(0xB000, 0xB000), 0).value();
+    /// assert_eq!(refused, Err(restoration::Refusal::KernelNearZero));
+    /// let (gabor, next) = restoration::read_gabor(&header(0x3400, 0), 0).value()?;
     /// assert_eq!((gabor.weights, next), ([[0.25, 0.0]; 3], 98));
-    /// # Ok::<(), loupe::Refusal>(())
+    /// # Ok::<(), restoration::Refusal>(())
     /// ```
-    read_gabor = loupe_read_gabor(bytes: &[u8], at: usize) -> GaborAnswer;
-    read_epf_vardct = loupe_read_epf_vardct(bytes: &[u8], at: usize) -> EpfAnswer;
-    read_epf_modular = loupe_read_epf_modular(bytes: &[u8], at: usize) -> EpfAnswer;
+    read_gabor = restoration_read_gabor(bytes: &[u8], at: usize) -> GaborAnswer;
+    read_epf_vardct = restoration_read_epf_vardct(bytes: &[u8], at: usize) -> EpfAnswer;
+    read_epf_modular = restoration_read_epf_modular(bytes: &[u8], at: usize) -> EpfAnswer;
     read_filters_vardct =
-        loupe_read_filters_vardct(bytes: &[u8], at: usize) -> RestorationAnswer;
+        restoration_read_filters_vardct(bytes: &[u8], at: usize) -> RestorationAnswer;
     read_filters_modular =
-        loupe_read_filters_modular(bytes: &[u8], at: usize) -> RestorationAnswer;
+        restoration_read_filters_modular(bytes: &[u8], at: usize) -> RestorationAnswer;
 }
 
 /// The edge-preserving filter of a header.
@@ -95,16 +95,16 @@ pub fn read_epf(bytes: &[u8], place: usize, encoding: Encoding) -> EpfAnswer {
 /// Both filters, the Gabor-like one first.
 ///
 /// ```
-/// use loupe::Encoding::VarDct;
+/// use restoration::Encoding::VarDct;
 /// // The Gabor-like bundle is an enabled and a custom bit here; the edge filter's follows.
 /// let bytes = [0b000_11_01];
-/// let (gabor, after) = loupe::read_gabor(&bytes, 0).value()?;
-/// let (epf, end) = loupe::read_epf(&bytes, after, VarDct).value()?;
-/// let (filter, next) = loupe::read_filters(&bytes, 0, VarDct).value()?;
+/// let (gabor, after) = restoration::read_gabor(&bytes, 0).value()?;
+/// let (epf, end) = restoration::read_epf(&bytes, after, VarDct).value()?;
+/// let (filter, next) = restoration::read_filters(&bytes, 0, VarDct).value()?;
 /// assert_eq!((filter.gabor, filter.epf, next), (gabor, epf, end));
-/// let refused = loupe::read_filters(&bytes, next, VarDct).value();
-/// assert_eq!(refused, Err(loupe::Refusal::BitsRunOut));
-/// # Ok::<(), loupe::Refusal>(())
+/// let refused = restoration::read_filters(&bytes, next, VarDct).value();
+/// assert_eq!(refused, Err(restoration::Refusal::BitsRunOut));
+/// # Ok::<(), restoration::Refusal>(())
 /// ```
 #[must_use = "a refusal is told by the number alone"]
 pub fn read_filters(bytes: &[u8], place: usize, encoding: Encoding) -> RestorationAnswer {

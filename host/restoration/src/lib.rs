@@ -1,14 +1,14 @@
-//! Safe functions over the proved library, `libloupe.a` (crates `export_*`).
+//! Safe functions over the proved library, `librestoration.a` (crates `export_*`).
 //!
 //! Each entry point takes and answers what the library's does. The library refuses what it does
 //! not take, so nothing is tested here; `value` of an answer is what was asked for or the
 //! [`Refusal`]. [`Smoothing`] is a run with everything that it needs:
 //!
 //! ```
-//! use loupe::{Frame, GaborSettings, Region, Settings, Setup, Smoothing};
+//! use restoration::{Frame, GaborSettings, Region, Settings, Setup, Smoothing};
 //!
 //! // The Gabor-like filter alone, on three planes of one row.
-//! let (off, _) = loupe::read_filters_vardct(&[0], 0).value()?;
+//! let (off, _) = restoration::read_filters_vardct(&[0], 0).value()?;
 //! let settings = Settings {
 //!     gabor: GaborSettings { enabled: 1, weights: [[0.5, 0.25]; 3] },
 //!     epf: off.epf.into(),
@@ -34,7 +34,7 @@
 //! let smooth = Smoothing::start(setup, frame, &table, &grids, planes)?.finish()?;
 //! // Document 01, "Instances": 4 14 4.
 //! assert_eq!(smooth, [[4.0, 14.0, 4.0]; 3].concat());
-//! # Ok::<(), loupe::Refusal>(())
+//! # Ok::<(), restoration::Refusal>(())
 //! ```
 
 mod boundary;

@@ -47,23 +47,23 @@ answers! {
 entries! {
     /// ```
     /// // `crates/frame/specs/Examples.antt`: two by two groups of 128 blocks each way.
-    /// let frame = loupe::Frame {
+    /// let frame = restoration::Frame {
     ///     width: 4000,
     ///     height: 3001,
     ///     upsampling: 2,
     ///     lf_level: 0,
     ///     group_size_shift: 0,
     /// };
-    /// let sizes = loupe::group_sizes(frame).value()?;
+    /// let sizes = restoration::group_sizes(frame).value()?;
     /// assert_eq!((sizes.sample_width, sizes.sample_height), (2000, 1501));
     /// assert_eq!((sizes.group_dim, sizes.num_groups), (128, 4));
-    /// assert_eq!(loupe::split_block(300, 0).value()?, (2, 44));
-    /// # Ok::<(), loupe::Refusal>(())
+    /// assert_eq!(restoration::split_block(300, 0).value()?, (2, 44));
+    /// # Ok::<(), restoration::Refusal>(())
     /// ```
-    group_sizes = loupe_group_sizes(f: Frame) -> FrameAnswer;
+    group_sizes = restoration_group_sizes(f: Frame) -> FrameAnswer;
 
     /// The group of a block's column or row, and the cell in it.
-    split_block = loupe_split_block(block: u32, group_size_shift: u32) -> SplitAnswer;
+    split_block = restoration_split_block(block: u32, group_size_shift: u32) -> SplitAnswer;
 
     /// Fills in one sigma per block where the edge filter is on (1); there are none where it is off
     /// (0). The table has three numbers a group: whether it has a grid, the grid's width and its
@@ -71,23 +71,23 @@ entries! {
     ///
     /// ```
     /// // Document 01, "Instances": group row 0 has grids, row 1 none: block row 128 repeats row 127.
-    /// let frame = loupe::Frame {
+    /// let frame = restoration::Frame {
     ///     width: 8,
     ///     height: 1032,
     ///     upsampling: 1,
     ///     lf_level: 0,
     ///     group_size_shift: 0,
     /// };
-    /// let blocks = loupe::Blocks { left: 0, top: 0, width: 8, height: 1032 };
+    /// let blocks = restoration::Blocks { left: 0, top: 0, width: 8, height: 1032 };
     /// let grid: Vec<f32> = (0..128).map(|row| row as f32).collect();
     /// let mut sigmas = [0.0; 129];
     /// let table = [1, 1, 128, 0, 0, 0];
-    /// let number = loupe::block_sigmas(1, frame, blocks, &table, &grid, 1.0, &mut sigmas);
-    /// loupe::accepted(number)?;
+    /// let number = restoration::block_sigmas(1, frame, blocks, &table, &grid, 1.0, &mut sigmas);
+    /// restoration::accepted(number)?;
     /// assert_eq!(sigmas[126..], [126.0, 127.0, 127.0]);
-    /// # Ok::<(), loupe::Refusal>(())
+    /// # Ok::<(), restoration::Refusal>(())
     /// ```
-    block_sigmas = loupe_block_sigmas(
+    block_sigmas = restoration_block_sigmas(
         on: u32, frame: Frame, blocks: Blocks, table: &[u32], grids: &[f32],
         sigma_for_modular: f32, sigmas: &mut [f32]
     ) -> u32;

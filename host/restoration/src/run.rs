@@ -107,16 +107,16 @@ entries! {
     /// ```
     /// // The Gabor-like filter and three iterations with default settings, in seven bits. The margin
     /// // is 1 + 6 (`crates/run_passes/specs/Plan.antt`).
-    /// let (filter, next) = loupe::read_filters_vardct(&[0b000_11_01], 0).value()?;
-    /// assert_eq!((next, loupe::margin(filter.into()).value()), (7, Ok(7)));
-    /// # Ok::<(), loupe::Refusal>(())
+    /// let (filter, next) = restoration::read_filters_vardct(&[0b000_11_01], 0).value()?;
+    /// assert_eq!((next, restoration::margin(filter.into()).value()), (7, Ok(7)));
+    /// # Ok::<(), restoration::Refusal>(())
     /// ```
-    margin = loupe_margin(settings: Settings) -> MarginAnswer;
+    margin = restoration_margin(settings: Settings) -> MarginAnswer;
 
     /// Checks everything and fills in the block sigmas; table and grids as in [`crate::block_sigmas`].
     ///
     /// ```
-    /// # use loupe::*;
+    /// # use restoration::*;
     /// # let (off, _) = read_filters_vardct(&[0], 0).value()?;
     /// # let gabor = GaborSettings { enabled: 1, weights: [[0.5, 0.25]; 3] };
     /// # let settings = Settings { gabor, epf: off.epf.into() };
@@ -137,19 +137,19 @@ entries! {
     /// assert_eq!(out[..], [[1.0, 2.0, 1.0, 2.0, 4.0, 2.0, 1.0, 2.0, 1.0]; 3].concat());
     /// # Ok::<(), Refusal>(())
     /// ```
-    start = loupe_start(
+    start = restoration_start(
         setup: Setup, frame: Frame, table: &[u32], grids: &[f32],
         first: &mut [f32], second: &[f32], sigmas: &mut [f32]
     ) -> RunAnswer;
 
     /// The next pass over the rows of band `k`, from one set into the other.
-    band = loupe_band(
+    band = restoration_band(
         run: Run, sigmas: &[f32], first: &mut [f32], second: &mut [f32], k: u32
     ) -> RunAnswer;
 
     /// Goes on to the next pass.
-    advance = loupe_advance(run: Run) -> RunAnswer;
+    advance = restoration_advance(run: Run) -> RunAnswer;
 
     /// Copies the result of a finished run, plane after plane.
-    result = loupe_result(run: Run, first: &[f32], second: &[f32], out: &mut [f32]) -> u32;
+    result = restoration_result(run: Run, first: &[f32], second: &[f32], out: &mut [f32]) -> u32;
 }

@@ -26,26 +26,26 @@ entries! {
     /// // Document 01, "Instances".
     /// let places = [(-1, 1, 0), (-3, 2, 1), (5, 4, 2), (7, 3, 1)];
     /// for (offset, len, place) in places {
-    ///     assert_eq!(loupe::mirror(offset, len).value(), Ok(place));
+    ///     assert_eq!(restoration::mirror(offset, len).value(), Ok(place));
     /// }
     /// ```
-    mirror = loupe_mirror(offset: isize, len: usize) -> MirrorAnswer;
+    mirror = restoration_mirror(offset: isize, len: usize) -> MirrorAnswer;
 
     /// The Gabor-like pass; `enabled` is ignored.
     ///
     /// ```
     /// // Document 01, "Instances": weights 1/2, 1/4 on a single sample of 16.
-    /// let image = loupe::Region { left: 0, top: 0, width: 3, height: 3 };
-    /// let settings = loupe::GaborSettings { enabled: 1, weights: [[0.5, 0.25]; 3] };
+    /// let image = restoration::Region { left: 0, top: 0, width: 3, height: 3 };
+    /// let settings = restoration::GaborSettings { enabled: 1, weights: [[0.5, 0.25]; 3] };
     /// let plane = [0.0, 0.0, 0.0, 0.0, 16.0, 0.0, 0.0, 0.0, 0.0];
     /// let (source, mut target) = ([plane; 3].concat(), [0.0; 27]);
-    /// let number = loupe::gabor_pass(image, image, 1, settings, 0, 3, &source, &mut target);
-    /// loupe::accepted(number)?;
+    /// let number = restoration::gabor_pass(image, image, 1, settings, 0, 3, &source, &mut target);
+    /// restoration::accepted(number)?;
     /// let smooth = [1.0, 2.0, 1.0, 2.0, 4.0, 2.0, 1.0, 2.0, 1.0];
     /// assert_eq!(target[..], [smooth; 3].concat());
-    /// # Ok::<(), loupe::Refusal>(())
+    /// # Ok::<(), restoration::Refusal>(())
     /// ```
-    gabor_pass = loupe_gabor_pass(
+    gabor_pass = restoration_gabor_pass(
         image: Region, filter: Region, preserve_outside: u32, settings: GaborSettings,
         from: u32, to: u32, src: &[f32], dst: &mut [f32]
     ) -> u32;
@@ -54,8 +54,8 @@ entries! {
     ///
     /// ```
     /// // Document 01, "Instances": step 2 copies where the block's sigma is 0.25, not where it is 1.5.
-    /// let image = loupe::Region { left: 0, top: 0, width: 2, height: 1 };
-    /// let step = loupe::EpfStep {
+    /// let image = restoration::Region { left: 0, top: 0, width: 2, height: 1 };
+    /// let step = restoration::EpfStep {
     ///     step: 2,
     ///     channel_scale: [1.0; 3],
     ///     multiplier: 1.0,
@@ -64,14 +64,14 @@ entries! {
     /// let source = [5.0, 5.0625, 1.0, 1.0, 1.0, 1.0];
     /// let pass = |sigma| {
     ///     let mut target = [0.0; 6];
-    ///     let number = loupe::epf_pass(image, image, 1, step, &[sigma], 0, 1, &source, &mut target);
-    ///     loupe::accepted(number).map(|()| target)
+    ///     let number = restoration::epf_pass(image, image, 1, step, &[sigma], 0, 1, &source, &mut target);
+    ///     restoration::accepted(number).map(|()| target)
     /// };
     /// assert_eq!(pass(0.25)?, source);
     /// assert_ne!(pass(1.5)?, source);
-    /// # Ok::<(), loupe::Refusal>(())
+    /// # Ok::<(), restoration::Refusal>(())
     /// ```
-    epf_pass = loupe_epf_pass(
+    epf_pass = restoration_epf_pass(
         image: Region, filter: Region, preserve_outside: u32, s: EpfStep, sigmas: &[f32],
         from: u32, to: u32, src: &[f32], dst: &mut [f32]
     ) -> u32;

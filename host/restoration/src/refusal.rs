@@ -7,9 +7,9 @@ macro_rules! refusals {
         /// Why a call was refused. What it was lent is then as it was.
         ///
         /// ```
-        /// assert_eq!(loupe::accepted(0), Ok(()));
-        /// let refusal = loupe::accepted(10).unwrap_err();
-        /// assert_eq!((refusal, refusal.number()), (loupe::Refusal::BandNotOpen, 10));
+        /// assert_eq!(restoration::accepted(0), Ok(()));
+        /// let refusal = restoration::accepted(10).unwrap_err();
+        /// assert_eq!((refusal, refusal.number()), (restoration::Refusal::BandNotOpen, 10));
         /// assert_eq!(refusal.to_string(), format!("refusal 10: {}", refusal.meaning()));
         /// ```
         #[derive(Debug, Clone, Copy, PartialEq, Eq)]

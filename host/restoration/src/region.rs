@@ -3,7 +3,7 @@
 use crate::boundary::{answers, entries};
 
 /// ```
-/// # use loupe::*;
+/// # use restoration::*;
 /// // A rectangle of a picture, widened by 7 samples and clipped; and moved out of the picture.
 /// let picture = Region { left: 0, top: 0, width: 100, height: 80 };
 /// let rectangle = Region { left: 3, top: 20, width: 10, height: 10 };
@@ -32,26 +32,26 @@ answers! {
 }
 
 entries! {
-    region_is_empty = loupe_region_is_empty(r: Region) -> BoolAnswer;
-    region_right = loupe_region_right(r: Region) -> EdgeAnswer;
-    region_bottom = loupe_region_bottom(r: Region) -> EdgeAnswer;
-    region_contains = loupe_region_contains(r: Region, target: Region) -> BoolAnswer;
-    region_translate = loupe_region_translate(r: Region, x: i32, y: i32) -> RegionAnswer;
-    region_intersection = loupe_region_intersection(a: Region, b: Region) -> RegionAnswer;
-    region_pad = loupe_region_pad(r: Region, size: u32) -> RegionAnswer;
+    region_is_empty = restoration_region_is_empty(r: Region) -> BoolAnswer;
+    region_right = restoration_region_right(r: Region) -> EdgeAnswer;
+    region_bottom = restoration_region_bottom(r: Region) -> EdgeAnswer;
+    region_contains = restoration_region_contains(r: Region, target: Region) -> BoolAnswer;
+    region_translate = restoration_region_translate(r: Region, x: i32, y: i32) -> RegionAnswer;
+    region_intersection = restoration_region_intersection(a: Region, b: Region) -> RegionAnswer;
+    region_pad = restoration_region_pad(r: Region, size: u32) -> RegionAnswer;
 
     /// Sides and corners divided by 2 to the power of the factor, outward.
     ///
     /// ```
     /// // Document 01, "Instances": left -3, width 5.
-    /// let r = loupe::Region { left: -3, top: -3, width: 5, height: 5 };
-    /// let down = loupe::region_downsample(r, 1).value()?;
+    /// let r = restoration::Region { left: -3, top: -3, width: 5, height: 5 };
+    /// let down = restoration::region_downsample(r, 1).value()?;
     /// assert_eq!((down.left, down.width), (-2, 3));
-    /// let aligned = loupe::region_container_aligned(r, 8).value()?;
+    /// let aligned = restoration::region_container_aligned(r, 8).value()?;
     /// assert_eq!((aligned.left, aligned.width), (-8, 16));
-    /// # Ok::<(), loupe::Refusal>(())
+    /// # Ok::<(), restoration::Refusal>(())
     /// ```
-    region_downsample = loupe_region_downsample(r: Region, factor: u32) -> RegionAnswer;
+    region_downsample = restoration_region_downsample(r: Region, factor: u32) -> RegionAnswer;
     region_container_aligned =
-        loupe_region_container_aligned(r: Region, grid_dim: u32) -> RegionAnswer;
+        restoration_region_container_aligned(r: Region, grid_dim: u32) -> RegionAnswer;
 }
