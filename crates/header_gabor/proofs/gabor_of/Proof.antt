@@ -35,7 +35,7 @@ use Rattle.header_gabor.specs.declared.Gabor.{Gabor}
 use Rattle.header_gabor.proofs.Field.{P, same}
 use Rattle.header_gabor.proofs.Gabor as T
 use Rattle.header_gabor.proofs.Gabor.Laws as T′
-use Rattle.header_gabor.proofs.gabor_of.Key.{name as #gabor_header·gabor-of}
+use Rattle.header_gabor.proofs.gabor_of.Key.{name as #header_gabor·gabor-of}
 use Rattle.header_gabor.proofs.gabor_of as f
 use Rattle.header_gabor.proofs.gabor_of.Statement as stated
 use Rattle.header_gabor.proofs.gabor_of.Code as code
@@ -90,5 +90,5 @@ pub gabor-of-spec : {M : Type 1} → stated.statement M
 unfolding code.routine tablesOf
 gabor-of-spec 𝓤 H 𝓜 𝓖 𝓡 =
     entered 𝓤 H (tripleOf 𝓤 H (𝓖 .A) f.signature (f.spec 𝓤 H (𝓖 .A) (𝓜 .mem) (𝓡 .run)))
-    (tables 𝓤 H 𝓜 𝓡 code.env .C) (tables 𝓤 H 𝓜 𝓡 code.env .Λ) #gabor_header·gabor-of code.function (code.unfolded 𝓤 H 𝓜 𝓡)
+    (tables 𝓤 H 𝓜 𝓡 code.env .C) (tables 𝓤 H 𝓜 𝓡 code.env .Λ) #header_gabor·gabor-of code.function (code.unfolded 𝓤 H 𝓜 𝓡)
     (gabor-of-meets 𝓤 H (𝓖 .A) (givenOf 𝓤 H 𝓜 𝓖) (𝓜 .mem) (𝓡 .run) (tablesOf 𝓤 H 𝓜 (tables 𝓤 H 𝓜 𝓡 code.env)))

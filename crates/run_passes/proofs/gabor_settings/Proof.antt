@@ -36,7 +36,7 @@ use Rattle.run_passes.specs.declared.GaborSettings.{GaborSettings}
 use Rattle.header_gabor.proofs.Field.{P, same}
 use Rattle.run_passes.proofs.GaborSettings as T
 use Rattle.run_passes.proofs.GaborSettings.Laws as T′
-use Rattle.run_passes.proofs.gabor_settings.Key.{name as #passes·gabor-settings}
+use Rattle.run_passes.proofs.gabor_settings.Key.{name as #run_passes·gabor-settings}
 use Rattle.run_passes.proofs.gabor_settings as f
 use Rattle.run_passes.proofs.gabor_settings.Statement as stated
 use Rattle.run_passes.proofs.gabor_settings.Code as code
@@ -91,5 +91,5 @@ pub gabor-settings-spec : {M : Type 1} → stated.statement M
 unfolding code.routine tablesOf
 gabor-settings-spec 𝓤 H 𝓜 𝓖 𝓡 =
     entered 𝓤 H (tripleOf 𝓤 H (𝓖 .A) f.signature (f.spec 𝓤 H (𝓖 .A) (𝓜 .mem) (𝓡 .run)))
-    (tables 𝓤 H 𝓜 𝓡 code.env .C) (tables 𝓤 H 𝓜 𝓡 code.env .Λ) #passes·gabor-settings code.function (code.unfolded 𝓤 H 𝓜 𝓡)
+    (tables 𝓤 H 𝓜 𝓡 code.env .C) (tables 𝓤 H 𝓜 𝓡 code.env .Λ) #run_passes·gabor-settings code.function (code.unfolded 𝓤 H 𝓜 𝓡)
     (gabor-settings-meets 𝓤 H (𝓖 .A) (givenOf 𝓤 H 𝓜 𝓖) (𝓜 .mem) (𝓡 .run) (tablesOf 𝓤 H 𝓜 (tables 𝓤 H 𝓜 𝓡 code.env)))
