@@ -1,3 +1,3 @@
-pub mod Lowest
+pub mod LowestLaws
 pub mod Number
 pub mod Tests

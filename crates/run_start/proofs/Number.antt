@@ -38,7 +38,7 @@ use Rattle.run_outcomes.proofs.Tests.{blocks-same}
 use Rattle.run_outcomes.specs.Band.{setCheck}
 use Rattle.run_outcomes.specs.Start.{Handed, StartOutcome, blocksOf, pictureChecks, startNumber, startLeaves, sigmasFilled, noRun, startOutcome}
 use Rattle.run_start.specs.Lowest.{lowest}
-use Rattle.run_start.proofs.Lowest.{Parted, none, left, right, first-lowest, lowest-left, lowest-none, ascending-from}
+use Rattle.run_start.proofs.LowestLaws.{Parted, none, left, right, first-lowest, lowest-left, lowest-none, ascending-from}
 use Rattle.run_start.specs.Pieces.{runsEpf, epfFlag, sigmasAsked, ownChecks, numberOf, toldChecks}
 
 -- ---- a region of a picture, as the pieces judge it

@@ -7,7 +7,7 @@ use denote.Ref.{now}
 use lib.ListN.{length}
 use Rattle.epf_rects.proofs.Rects.{rect-long}
 use Rattle.epf_tiles.specs.Tile.{Restored}
-use Rattle.epf_tiles.proofs.Tile.{restored-none, restored-next, restored-end, part-fits}
+use Rattle.epf_tiles.proofs.TileLaws.{restored-none, restored-next, restored-end, part-fits}
 use Rattle.epf_tiles.proofs.tile.restore.Statement.{statement}
 use Rattle.epf_tiles.proofs.tile.restore.Tie as tie
 

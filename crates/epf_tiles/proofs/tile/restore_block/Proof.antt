@@ -4,7 +4,7 @@ use borrow.Author.Needs.{needs}
 use borrow.Author.Tests.{not-true, not-false}
 use denote.Ref.{now}
 use Rattle.epf_rects.proofs.Rects.{rect-copied}
-use Rattle.epf_tiles.proofs.Tile.{block-kept, block-copied}
+use Rattle.epf_tiles.proofs.TileLaws.{block-kept, block-copied}
 use Rattle.epf_tiles.proofs.tile.restore_block.Statement.{statement}
 use Rattle.epf_tiles.proofs.tile.restore_block.Tie as tie
 

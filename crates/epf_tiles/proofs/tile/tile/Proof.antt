@@ -3,7 +3,7 @@ use native.Mathlib.Omega.{arith}
 use borrow.Author.Needs.{needs}
 use denote.Ref.{now}
 use Rattle.epf_rects.proofs.Rects.{rect-long}
-use Rattle.epf_tiles.proofs.Tile.{tile-done, tile-copied}
+use Rattle.epf_tiles.proofs.TileLaws.{tile-done, tile-copied}
 use Rattle.epf_tiles.proofs.tile.tile.Statement.{statement}
 use Rattle.epf_tiles.proofs.tile.tile.Tie as tie
 

@@ -161,4 +161,4 @@ load-row-spec 𝓤 H 𝓜 𝓖 𝓡 =
     entered 𝓤 H (tripleOf 𝓤 H (𝓖 .A) load-row.signature (load-row.spec 𝓤 H (𝓖 .A) (𝓜 .mem) (𝓡 .run)))
     (tables 𝓤 H 𝓜 𝓡 code.env .C) (tables 𝓤 H 𝓜 𝓡 code.env .Λ) #load-row code.function (code.unfolded 𝓤 H 𝓜 𝓡)
     (load-row-meets 𝓤 H (𝓖 .A) (givenOf 𝓤 H 𝓜 𝓖) (𝓜 .mem) (𝓡 .run) (tablesOf 𝓤 H 𝓜 (tables 𝓤 H 𝓜 𝓡 code.env))
-    (cited 𝓤 H (LoadView 𝓤 H (𝓖 .A) (𝓜 .mem) (𝓡 .run)) 𝓜 𝓡 code.env #load-view view-def.routine code.calls-epf_window·row·load-view (view-thm.met 𝓤 H 𝓜 𝓖 𝓡)))
+    (cited 𝓤 H (LoadView 𝓤 H (𝓖 .A) (𝓜 .mem) (𝓡 .run)) 𝓜 𝓡 code.env #load-view view-def.routine code.calls-epf-window·row·load-view (view-thm.met 𝓤 H 𝓜 𝓖 𝓡)))

@@ -153,4 +153,4 @@ load-view-spec 𝓤 H 𝓜 𝓖 𝓡 =
     entered 𝓤 H (tripleOf 𝓤 H (𝓖 .A) view.signature (view.spec 𝓤 H (𝓖 .A) (𝓜 .mem) (𝓡 .run)))
     (tables 𝓤 H 𝓜 𝓡 code.env .C) (tables 𝓤 H 𝓜 𝓡 code.env .Λ) #load-view code.function (code.unfolded 𝓤 H 𝓜 𝓡)
     (load-view-meets 𝓤 H (𝓖 .A) (givenOf 𝓤 H 𝓜 𝓖) (𝓜 .mem) (𝓡 .run) (tablesOf 𝓤 H 𝓜 (tables 𝓤 H 𝓜 𝓡 code.env))
-    (cited 𝓤 H (CopyRow 𝓤 H (𝓖 .A) (𝓜 .mem) (𝓡 .run)) 𝓜 𝓡 code.env #copy-row copy-def.routine code.calls-epf_window·row·copy-row (copy-thm.met 𝓤 H 𝓜 𝓖 𝓡)))
+    (cited 𝓤 H (CopyRow 𝓤 H (𝓖 .A) (𝓜 .mem) (𝓡 .run)) 𝓜 𝓡 code.env #copy-row copy-def.routine code.calls-epf-window·row·copy-row (copy-thm.met 𝓤 H 𝓜 𝓖 𝓡)))

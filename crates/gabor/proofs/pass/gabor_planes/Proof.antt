@@ -8,7 +8,7 @@ use Rattle.planes.specs.Rect.{planesFill}
 use Rattle.planes.proofs.Rect.{planes-end}
 use Rattle.planes.proofs.Room.{PlaneRoom, plane-room}
 use Rattle.gabor.specs.Pass.{passRows}
-use Rattle.gabor.proofs.Pass.{plane-next, plane-region}
+use Rattle.gabor.proofs.PassLaws.{plane-next, plane-region}
 use Rattle.gabor.proofs.pass.gabor_planes.Statement.{statement}
 use Rattle.gabor.proofs.pass.gabor_planes.Tie as tie
 
