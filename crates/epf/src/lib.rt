@@ -20,7 +20,7 @@ ghost use Prim.Native.Nat.{_≤_};
 ghost use lib.ListN.{length};
 ghost use Rattle.refusals.specs.Checks.{firstOf};
 ghost use Rattle.planes.specs.Band.{passed};
-ghost use Rattle.planes.specs.Stored.{LayoutFits, BandFits};
+ghost use Rattle.planes.specs.Fits.{LayoutFits, BandFits};
 ghost use Rattle.planes_layout.specs.Outcome.{PassOutcome};
 ghost use Rattle.epf_step.specs.Steps.{standardLimit};
 ghost use Rattle.epf_tiles.specs.Tile.{stepOver};

@@ -1,4 +1,4 @@
 pub mod Sizes
 pub mod Outcome
-pub mod Laws
+pub mod Sound
 pub mod Examples

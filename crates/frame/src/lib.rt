@@ -4,7 +4,7 @@ ghost use Prim.Native.Nat.{_<_, _≤_};
 ghost use Rattle.refusals.specs.Checks.{firstOf};
 ghost use Rattle.frame.specs.Sizes.{dividedUp, sampleSide, groupDim, groupsAlong, sizesOf};
 ghost use Rattle.frame.specs.Outcome.{frameChecks, frameOutcome, splitOutcome, badSide, badSides, badUpsampling, badSettings, noSizes};
-ghost use Rattle.frame.specs.Laws.{Sound};
+ghost use Rattle.frame.specs.Sound.{Sound};
 
 const MAX_SIDE: u32 = 16_384;
 

@@ -1,6 +1,4 @@
 pub mod Mirror
-pub mod Laws
-pub mod Offset
 pub mod Cut
 pub mod Outcome
-pub mod Instances
+pub mod Examples

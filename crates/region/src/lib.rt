@@ -141,6 +141,7 @@ impl Region {
         edge_of(self, rows(self))
     }
 
+    // An empty target or each place inside, or 4.
     pub fn contains(self, target: Region) -> BoolAnswer
         ensures { λ r. ⌜ r ≡ containsOutcome self target ⌝ }
     {

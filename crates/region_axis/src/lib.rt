@@ -79,6 +79,7 @@ fn judged(start: i64, end: i64) -> Axis
     }
 }
 
+// Start and length where they are within the measures, else zeros.
 pub fn judge(s: Span) -> Axis
     ensures { λ r. ⌜ r ≡ axisOf s ⌝ }
 {

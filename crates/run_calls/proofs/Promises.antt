@@ -1,17 +1,17 @@
 -- Everything that specs/Promises.antt gathers is proved. Assumes nothing.
-use Rattle.mirror.specs.Laws.{mirror-lt, mirror-periodic, mirror-low, mirror-high}
-use Rattle.mirror.specs.Cut.{mirror-cut}
+use Rattle.mirror.proofs.Laws.{mirror-lt, mirror-periodic, mirror-low, mirror-high}
+use Rattle.mirror.proofs.Cut.{mirror-cut}
 use Rattle.region_arithmetic.proofs.Laws.{intersection-inside, intersection-greatest, aligned-contains, aligned-smallest, shrunk-has, shrunk-touched}
-use Rattle.frame.specs.Laws.{divided-up-covers, divided-up-least, split-whole, inner-lt}
+use Rattle.frame.proofs.Laws.{divided-up-covers, divided-up-least, split-whole, inner-lt}
 use Rattle.gabor_kernel.proofs.Mirrored.{fold-mirrors, kernel-mirrored, single-row-differs, alone-copied}
 use Rattle.gabor_kernel.proofs.Exact.{expansion-sums, coefficients-weigh, rows-mirrored, integers-exact}
 use Rattle.epf_step.proofs.Offsets.{kernel-offsets, distance-offsets}
 use Rattle.epf_step.proofs.Bounds.{distance-not-negative, slope-not-positive, weight-bounds, divisor-bounds, multiplier-not-negative, pass-bounds}
 use Rattle.epf_lanes.proofs.Divisors.{lane-divisor-bounds}
 use Rattle.run_passes.proofs.Bounds.{step-bounds, settings-bounds, bounds-reached}
-use Rattle.run_passes.specs.PlanLaws.{plan-reach}
-use Rattle.run_passes.specs.Near.{pass-near}
-use Rattle.run_passes.specs.Cut.{cut-same}
+use Rattle.run_passes.proofs.PlanLaws.{plan-reach}
+use Rattle.run_passes.proofs.Near.{pass-near}
+use Rattle.run_passes.proofs.Cut.{cut-same}
 use Rattle.run_calls.specs.Promises.{Promises}
 use Rattle.run_calls.proofs.Demand3.{document-demand-3, demand-3}
 use Rattle.run_calls.proofs.Example.{premises-met, place-clear}

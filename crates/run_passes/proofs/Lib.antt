@@ -1,1 +1,5 @@
 pub mod Bounds
+pub mod Cut
+pub mod Near
+pub mod PlanLaws
+pub mod Stages

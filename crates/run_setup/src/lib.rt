@@ -57,6 +57,7 @@ pub fn row_count(s: Setup) -> usize
     s.filter.height as usize
 }
 
+// Bands of a pass.
 pub fn band_count(s: Setup) -> usize
     ensures { λ r. ⌜ r ≡ bandCount s ⌝ }
 {

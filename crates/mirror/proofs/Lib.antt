@@ -1,0 +1,3 @@
+pub mod Cut
+pub mod Laws
+pub mod Offset
