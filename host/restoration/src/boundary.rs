@@ -50,8 +50,27 @@ macro_rules! answers {
                 $crate::accepted(self.number)?;
                 Ok(($(self.$field),+))
             }
+
+            /// A refused call's answer: its number, and zeros in every other field.
+            pub const fn refused(number: u32) -> Self {
+                // SAFETY: every field is an integer, a float or a bool, or is made of these, and
+                // zero bytes are a value of each.
+                let zeros: Self = unsafe { core::mem::zeroed() };
+                Self { number, ..zeros }
+            }
         }
     )* };
 }
 
-pub(crate) use {answers, entries};
+/// `Default` of structs that have a constant `DEFAULT`.
+macro_rules! defaults {
+    ($($name:ident)*) => { $(
+        impl Default for $name {
+            fn default() -> Self {
+                Self::DEFAULT
+            }
+        }
+    )* };
+}
+
+pub(crate) use {answers, defaults, entries};

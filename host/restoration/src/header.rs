@@ -1,6 +1,6 @@
 //! Reading a filter header, from a bit place of a slice.
 
-use crate::boundary::{answers, entries};
+use crate::boundary::{answers, defaults, entries};
 
 #[repr(C)]
 #[derive(Debug, Clone, Copy, PartialEq)]
@@ -17,6 +17,18 @@ pub struct EpfSigma {
     pub pass2_sigma_scale: f32,
     pub border_sad_mul: f32,
 }
+
+impl EpfSigma {
+    /// Those of a header without custom ones.
+    pub const DEFAULT: Self = Self {
+        quant_mul: 0.46,
+        pass0_sigma_scale: 0.9,
+        pass2_sigma_scale: 6.5,
+        border_sad_mul: 2.0 / 3.0,
+    };
+}
+
+defaults! { EpfSigma }
 
 #[repr(C)]
 #[derive(Debug, Clone, Copy, PartialEq)]

@@ -5,7 +5,7 @@ use crate::boundary::{answers, entries};
 /// ```
 /// # use restoration::*;
 /// // A rectangle of a picture, widened by 7 samples and clipped; and moved out of the picture.
-/// let picture = Region { left: 0, top: 0, width: 100, height: 80 };
+/// let picture = Region::with_size(100, 80);
 /// let rectangle = Region { left: 3, top: 20, width: 10, height: 10 };
 /// let widened = region_pad(rectangle, 7).value()?;
 /// let clipped = region_intersection(widened, picture).value()?;
@@ -17,12 +17,24 @@ use crate::boundary::{answers, entries};
 /// # Ok::<(), Refusal>(())
 /// ```
 #[repr(C)]
-#[derive(Debug, Clone, Copy, PartialEq, Eq)]
+#[derive(Debug, Clone, Copy, Default, PartialEq, Eq)]
 pub struct Region {
     pub left: i32,
     pub top: i32,
     pub width: u32,
     pub height: u32,
+}
+
+impl Region {
+    /// A region of this width and height with left and top 0.
+    pub const fn with_size(width: u32, height: u32) -> Self {
+        Self {
+            left: 0,
+            top: 0,
+            width,
+            height,
+        }
+    }
 }
 
 answers! {

@@ -5,15 +5,11 @@ use crate::{BLOCK, Frame, Refusal, Region, Run, Setup, accepted, advance, band, 
 /// A run that owns its record, both sets of planes and the block sigmas.
 ///
 /// ```
-/// # let region = |width, height| restoration::Region { left: 0, top: 0, width, height };
-/// # let settings = restoration::read_filters_vardct(&[0b01], 0).value()?.0.into();
-/// # let (image, filter, preserve_outside) = (region(2, 2), region(2, 2), 1);
-/// # let (width, height, upsampling, lf_level, group_size_shift) = (2, 2, 1, 0, 0);
-/// # let frame = restoration::Frame { width, height, upsampling, lf_level, group_size_shift };
+/// # use restoration::{Frame, Region, Setup, Smoothing};
 /// // Document 01, "Instances": two bands; band 0 twice, and advance with band 1 missing.
-/// let setup = restoration::Setup { image, filter, preserve_outside, settings, band_height: 1 };
+/// let setup = Setup { band_height: 1, ..Setup::whole(Region::with_size(2, 2)) };
 /// let planes = (0..12u8).map(f32::from).collect();
-/// let mut smoothing = restoration::Smoothing::start(setup, frame, &[0; 3], &[], planes)?;
+/// let mut smoothing = Smoothing::start(setup, Frame::with_size(2, 2), &[0; 3], &[], planes)?;
 /// let whole = smoothing.clone().finish()?;
 /// smoothing.band(0)?;
 /// assert_eq!(smoothing.run().done[..2], [1, 0]);
