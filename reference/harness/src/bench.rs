@@ -12,8 +12,6 @@ use std::{
     time::{Duration, Instant},
 };
 
-use restoration::Region;
-
 use crate::random::Random;
 
 /// How long each case is run; the best run of either side counts.
@@ -114,16 +112,6 @@ fn row(name: &str, (width, height): (u32, u32), times: Times) {
         times.theirs,
         times.ratio()
     );
-}
-
-/// A picture with its corner at 0, 0.
-fn region(width: u32, height: u32) -> Region {
-    Region {
-        left: 0,
-        top: 0,
-        width,
-        height,
-    }
 }
 
 /// Samples of three planes that differ little, so that neighbours have weight.

@@ -6,11 +6,14 @@ mod scaled;
 mod tiled;
 mod whole;
 
+use restoration::{EpfSettings, EpfStep, MAX_ITERS};
+
 use crate::{
     bits,
+    convert::{edge, region, wide},
     expected::epf::{Handed, number},
     pass::{self, by_bands, one_call},
-    picture::{self, Rows, any_len, plain, region, samples, special, wide},
+    picture::{self, Rows, any_len, plain, samples, special},
     random::Random,
     report::{Amount, Report, Row},
     sigma::sigma,
@@ -108,18 +111,9 @@ impl pass::Pass for Pass<'_> {
     }
 }
 
-pub fn sigma_settings(sigma: oracle::Sigma) -> restoration::EpfSigma {
-    restoration::EpfSigma {
-        quant_mul: sigma.quant_mul,
-        pass0_sigma_scale: sigma.pass0_sigma_scale,
-        pass2_sigma_scale: sigma.pass2_sigma_scale,
-        border_sad_mul: sigma.border_sad_mul,
-    }
-}
-
 /// What a step reads of the settings; step 1 has no scale of its own.
-pub fn step_of(step: u32, settings: oracle::Edge) -> restoration::EpfStep {
-    restoration::EpfStep {
+pub fn step_of(step: u32, settings: oracle::Edge) -> EpfStep {
+    EpfStep {
         step,
         channel_scale: settings.channel_scale,
         multiplier: match step {
@@ -128,6 +122,7 @@ pub fn step_of(step: u32, settings: oracle::Edge) -> restoration::EpfStep {
             _ => 1.0,
         },
         border_sad_mul: settings.sigma.border_sad_mul,
+        ..EpfStep::DEFAULT
     }
 }
 
@@ -367,19 +362,11 @@ fn wrong(random: &mut Random, row: &mut Row) {
     one_call(&pass, rows, [source, before], random, row);
 }
 
-/// The default settings of a header.
-pub const DEFAULTS: oracle::Edge = oracle::Edge {
-    iters: 3,
-    sharp_lut: [0.0; 8],
-    channel_scale: [40.0, 5.0, 3.5],
-    sigma: oracle::Sigma {
-        quant_mul: 0.46,
-        pass0_sigma_scale: 0.9,
-        pass2_sigma_scale: 6.5,
-        border_sad_mul: 2.0 / 3.0,
-    },
-    sigma_for_modular: 1.0,
-};
+/// The default settings of a header, with all steps.
+pub const DEFAULTS: oracle::Edge = edge(EpfSettings {
+    iters: MAX_ITERS,
+    ..EpfSettings::DEFAULT
+});
 
 /// The default scales and multipliers: of the channels, of steps 0 and 2, of the border.
 const FLOATS: [f32; 6] = [

@@ -2,7 +2,7 @@
 //! of a block: its column or row and the group size shift.
 
 use crate::{
-    expected,
+    convert, expected,
     kinds::{BLOCK, FRAME_SIDE, GROUP_SIZE_SHIFT, LF_LEVEL, UPSAMPLING},
     subject::{Answer, Subject},
 };
@@ -19,13 +19,7 @@ pub const GROUP_SIZES: Subject = Subject {
     outputs: 7,
     numbers: &[0, 4, 9],
     ours: |c| {
-        let answer = restoration::group_sizes(restoration::Frame {
-            width: c[0] as u32,
-            height: c[1] as u32,
-            upsampling: c[2] as u32,
-            lf_level: c[3] as u32,
-            group_size_shift: c[4] as u32,
-        });
+        let answer = restoration::group_sizes(convert::frame(frame(c)));
         let sizes = answer.sizes;
         let fields = [
             sizes.sample_width,
@@ -43,13 +37,7 @@ pub const GROUP_SIZES: Subject = Subject {
         Err(number) => Answer::refused(number),
     },
     rust: |c| {
-        let sizes = oracle::group_sizes(oracle::Frame {
-            width: c[0] as u32,
-            height: c[1] as u32,
-            upsampling: c[2] as u32,
-            lf_level: c[3] as u32,
-            group_size_shift: c[4] as u32,
-        });
+        let sizes = oracle::group_sizes(frame(c));
         let fields = [
             sizes.sample_width,
             sizes.sample_height,
@@ -79,6 +67,16 @@ pub const GROUP_SIZES: Subject = Subject {
         &[16_385, 1, 3, 5, 4],
     ],
 };
+
+fn frame(c: &[i128]) -> oracle::Frame {
+    oracle::Frame {
+        width: c[0] as u32,
+        height: c[1] as u32,
+        upsampling: c[2] as u32,
+        lf_level: c[3] as u32,
+        group_size_shift: c[4] as u32,
+    }
+}
 
 pub const SPLIT_BLOCK: Subject = Subject {
     name: "split_block",

@@ -1,10 +1,13 @@
 //! The Gabor-like pass: small pictures of all sizes and placements by bands, random pictures, and
 //! refusals. What is not written must keep its bits.
 
+use restoration::GaborSettings;
+
 use crate::{
+    convert::{region, wide},
     expected::gabor::number,
     pass::{self, by_bands, one_call},
-    picture::{self, Rows, plain, region, samples, special, wide},
+    picture::{self, Rows, plain, samples, special},
     random::Random,
     report::{Amount, Report, Row},
     scaled::ENDS,
@@ -22,7 +25,7 @@ const SIDES: u32 = 20;
 const BANDS: u32 = 9;
 
 /// The default weights of a header.
-pub const DEFAULT_WEIGHTS: oracle::Weights = [[0.115_169_525, 0.061_248_592]; 3];
+pub const DEFAULT_WEIGHTS: oracle::Weights = GaborSettings::DEFAULT.weights;
 
 const NAME: &str = "gabor rows";
 /// The numbers that the pass can give.
@@ -45,10 +48,7 @@ impl pass::Pass for Pass {
     fn ours(&self, (from, to): Rows, source: &[f32], target: &mut [f32]) -> u32 {
         let place = self.place;
         let (image, filter) = (region(place.image), region(place.filter));
-        let settings = restoration::GaborSettings {
-            enabled: 1,
-            weights: self.weights,
-        };
+        let settings = GaborSettings::with_weights(self.weights);
         restoration::gabor_pass(image, filter, self.full, settings, from, to, source, target)
     }
 

@@ -5,7 +5,7 @@ use core::hint::black_box;
 use restoration::{EdgePreservingFilter, Encoding, Gabor};
 
 use crate::{
-    epf::sigma_settings,
+    convert::epf_sigma,
     expected::{Ruled, header as expected},
     random::Random,
     report::{Amount, Report, Row},
@@ -171,7 +171,7 @@ fn epf_of_rust(edge: Option<oracle::Edge>) -> Vec<u32> {
                 iters: edge.iters,
                 sharp_lut: edge.sharp_lut,
                 channel_scale: edge.channel_scale,
-                sigma: sigma_settings(edge.sigma),
+                sigma: epf_sigma(edge.sigma),
                 sigma_for_modular: edge.sigma_for_modular,
             })
         },

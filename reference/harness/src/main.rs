@@ -8,6 +8,7 @@
 
 mod bench;
 mod bits;
+mod convert;
 mod epf;
 mod expected;
 mod frame;

@@ -1,6 +1,6 @@
 //! Pictures that passes are compared on: where they lie, their samples, and what of them is written.
 
-use crate::{expected, random::Random, report::Row};
+use crate::{random::Random, report::Row};
 
 /// Samples beside ordinary ones: zeros, subnormals, the largest, infinities and NaN.
 const SAMPLES: [u32; 12] = [
@@ -113,24 +113,6 @@ pub fn judge(
 /// The same bits or two NaNs.
 pub fn agree(a: f32, b: f32) -> bool {
     a.to_bits() == b.to_bits() || a.is_nan() && b.is_nan()
-}
-
-pub fn region(r: oracle::Region) -> restoration::Region {
-    restoration::Region {
-        left: r.left,
-        top: r.top,
-        width: r.width,
-        height: r.height,
-    }
-}
-
-pub fn wide(r: oracle::Region) -> expected::Region {
-    expected::Region {
-        left: r.left.into(),
-        top: r.top.into(),
-        width: r.width.into(),
-        height: r.height.into(),
-    }
 }
 
 /// Mostly small and plain, else with a side or corner at a limit.

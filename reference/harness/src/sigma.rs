@@ -4,7 +4,7 @@
 use core::{fmt, hint::black_box};
 
 use crate::{
-    bits,
+    bits, convert,
     expected::{self, sigma as rule},
     picture::{agree, any_flag, any_len, judge, plain, special},
     random::Random,
@@ -64,13 +64,7 @@ impl fmt::Debug for Case {
 
 impl Case {
     pub fn ours(&self, on: u32, sigmas: &mut [f32]) -> u32 {
-        let frame = restoration::Frame {
-            width: self.frame.width,
-            height: self.frame.height,
-            upsampling: self.frame.upsampling,
-            lf_level: self.frame.lf_level,
-            group_size_shift: self.frame.group_size_shift,
-        };
+        let frame = convert::frame(self.frame);
         restoration::block_sigmas(
             on, frame, self.blocks, &self.table, &self.grids, self.modular, sigmas,
         )
@@ -79,13 +73,7 @@ impl Case {
     fn handed(&self, on: u32, sigmas: usize) -> rule::Handed<'_> {
         rule::Handed {
             on,
-            frame: rule::Frame {
-                width: self.frame.width.into(),
-                height: self.frame.height.into(),
-                upsampling: self.frame.upsampling.into(),
-                lf_level: self.frame.lf_level.into(),
-                group_size_shift: self.frame.group_size_shift.into(),
-            },
+            frame: convert::wide_frame(self.frame),
             filter: expected::Region {
                 left: 8 * i128::from(self.blocks.left),
                 top: 8 * i128::from(self.blocks.top),

@@ -4,11 +4,13 @@
 use std::panic::{AssertUnwindSafe, catch_unwind};
 
 use oracle::Place;
-use restoration::{Blocks, Encoding, EpfStep, Frame, GaborSettings, Region, Settings, Setup};
+use restoration::{
+    Blocks, Encoding, EpfSettings, EpfStep, Frame, GaborSettings, Region, Settings, Setup,
+};
 
 /// 2^-24.
 const TINY: f32 = 1.0 / (1 << 24) as f32;
-const DEFAULT_WEIGHTS: [f32; 2] = [0.115_169_525, 0.061_248_592];
+const DEFAULT_WEIGHTS: [f32; 2] = GaborSettings::DEFAULT.weights[0];
 
 /// The number of the edge filter's reader, `sigma_for_modular` and the next bit place.
 fn read_epf(bytes: &[u8], encoding: Encoding) -> (u32, f32, usize) {
@@ -26,7 +28,7 @@ fn at(left: i32, top: i32, width: u32, height: u32) -> Region {
 }
 
 fn sized(width: u32, height: u32) -> Region {
-    at(0, 0, width, height)
+    Region::with_size(width, height)
 }
 
 fn original(r: Region) -> oracle::Region {
@@ -56,10 +58,7 @@ fn panics<T>(call: impl FnOnce() -> T) -> bool {
 }
 
 fn gabor(weights: [f32; 2]) -> GaborSettings {
-    GaborSettings {
-        enabled: 1,
-        weights: [weights; 3],
-    }
+    GaborSettings::with_weights([weights; 3])
 }
 
 /// The number of a Gabor-like pass over rows of full planes with sets so long.
@@ -106,6 +105,7 @@ fn plain_step(step: u32) -> EpfStep {
         channel_scale: [1.0, 0.0, 0.0],
         multiplier: 1.0,
         border_sad_mul: 1.0,
+        ..EpfStep::DEFAULT
     }
 }
 
@@ -166,27 +166,18 @@ fn sigmas_number(f: oracle::Frame, filter: Region, table: &[u32], grids: &[f32])
 }
 
 fn setup(image: Region, filter: Region, iterations: u32, band_height: u32) -> Setup {
-    let mut settings: Settings = restoration::Settings {
-        gabor: gabor(DEFAULT_WEIGHTS),
-        epf: restoration::EpfSettings {
-            iters: iterations,
-            channel_scale: [1.0; 3],
-            sigma: restoration::EpfSigma {
-                quant_mul: 1.0,
-                pass0_sigma_scale: 1.0,
-                pass2_sigma_scale: 1.0,
-                border_sad_mul: 1.0,
-            },
-            sigma_for_modular: 1.0,
-        },
+    let epf = EpfSettings {
+        iters: iterations,
+        ..EpfSettings::DEFAULT
     };
-    settings.gabor.enabled = 0;
     Setup {
-        image,
         filter,
-        preserve_outside: 0,
-        settings,
+        settings: Settings {
+            epf,
+            ..Settings::OFF
+        },
         band_height,
+        ..Setup::whole(image)
     }
 }
 

@@ -4,7 +4,7 @@ use std::{cell::RefCell, hint::black_box};
 
 use restoration::{EpfStep, GaborSettings, Region};
 
-use super::{FILTERED, Times, best, head, region, row, run, smooth};
+use super::{FILTERED, Times, best, head, row, run, smooth};
 use crate::{
     epf::{DEFAULTS, step_of},
     gabor::DEFAULT_WEIGHTS,
@@ -57,15 +57,10 @@ fn gabor(width: u32, height: u32) -> Times {
     let target = RefCell::new(vec![0.0f32; 3 * plane]);
     let weights = black_box(DEFAULT_WEIGHTS);
     let ours = || {
-        let enabled = 1;
-        let settings = GaborSettings { enabled, weights };
-        let image = region(width, height);
-        gabor_pass(
-            image,
-            settings,
-            black_box(&source),
-            &mut target.borrow_mut(),
-        );
+        let image = Region::with_size(width, height);
+        let settings = GaborSettings::with_weights(weights);
+        let source = black_box(&source);
+        gabor_pass(image, settings, source, &mut target.borrow_mut());
     };
     let theirs = || {
         let mut target = target.borrow_mut();
@@ -87,7 +82,7 @@ fn epf(step: u32, side: u32, sigma: f32) -> Times {
     let sigmas = vec![sigma; width.div_ceil(8).pow(2)];
     let settings = black_box(DEFAULTS);
     let ours = || {
-        let (image, step) = (region(side, side), step_of(step, settings));
+        let (image, step) = (Region::with_size(side, side), step_of(step, settings));
         let source = black_box(&source);
         epf_pass(image, step, &sigmas, source, &mut target.borrow_mut());
     };

@@ -2,12 +2,12 @@
 
 use std::hint::black_box;
 
-use restoration::{Run, Setup};
+use restoration::{Region, Run, Setup};
 
 use super::{
     FILTERED, Times, best_timed, head,
     passes::{epf_pass, gabor_pass},
-    region, row, smooth, timed,
+    row, smooth, timed,
 };
 use crate::{
     epf::{DEFAULTS, step_of},
@@ -81,11 +81,10 @@ pub fn handed(side: u32) -> Handed {
     let cells = (blocks * blocks) as usize;
     Handed {
         setup: Setup {
-            image: region(side, side),
-            filter: region(side, side),
             preserve_outside: 1,
             settings: defaults(ALL),
             band_height: BAND,
+            ..Setup::whole(Region::with_size(side, side))
         },
         frame: oracle::Frame {
             width: side,

@@ -2,7 +2,7 @@
 
 use core::{fmt::Debug, hint::black_box};
 
-use restoration::{EpfSettings, EpfSigma, GaborSettings, Region, Run, Settings, Setup};
+use restoration::{Run, RunAnswer, Setup};
 
 use super::handed::{Handed, State, fields, place, record_rule, result_part, setup_rule};
 use crate::{
@@ -18,42 +18,6 @@ const START_NUMBERS: [u32; 7] = [0, 4, 5, 6, 7, 8, 9];
 const BAND_NUMBERS: [u32; 4] = [0, 7, 9, 10];
 const ADVANCE_NUMBERS: [u32; 3] = [0, 9, 11];
 const RESULT_NUMBERS: [u32; 4] = [0, 7, 9, 11];
-
-const NO_REGION: Region = Region {
-    left: 0,
-    top: 0,
-    width: 0,
-    height: 0,
-};
-
-/// The record of a refused start.
-const NO_RUN: Run = Run {
-    setup: Setup {
-        image: NO_REGION,
-        filter: NO_REGION,
-        preserve_outside: 0,
-        settings: Settings {
-            gabor: GaborSettings {
-                enabled: 0,
-                weights: [[0.0; 2]; 3],
-            },
-            epf: EpfSettings {
-                iters: 0,
-                channel_scale: [0.0; 3],
-                sigma: EpfSigma {
-                    quant_mul: 0.0,
-                    pass0_sigma_scale: 0.0,
-                    pass2_sigma_scale: 0.0,
-                    border_sad_mul: 0.0,
-                },
-                sigma_for_modular: 0.0,
-            },
-        },
-        band_height: 0,
-    },
-    pass: 0,
-    done: [0; 256],
-};
 
 /// A row of the table for each kind of call.
 pub struct Tally {
@@ -127,11 +91,12 @@ pub fn start(handed: &mut Handed, tally: &mut Tally) -> (u32, Run) {
     let (run, sigmas_due) = if due == 0 {
         let run = Run {
             setup: before.setup,
-            ..NO_RUN
+            ..Run::DEFAULT
         };
         (run, same_samples(&handed.sigmas, &before.due_sigmas()))
     } else {
-        (NO_RUN, bits::same(&handed.sigmas, &before.sigmas))
+        let refused = RunAnswer::refused(due);
+        (refused.run, bits::same(&handed.sigmas, &before.sigmas))
     };
     let parts = [
         ("record", fields(&answer.run) == fields(&run)),
@@ -193,9 +158,9 @@ pub fn advance(run: &mut Run, tally: &mut Tally) -> u32 {
     let answer = restoration::advance(before);
     *run = if due == 0 {
         Run {
-            setup: before.setup,
             pass: before.pass + 1,
-            done: [0; 256],
+            done: Run::DEFAULT.done,
+            ..before
         }
     } else {
         before

@@ -70,14 +70,22 @@ pub fn state(t: &mut State, random: &mut Random) {
     }
 }
 
+/// One of all fields: the pattern names them, so that a new one is not left out.
 fn setup(s: &mut Setup, random: &mut Random) {
+    let Setup {
+        image,
+        filter,
+        preserve_outside,
+        settings,
+        band_height,
+    } = s;
     match random.within(0, 9) {
-        0 | 1 => region(&mut s.image, random),
-        2 | 3 => region(&mut s.filter, random),
-        4 => s.preserve_outside = random.one_of(&FLAGS),
-        5 | 6 => passes(&mut s.settings, random),
-        7 | 8 => s.band_height = random.one_of(&[0, 1, 2, 8, 16_384, 16_385, u32::MAX]),
-        _ => floats(s, random),
+        0 | 1 => region(image, random),
+        2 | 3 => region(filter, random),
+        4 => *preserve_outside = random.one_of(&FLAGS),
+        5 | 6 => passes(settings, random),
+        7 | 8 => *band_height = random.one_of(&[0, 1, 2, 8, 16_384, 16_385, u32::MAX]),
+        _ => floats(settings, random),
     }
 }
 
@@ -106,8 +114,7 @@ fn region(r: &mut Region, random: &mut Random) {
 }
 
 /// No number depends on a float.
-fn floats(s: &mut Setup, random: &mut Random) {
-    let settings = &mut s.settings;
+fn floats(settings: &mut Settings, random: &mut Random) {
     settings.gabor.weights[random.within(0, 2) as usize][0] = special(random);
     settings.epf.channel_scale[random.within(0, 2) as usize] = special(random);
     settings.epf.sigma.border_sad_mul = special(random);
@@ -144,22 +151,23 @@ fn narrow(h: &mut Handed, random: &mut Random) {
     h.grids.truncate(h.grids.len().saturating_sub(lost));
 }
 
-/// The pass and the done bands.
+/// The pass and the done bands, which are all that a record has beside its setup.
 fn progress(run: &mut Run, random: &mut Random) {
+    let Run { setup, pass, done } = run;
     match random.within(0, 5) {
-        0 | 1 => run.pass = random.one_of(&[0, 1, 2, 3, 4, 5, u32::MAX]),
-        2 => run.done[random.within(0, 255) as usize] = random.one_of(&BYTES),
-        3 => run.done = [random.one_of(&BYTES); 256],
+        0 | 1 => *pass = random.one_of(&[0, 1, 2, 3, 4, 5, u32::MAX]),
+        2 => done[random.within(0, 255) as usize] = random.one_of(&BYTES),
+        3 => *done = [random.one_of(&BYTES); 256],
         4 => {
             // All bands of the pass, or one too many.
-            let s = setup_rule(&run.setup);
+            let s = setup_rule(setup);
             let bands = if s.band_height > 0 { s.bands() } else { 0 };
             let bands = bands.min(255) as usize + usize::from(random.once_in(2));
-            run.done = core::array::from_fn(|k| u8::from(k < bands));
+            *done = core::array::from_fn(|k| u8::from(k < bands));
         }
         _ => {
             let k = random.within(0, 7) as usize;
-            run.done[k] ^= random.one_of(&[1, 1, 2, 255]);
+            done[k] ^= random.one_of(&[1, 1, 2, 255]);
         }
     }
 }

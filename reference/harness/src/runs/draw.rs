@@ -2,10 +2,11 @@
 
 use restoration::{Blocks, GaborSettings, Region, Settings, Setup};
 
-use super::handed::{Handed, epf_settings, setup_rule};
+use super::handed::{Handed, setup_rule};
 use crate::{
+    convert::{epf_settings, region},
     epf, gabor,
-    picture::{self, samples},
+    picture::samples,
     random::Random,
     sigma,
 };
@@ -52,7 +53,7 @@ pub fn with_sides(
 ) -> Handed {
     let case = on_blocks(width, height, random);
     let filter = if passes.iterations > 0 {
-        picture::region(case.filter())
+        region(case.filter())
     } else {
         anywhere(width, height, random)
     };
@@ -65,6 +66,7 @@ pub fn with_sides(
         preserve_outside: preserve_outside.into(),
         settings: settings(passes, case.modular, random),
         band_height: band_height(rows, random),
+        ..Setup::DEFAULT
     };
     lent(setup, case, random)
 }
@@ -84,30 +86,28 @@ fn lent(setup: Setup, case: sigma::Case, random: &mut Random) -> Handed {
     }
 }
 
+impl Passes {
+    /// The settings with these passes.
+    fn of(self, mut settings: Settings) -> Settings {
+        settings.gabor.enabled = self.gabor.into();
+        settings.epf.iters = self.iterations;
+        settings
+    }
+}
+
 /// The default settings of a header with such passes.
 pub fn defaults(passes: Passes) -> Settings {
-    let mut edge = epf::DEFAULTS;
-    edge.iters = passes.iterations;
-    Settings {
-        gabor: GaborSettings {
-            enabled: passes.gabor.into(),
-            weights: gabor::DEFAULT_WEIGHTS,
-        },
-        epf: epf_settings(edge),
-    }
+    passes.of(Settings::DEFAULT)
 }
 
 pub fn settings(passes: Passes, modular: f32, random: &mut Random) -> Settings {
     let mut edge = epf::settings(random);
-    edge.iters = passes.iterations;
     edge.sigma_for_modular = modular;
-    Settings {
-        gabor: GaborSettings {
-            enabled: passes.gabor.into(),
-            weights: gabor::weights(random),
-        },
+    passes.of(Settings {
+        gabor: GaborSettings::with_weights(gabor::weights(random)),
         epf: epf_settings(edge),
-    }
+        ..Settings::DEFAULT
+    })
 }
 
 /// Grids and a filter region with such sides around a place where groups meet.

@@ -2,11 +2,12 @@
 
 use core::fmt;
 
-use restoration::{Run, RunAnswer, Setup};
+use restoration::{EpfSettings, EpfSigma, GaborSettings, Run, RunAnswer, Settings, Setup};
 
 use crate::{
-    bits, epf,
-    expected::{self, runs as rule, sigma::Frame},
+    bits,
+    convert::{edge, frame, original, wide, wide_frame},
+    expected::{self, runs as rule},
     picture, sigma,
 };
 
@@ -39,13 +40,7 @@ impl Handed {
     pub fn rule(&self) -> rule::Start<'_> {
         rule::Start {
             setup: setup_rule(&self.setup),
-            frame: Frame {
-                width: self.frame.width.into(),
-                height: self.frame.height.into(),
-                upsampling: self.frame.upsampling.into(),
-                lf_level: self.frame.lf_level.into(),
-                group_size_shift: self.frame.group_size_shift.into(),
-            },
+            frame: wide_frame(self.frame),
             table: &self.table,
             grids: self.grids.len(),
             sets: [self.first.len(), self.second.len()],
@@ -55,16 +50,9 @@ impl Handed {
 
     /// Calls start with it all.
     pub fn start(&mut self) -> RunAnswer {
-        let frame = restoration::Frame {
-            width: self.frame.width,
-            height: self.frame.height,
-            upsampling: self.frame.upsampling,
-            lf_level: self.frame.lf_level,
-            group_size_shift: self.frame.group_size_shift,
-        };
         restoration::start(
             self.setup,
-            frame,
+            frame(self.frame),
             &self.table,
             &self.grids,
             &mut self.first,
@@ -94,7 +82,7 @@ impl Handed {
 
     /// A whole run by the original, which has copies of planes and grids and owns them.
     pub fn rust_run(&self) -> impl FnOnce() -> oracle::Planes + use<> {
-        let restoration::Settings { gabor, epf } = self.setup.settings;
+        let Settings { gabor, epf, .. } = self.setup.settings;
         let weights = (gabor.enabled == 1).then_some(gabor.weights);
         let edge = (epf.iters > 0).then(|| edge(epf));
         let grids = sigma::rust_grids(&self.table, &self.grids);
@@ -161,8 +149,8 @@ impl State {
 
 pub fn setup_rule(s: &Setup) -> rule::Setup {
     rule::Setup {
-        image: wide(s.image),
-        filter: wide(s.filter),
+        image: wide(original(s.image)),
+        filter: wide(original(s.filter)),
         preserve_outside: s.preserve_outside,
         gabor: s.settings.gabor.enabled,
         iterations: s.settings.epf.iters.into(),
@@ -178,23 +166,10 @@ pub fn record_rule(run: &Run) -> rule::Record<'_> {
     }
 }
 
-fn wide(r: restoration::Region) -> expected::Region {
-    picture::wide(plain(r))
-}
-
-fn plain(r: restoration::Region) -> oracle::Region {
-    oracle::Region {
-        left: r.left,
-        top: r.top,
-        width: r.width,
-        height: r.height,
-    }
-}
-
 pub fn place(s: &Setup) -> oracle::Place {
     oracle::Place {
-        image: plain(s.image),
-        filter: plain(s.filter),
+        image: original(s.image),
+        filter: original(s.filter),
         preserve_outside: s.preserve_outside == 1,
     }
 }
@@ -208,53 +183,57 @@ pub fn result_part(s: &Setup, set: &[f32]) -> Vec<f32> {
         .collect()
 }
 
-/// Every field of a record, floats by their bits.
+/// Every field of a record, floats by their bits. Patterns name all fields, so that a new one is not
+/// left out.
 pub fn fields(run: &Run) -> Vec<u32> {
-    let s = run.setup;
-    let restoration::Settings { gabor, epf } = s.settings;
-    let sigma = epf.sigma;
-    let mut all = Vec::with_capacity(300);
-    for r in [s.image, s.filter] {
-        all.extend([r.left as u32, r.top as u32, r.width, r.height]);
-    }
-    all.extend([s.preserve_outside, gabor.enabled, epf.iters]);
-    all.extend([s.band_height, run.pass]);
-    all.extend(gabor.weights.concat().iter().map(|weight| weight.to_bits()));
-    all.extend(epf.channel_scale.map(f32::to_bits));
-    let floats = [
-        sigma.quant_mul,
-        sigma.pass0_sigma_scale,
-        sigma.pass2_sigma_scale,
-        sigma.border_sad_mul,
-        epf.sigma_for_modular,
-    ];
-    all.extend(floats.map(f32::to_bits));
-    all.extend(run.done.map(u32::from));
+    let &Run { setup, pass, done } = run;
+    let mut all = setup_fields(&setup);
+    all.push(pass);
+    all.extend(done.map(u32::from));
     all
 }
 
-/// The settings of an edge filter that is on, as the original has them.
-fn edge(epf: restoration::EpfSettings) -> oracle::Edge {
-    oracle::Edge {
-        iters: epf.iters,
-        sharp_lut: [0.0; 8],
-        channel_scale: epf.channel_scale,
-        sigma: oracle::Sigma {
-            quant_mul: epf.sigma.quant_mul,
-            pass0_sigma_scale: epf.sigma.pass0_sigma_scale,
-            pass2_sigma_scale: epf.sigma.pass2_sigma_scale,
-            border_sad_mul: epf.sigma.border_sad_mul,
-        },
-        sigma_for_modular: epf.sigma_for_modular,
+fn setup_fields(setup: &Setup) -> Vec<u32> {
+    let &Setup {
+        image,
+        filter,
+        preserve_outside,
+        settings,
+        band_height,
+    } = setup;
+    let mut all = settings_fields(&settings);
+    for r in [image, filter] {
+        all.extend([r.left as u32, r.top as u32, r.width, r.height]);
     }
+    all.extend([preserve_outside, band_height]);
+    all
 }
 
-/// The settings of an edge filter with so many iterations, as they cross the boundary.
-pub fn epf_settings(edge: oracle::Edge) -> restoration::EpfSettings {
-    restoration::EpfSettings {
-        iters: edge.iters,
-        channel_scale: edge.channel_scale,
-        sigma: epf::sigma_settings(edge.sigma),
-        sigma_for_modular: edge.sigma_for_modular,
-    }
+fn settings_fields(settings: &Settings) -> Vec<u32> {
+    let &Settings { gabor, epf } = settings;
+    let GaborSettings { enabled, weights } = gabor;
+    let EpfSettings {
+        iters,
+        channel_scale,
+        sigma,
+        sigma_for_modular,
+    } = epf;
+    let EpfSigma {
+        quant_mul,
+        pass0_sigma_scale,
+        pass2_sigma_scale,
+        border_sad_mul,
+    } = sigma;
+    let sigma = [
+        quant_mul,
+        pass0_sigma_scale,
+        pass2_sigma_scale,
+        border_sad_mul,
+    ];
+    let floats = [weights.as_flattened(), &channel_scale, &sigma].concat();
+    let bits = floats
+        .into_iter()
+        .chain([sigma_for_modular])
+        .map(f32::to_bits);
+    [enabled, iters].into_iter().chain(bits).collect()
 }

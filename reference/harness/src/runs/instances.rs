@@ -9,7 +9,8 @@ use super::{
     refusals,
 };
 use crate::{
-    picture::{self, agree, samples},
+    convert,
+    picture::{agree, samples},
     random::Random,
     report::{Report, Row},
     sigma,
@@ -98,7 +99,7 @@ fn carry(case: sigma::Case, row: &mut Row, tally: &mut Tally) {
 
 /// A picture of zeros that is the filter region of a case.
 fn one_iteration(case: sigma::Case) -> Handed {
-    let filter = picture::region(case.filter());
+    let filter = convert::region(case.filter());
     let mut settings = draw::defaults(Passes {
         gabor: false,
         iterations: 1,
@@ -107,11 +108,8 @@ fn one_iteration(case: sigma::Case) -> Handed {
     let samples = (3 * filter.width * filter.height) as usize;
     Handed {
         setup: Setup {
-            image: filter,
-            filter,
-            preserve_outside: 0,
             settings,
-            band_height: 64,
+            ..Setup::whole(filter)
         },
         sigmas: vec![0.0; case.count()],
         frame: case.frame,

@@ -266,11 +266,9 @@ pub fn compare(random: &mut Random, row: &mut Row, tally: &mut Tally) {
 fn sound() -> Handed {
     Handed {
         setup: Setup {
-            image: REGION,
-            filter: REGION,
-            preserve_outside: 0,
             settings: defaults(ALL),
             band_height: 8,
+            ..Setup::whole(REGION)
         },
         frame: oracle::Frame {
             width: 2_048,
