@@ -3,6 +3,7 @@
 //! They say which number is given. Where none is, the original's answer is what is compared, and
 //! it must be the rule's as well.
 
+mod checks;
 pub mod epf;
 pub mod gabor;
 pub mod header;

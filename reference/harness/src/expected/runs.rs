@@ -1,8 +1,8 @@
-//! Which number start, band, advance and result are refused with. Each is a table of checks,
-//! ascending: a number, whether what the condition needs is in range, and the condition.
+//! Which number start, band, advance and result are refused with: a table of checks for each.
 
 use super::{
     BLOCK, LARGEST_SIDE, OUT_OF_MEASURE, Region, SETTING, WRONG_LENGTH, blocks,
+    checks::first_that_applies,
     epf::NOT_ON_BLOCKS,
     pass::{LARGEST_AREA, NOT_INSIDE, inside, measured},
     sigma::{self, Frame, NOT_HELD, all_held, of_entries},
@@ -16,14 +16,6 @@ const MOST_BANDS: i128 = 256;
 const PLANES: i128 = 3;
 /// A flag is 0 or this; another number is out of range.
 const YES: u32 = 1;
-
-type Check<'a> = (u32, bool, &'a dyn Fn() -> bool);
-
-fn first_of(checks: &[Check]) -> u32 {
-    assert!(checks.is_sorted_by_key(|check| check.0));
-    let applies = |&&(_, needs, fault): &&Check| needs && fault();
-    checks.iter().find(applies).map_or(0, |check| check.0)
-}
 
 /// What start is told and a record holds, as far as numbers depend on it.
 #[derive(Debug, Clone, Copy)]
@@ -123,7 +115,7 @@ pub fn samples(region: Region) -> i128 {
 
 /// The number of a margin, which depends on two numbers alone.
 pub fn margin(s: Setup) -> u32 {
-    first_of(&[
+    first_that_applies(&[
         (SETTING, true, &|| !s.gabor_fits()),
         (SETTING, true, &|| !s.iterations_fit()),
     ])
@@ -159,36 +151,31 @@ pub fn start(handed: Start) -> u32 {
     let s = handed.setup;
     let edge_runs = s.iterations_fit() && s.edge_on();
     let groups = handed.frame.groups();
-    let length_fits = groups.is_ok_and(|[.., all]| handed.table.len() as i128 == 3 * all);
-    // An entry with a faulty presence has no sides, and then there is no length of the grids.
-    let entries = if length_fits {
-        of_entries(handed.sigmas_of())
-    } else {
-        Vec::new()
-    };
-    first_of(&[
+    let table_fits = handed.sigmas_of().table_fits();
+    let entries = of_entries(handed.sigmas_of());
+    first_that_applies(&[
         (OUT_OF_MEASURE, true, &|| !measured(s.image)),
         (OUT_OF_MEASURE, true, &|| !measured(s.filter)),
         (OUT_OF_MEASURE, true, &|| groups == Err(OUT_OF_MEASURE)),
-        (OUT_OF_MEASURE, length_fits, &|| {
+        (OUT_OF_MEASURE, table_fits, &|| {
             entries.contains(&OUT_OF_MEASURE)
         }),
         (NOT_INSIDE, true, &|| !inside(s.filter, s.image)),
         (NOT_ON_BLOCKS, edge_runs, &|| !s.on_blocks()),
         (WRONG_LENGTH, true, &|| s.wrong_sets(handed.sets)),
-        (WRONG_LENGTH, groups.is_ok(), &|| !length_fits),
-        (WRONG_LENGTH, length_fits, &|| {
+        (WRONG_LENGTH, groups.is_ok(), &|| !table_fits),
+        (WRONG_LENGTH, table_fits, &|| {
             entries.contains(&WRONG_LENGTH)
         }),
         (WRONG_LENGTH, s.iterations_fit(), &|| {
             handed.sigmas as i128 != s.sigmas()
         }),
-        (NOT_HELD, edge_runs && length_fits, &|| {
+        (NOT_HELD, edge_runs && table_fits, &|| {
             !all_held(handed.sigmas_of())
         }),
         (SETTING, true, &|| !s.iterations_fit()),
         (SETTING, true, &|| groups == Err(SETTING)),
-        (SETTING, length_fits, &|| entries.contains(&SETTING)),
+        (SETTING, table_fits, &|| entries.contains(&SETTING)),
         (SETTING, true, &|| !s.full_fits()),
         (SETTING, true, &|| !s.gabor_fits()),
         (SETTING, true, &|| !s.height_fits()),
@@ -246,7 +233,7 @@ fn sized(r: Region) -> bool {
 pub fn band(run: Record, sets: [usize; 2], sigmas: usize, k: i128) -> u32 {
     let s = run.setup;
     let sigmas_known = s.iterations_fit() && (!s.edge_on() || sized(s.filter));
-    first_of(&[
+    first_that_applies(&[
         (WRONG_LENGTH, sized(s.image), &|| s.wrong_sets(sets)),
         (WRONG_LENGTH, sigmas_known, &|| sigmas as i128 != s.sigmas()),
         (SETTING, true, &|| !run.fits()),
@@ -258,7 +245,7 @@ pub fn band(run: Record, sets: [usize; 2], sigmas: usize, k: i128) -> u32 {
 
 /// The number of an advance.
 pub fn advance(run: Record) -> u32 {
-    first_of(&[
+    first_that_applies(&[
         (SETTING, true, &|| !run.fits()),
         (PASS_NOT_DONE, true, &|| run.finished()),
         (PASS_NOT_DONE, true, &|| run.missing()),
@@ -268,7 +255,7 @@ pub fn advance(run: Record) -> u32 {
 /// The number of a result call.
 pub fn result(run: Record, sets: [usize; 2], out: usize) -> u32 {
     let s = run.setup;
-    first_of(&[
+    first_that_applies(&[
         (WRONG_LENGTH, sized(s.image), &|| s.wrong_sets(sets)),
         (WRONG_LENGTH, s.full_fits() && sized(s.result()), &|| {
             out as i128 != samples(s.result())

@@ -1,7 +1,9 @@
 //! Block sigmas: the number that their inputs get, and the sigma of each block.
 
 use super::{
-    BLOCK, OUT_OF_MEASURE, Region, Ruled, SETTING, WRONG_LENGTH, blocks, group_sizes,
+    BLOCK, OUT_OF_MEASURE, Region, Ruled, SETTING, WRONG_LENGTH, blocks,
+    checks::first_that_applies,
+    group_sizes,
     pass::{flag, measured},
     split_block,
 };
@@ -50,27 +52,41 @@ pub struct Handed<'a> {
     pub sigmas: usize,
 }
 
-/// Where several numbers apply, the lowest.
+impl Handed<'_> {
+    /// The table has an entry for each of the frame's groups, so that its entries can be judged.
+    pub fn table_fits(&self) -> bool {
+        let groups = self.frame.groups();
+        groups.is_ok_and(|[.., all]| self.table.len() as i128 == 3 * all)
+    }
+}
+
+/// The number of block sigmas.
 pub fn number(handed: Handed) -> u32 {
-    let mut numbers = Vec::new();
     let (on, region_fits) = (flag(handed.on), measured(handed.filter));
-    numbers.extend(on.err());
-    if !region_fits {
-        numbers.push(OUT_OF_MEASURE);
-    } else if on.is_ok_and(|on| handed.sigmas as i128 != due_sigmas(handed, on)) {
-        numbers.push(WRONG_LENGTH);
-    }
-    match handed.frame.groups() {
-        Err(number) => numbers.push(number),
-        Ok([.., all]) if handed.table.len() as i128 != 3 * all => numbers.push(WRONG_LENGTH),
-        Ok(_) => {
-            numbers.extend(of_entries(handed));
-            if on == Ok(true) && region_fits && !all_held(handed) {
-                numbers.push(NOT_HELD);
-            }
-        }
-    }
-    numbers.into_iter().min().unwrap_or(0)
+    let (groups, table_fits) = (handed.frame.groups(), handed.table_fits());
+    let entries = of_entries(handed);
+    first_that_applies(&[
+        (OUT_OF_MEASURE, true, &|| !region_fits),
+        (OUT_OF_MEASURE, true, &|| groups == Err(OUT_OF_MEASURE)),
+        (OUT_OF_MEASURE, table_fits, &|| {
+            entries.contains(&OUT_OF_MEASURE)
+        }),
+        (WRONG_LENGTH, region_fits && on.is_ok(), &|| {
+            handed.sigmas as i128 != due_sigmas(handed, on == Ok(true))
+        }),
+        (WRONG_LENGTH, groups.is_ok(), &|| !table_fits),
+        (WRONG_LENGTH, table_fits, &|| {
+            entries.contains(&WRONG_LENGTH)
+        }),
+        (
+            NOT_HELD,
+            on == Ok(true) && region_fits && table_fits,
+            &|| !all_held(handed),
+        ),
+        (SETTING, true, &|| on.is_err()),
+        (SETTING, true, &|| groups == Err(SETTING)),
+        (SETTING, table_fits, &|| entries.contains(&SETTING)),
+    ])
 }
 
 fn due_sigmas(handed: Handed, on: bool) -> i128 {
@@ -81,7 +97,9 @@ fn due_sigmas(handed: Handed, on: bool) -> i128 {
     }
 }
 
-/// Presence is 0 or 1, a present grid's sides are 1 to 1,024, and the grids have all their cells.
+/// What is wrong with the entries of a table that has one for each group: presence is 0 or 1, a present
+/// grid's sides are 1 to 1,024, and the grids have all their cells. An entry with a faulty presence has
+/// no sides, and then there is no length of the grids.
 pub fn of_entries(handed: Handed) -> Vec<u32> {
     let mut numbers = Vec::new();
     let mut cells = Some(0);
