@@ -12,6 +12,8 @@ use std::{
     time::{Duration, Instant},
 };
 
+use restoration::CHANNELS;
+
 use crate::random::Random;
 
 /// How long each case is run; the best run of either side counts.
@@ -55,7 +57,7 @@ struct Times {
 impl Times {
     /// In ns a sample of the three planes.
     fn a_sample(self, plane: usize) -> Self {
-        let samples = 3.0 * plane as f64;
+        let samples = (CHANNELS * plane) as f64;
         Self {
             ours: self.ours / samples,
             theirs: self.theirs / samples,
@@ -117,7 +119,7 @@ fn row(name: &str, (width, height): (u32, u32), times: Times) {
 /// Samples of three planes that differ little, so that neighbours have weight.
 fn smooth(plane: usize) -> Vec<f32> {
     let mut random = Random::for_name("bench epf");
-    (0..3 * plane)
+    (0..CHANNELS * plane)
         .map(|_| 0.5 + random.within(0, 1 << 20) as f32 / (1 << 26) as f32)
         .collect()
 }

@@ -6,7 +6,7 @@ mod scaled;
 mod tiled;
 mod whole;
 
-use restoration::{EpfSettings, EpfStep, MAX_ITERS};
+use restoration::{BLOCK, CHANNELS, EpfSettings, EpfStep, MAX_ITERS, MAX_OFFSET};
 
 use crate::{
     bits,
@@ -196,7 +196,8 @@ fn whole_images(width: u32, height: u32) -> [oracle::Place; 2] {
 fn two_samples() -> impl Iterator<Item = (f32, Vec<f32>)> {
     SIGMAS.into_iter().flat_map(|sigma| {
         FIRSTS.into_iter().flat_map(move |first| {
-            [[first, 1.0], [1.0, first]].map(|two| (f32::from_bits(sigma), [two; 3].concat()))
+            [[first, 1.0], [1.0, first]]
+                .map(|two| (f32::from_bits(sigma), [two; CHANNELS].concat()))
         })
     })
 }
@@ -238,7 +239,7 @@ fn placements((width, height): (u32, u32), random: &mut Random) -> [oracle::Plac
         width,
         height,
     };
-    let mut block = || 8 * random.within(0, 9) as i32;
+    let mut block = || (BLOCK * random.within(0, 9) as u32) as i32;
     let (left, top) = (block(), block());
     let whole = at(left, top);
     let regions = [
@@ -267,8 +268,9 @@ fn around(filter: oracle::Region, random: &mut Random) -> oracle::Region {
 
 fn random_picture(step: u32, random: &mut Random, row: &mut Row) {
     // Corners to the end of the measures.
-    let most = if random.once_in(4) { 131_072 } else { 20 };
-    let mut block = || 8 * random.within(0, most) as i32;
+    let farthest = MAX_OFFSET as u32 / BLOCK;
+    let most = if random.once_in(4) { farthest } else { 20 };
+    let mut block = || (BLOCK * random.within(0, most.into()) as u32) as i32;
     let (left, top) = (block(), block());
     let mut side = || random.within(1, 130) as u32;
     let filter = oracle::Region {
@@ -294,7 +296,7 @@ fn one_step(place: oracle::Place, step: u32, band: u32, random: &mut Random, row
 }
 
 fn block_count(filter: oracle::Region) -> u32 {
-    filter.width.div_ceil(8) * filter.height.div_ceil(8)
+    filter.width.div_ceil(BLOCK) * filter.height.div_ceil(BLOCK)
 }
 
 /// A picture under these sigmas, with any settings.
@@ -333,7 +335,8 @@ fn wrong(random: &mut Random, row: &mut Row) {
     let mut image = picture::any_region(random);
     if random.once_in(2) {
         // On blocks, so that the later numbers are reached too.
-        (image.left, image.top) = (image.left & !7, image.top & !7);
+        let on_block = |place: i32| place & -(BLOCK as i32);
+        (image.left, image.top) = (on_block(image.left), on_block(image.top));
     }
     let filter = if random.once_in(2) {
         image

@@ -7,23 +7,14 @@ mod checks;
 pub mod epf;
 pub mod gabor;
 pub mod header;
+pub mod limits;
+mod numbers;
 mod pass;
 pub mod runs;
 pub mod sigma;
 
-/// A side, left or top outside the measures, given or resulting.
-pub const OUT_OF_MEASURE: u32 = 4;
-/// A lent slice has a wrong length.
-const WRONG_LENGTH: u32 = 7;
-/// A setting out of range.
-pub const SETTING: u32 = 9;
-
-const LARGEST_SIDE: i128 = 16_384;
-const FARTHEST: i128 = 1_048_576;
-const LARGEST_FACTOR: i128 = 16;
-const LARGEST_ALIGNMENT: i128 = 8_192;
-/// Samples of a block each way.
-const BLOCK: i128 = 8;
+use limits::*;
+use numbers::{OUT_OF_MEASURE, OUT_OF_RANGE};
 
 /// A result, or the number of the refusal.
 pub type Ruled<T> = Result<T, u32>;
@@ -46,8 +37,8 @@ impl Region {
 
     /// Sides of 0 pass here, and there is no limit to the area.
     fn measured(self) -> Ruled<Self> {
-        let side = |length| (0..=LARGEST_SIDE).contains(&length);
-        let corner = |place: i128| place.abs() <= FARTHEST;
+        let side = |length| (0..=MAX_SIDE).contains(&length);
+        let corner = |place: i128| place.abs() <= MAX_OFFSET;
         let fits = corner(self.left) && corner(self.top) && side(self.width) && side(self.height);
         fits.then_some(self).ok_or(OUT_OF_MEASURE)
     }
@@ -131,8 +122,8 @@ pub fn pad(r: Region, size: i128) -> Ruled<Region> {
 /// Cells of 2^factor samples from the one that has the first sample on, as many as are needed.
 pub fn downsample(r: Region, factor: i128) -> Ruled<Region> {
     r.measured()?;
-    if factor > LARGEST_FACTOR {
-        return Err(SETTING);
+    if factor > MAX_DOWNSAMPLE {
+        return Err(OUT_OF_RANGE);
     }
     let cell = 1 << factor;
     let (left, width) = cells(r.left, r.right(), cell);
@@ -148,9 +139,9 @@ pub fn downsample(r: Region, factor: i128) -> Ruled<Region> {
 
 pub fn container_aligned(r: Region, grid_dim: i128) -> Ruled<Region> {
     r.measured()?;
-    let sound = (1..=LARGEST_ALIGNMENT).contains(&grid_dim) && grid_dim.count_ones() == 1;
+    let sound = (1..=MAX_ALIGNMENT).contains(&grid_dim) && grid_dim.count_ones() == 1;
     if !sound {
-        return Err(SETTING);
+        return Err(OUT_OF_RANGE);
     }
     let (left, width) = cells(r.left, r.right(), grid_dim);
     let (top, height) = cells(r.top, r.bottom(), grid_dim);
@@ -171,8 +162,8 @@ fn cells(start: i128, end: i128, cell: i128) -> (i128, i128) {
 }
 
 pub fn mirror(offset: i128, len: i128) -> Ruled<i128> {
-    if !(1..=LARGEST_SIDE).contains(&len) || offset.abs() > FARTHEST {
-        return Err(SETTING);
+    if !(1..=MAX_SIDE).contains(&len) || offset.abs() > MAX_OFFSET {
+        return Err(OUT_OF_RANGE);
     }
     let m = offset.rem_euclid(2 * len);
     Ok(if m < len { m } else { 2 * len - 1 - m })
@@ -186,22 +177,23 @@ pub fn group_sizes(
     lf_level: i128,
     group_size_shift: i128,
 ) -> Ruled<[i128; 7]> {
-    let side = |length| (1..=LARGEST_SIDE).contains(&length);
+    let side = |length| (1..=MAX_SIDE).contains(&length);
     if !side(width) || !side(height) {
         return Err(OUT_OF_MEASURE);
     }
-    if ![1, 2, 4, 8].contains(&upsampling) || lf_level > 4 || group_size_shift > 3 {
-        return Err(SETTING);
+    let known = [1, 2, 4, 8].contains(&upsampling);
+    if !known || lf_level > MAX_LF_LEVEL || group_size_shift > MAX_GROUP_SIZE_SHIFT {
+        return Err(OUT_OF_RANGE);
     }
     let ceil = |length: i128, part: i128| (length + part - 1) / part;
-    let samples = |length| ceil(ceil(length, upsampling), 8i128.pow(lf_level as u32));
-    let group_dim = 128 << group_size_shift;
-    let groups = |length| ceil(samples(length), 8 * group_dim);
+    let samples = |length| ceil(ceil(length, upsampling), BLOCK.pow(lf_level as u32));
+    let group_dim = GROUP_DIM << group_size_shift;
+    let groups = |length| ceil(samples(length), BLOCK * group_dim);
     Ok([
         samples(width),
         samples(height),
         group_dim,
-        7 + group_size_shift,
+        group_dim.trailing_zeros().into(),
         groups(width),
         groups(height),
         groups(width) * groups(height),
@@ -210,10 +202,10 @@ pub fn group_sizes(
 
 /// The group and the inner cell of a block column or row.
 pub fn split_block(block: i128, group_size_shift: i128) -> Ruled<[i128; 2]> {
-    if group_size_shift > 3 {
-        return Err(SETTING);
+    if group_size_shift > MAX_GROUP_SIZE_SHIFT {
+        return Err(OUT_OF_RANGE);
     }
-    let group_dim = 128 << group_size_shift;
+    let group_dim = GROUP_DIM << group_size_shift;
     Ok([block / group_dim, block % group_dim])
 }
 

@@ -2,8 +2,9 @@
 //! of a block: its column or row and the group size shift.
 
 use crate::{
-    convert, expected,
-    kinds::{BLOCK, FRAME_SIDE, GROUP_SIZE_SHIFT, LF_LEVEL, UPSAMPLING},
+    convert,
+    expected::{self, limits::MAX_SIDE},
+    kinds::{BLOCK_PLACE, FRAME_SIDE, GROUP_SIZE_SHIFT, LF_LEVEL, UPSAMPLING},
     subject::{Answer, Subject},
 };
 
@@ -53,11 +54,11 @@ pub const GROUP_SIZES: Subject = Subject {
         ("near zero", &[(0, 20), (0, 20), (0, 9), (0, 5), (0, 4)]),
         (
             "every width",
-            &[(1, 16_384), (9, 9), (1, 8), (0, 4), (0, 3)],
+            &[(1, MAX_SIDE), (9, 9), (1, 8), (0, 4), (0, 3)],
         ),
         (
             "every height",
-            &[(9, 9), (1, 16_384), (1, 8), (0, 4), (0, 3)],
+            &[(9, 9), (1, MAX_SIDE), (1, 8), (0, 4), (0, 3)],
         ),
     ],
     named: &[
@@ -80,7 +81,7 @@ fn frame(c: &[i128]) -> oracle::Frame {
 
 pub const SPLIT_BLOCK: Subject = Subject {
     name: "split_block",
-    inputs: &[&BLOCK, &GROUP_SIZE_SHIFT],
+    inputs: &[&BLOCK_PLACE, &GROUP_SIZE_SHIFT],
     outputs: 2,
     numbers: &[0, 9],
     ours: |c| {

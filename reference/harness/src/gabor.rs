@@ -1,7 +1,7 @@
 //! The Gabor-like pass: small pictures of all sizes and placements by bands, random pictures, and
 //! refusals. What is not written must keep its bits.
 
-use restoration::GaborSettings;
+use restoration::{GaborSettings, MAX_OFFSET};
 
 use crate::{
     convert::{region, wide},
@@ -151,14 +151,14 @@ fn random_pass(random: &mut Random) -> (Pass, u32) {
     let (columns, rows) = (side(width.into()), side(height.into()));
     let band = side(80);
     let image = oracle::Region {
-        left: random.within(-1_048_576, 1_048_576) as i32,
-        top: random.within(-1_048_576, 1_048_576) as i32,
+        left: random.within((-MAX_OFFSET).into(), MAX_OFFSET.into()) as i32,
+        top: random.within((-MAX_OFFSET).into(), MAX_OFFSET.into()) as i32,
         width,
         height,
     };
     // The filter region stays in measure where the image region ends beyond it.
     let last = |corner: i32, room: u32| i128::from(corner) + i128::from(room);
-    let most = |corner, room| last(corner, room).min(1_048_576);
+    let most = |corner, room| last(corner, room).min(MAX_OFFSET.into());
     let filter = oracle::Region {
         left: random.within(image.left.into(), most(image.left, width - columns)) as i32,
         top: random.within(image.top.into(), most(image.top, height - rows)) as i32,

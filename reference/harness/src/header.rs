@@ -2,7 +2,7 @@
 
 use core::hint::black_box;
 
-use restoration::{EdgePreservingFilter, Encoding, Gabor};
+use restoration::{CHANNELS, EdgePreservingFilter, Encoding, Gabor, MAX_HEADER_BYTES};
 
 use crate::{
     convert::epf_sigma,
@@ -287,14 +287,16 @@ fn short_headers(reader: &Reader, amount: Amount, report: &mut Report) {
 fn long_slices(reader: &Reader, amount: Amount, report: &mut Report) {
     let mut row = Row::new(reader.name, "64 KiB");
     let mut random = Random::for_name("64 KiB");
-    let mut bytes: Vec<u8> = (0..65_537).map(|_| random.next() as u8).collect();
-    for start in (65_400..65_537).chain([0]) {
+    let mut bytes: Vec<u8> = (0..=MAX_HEADER_BYTES)
+        .map(|_| random.next() as u8)
+        .collect();
+    for start in (65_400..=MAX_HEADER_BYTES).chain([0]) {
         let modular = start % 2 == 1;
         let header = pack(0, &header(&mut random, modular), 0);
         let end = (start + header.len()).min(bytes.len());
         bytes[start..end].copy_from_slice(&header[..end - start]);
         for place in 8 * start..8 * start + 8 {
-            for len in [65_535, 65_536, 65_537] {
+            for len in MAX_HEADER_BYTES - 1..=MAX_HEADER_BYTES + 1 {
                 reader.check((&bytes[..len], place, modular), &mut row);
             }
         }
@@ -414,7 +416,7 @@ pub fn header(random: &mut Random, modular: bool) -> Vec<Field> {
         halves(random, 8, &mut fields);
     }
     if mostly(random, &mut fields) {
-        halves(random, 3, &mut fields);
+        halves(random, CHANNELS, &mut fields);
         fields.push((random.next() as u32, 32));
     }
     if mostly(random, &mut fields) {

@@ -1,5 +1,7 @@
 //! Pictures that passes are compared on: where they lie, their samples, and what of them is written.
 
+use restoration::{CHANNELS, MAX_OFFSET, MAX_SIDE};
+
 use crate::{random::Random, report::Row};
 
 /// Samples beside ordinary ones: zeros, subnormals, the largest, infinities and NaN.
@@ -9,17 +11,19 @@ const SAMPLES: [u32; 12] = [
 ];
 
 /// Sides and corners at their limits.
-const SIDES: [u32; 6] = [0, 1, 3, 16_384, 16_385, u32::MAX];
+const SIDES: [u32; 6] = [0, 1, SMALL, MAX_SIDE, MAX_SIDE + 1, u32::MAX];
 const CORNERS: [i32; 8] = [
     i32::MIN,
-    -1_048_577,
-    -1_048_576,
+    -MAX_OFFSET - 1,
+    -MAX_OFFSET,
     0,
     1,
-    1_048_576,
-    1_048_577,
+    MAX_OFFSET,
+    MAX_OFFSET + 1,
     i32::MAX,
 ];
+/// The longest side of a small picture.
+const SMALL: u32 = 3;
 
 /// Rows of a result, from the first up to the last.
 pub type Rows = (u32, u32);
@@ -35,12 +39,12 @@ pub fn result(place: &oracle::Place) -> oracle::Region {
 
 /// Samples of a set of the image.
 pub fn set_len(place: &oracle::Place) -> usize {
-    3 * place.image.width as usize * place.image.height as usize
+    CHANNELS * place.image.width as usize * place.image.height as usize
 }
 
 /// The three planes of a set.
 pub fn planes(set: &[f32]) -> oracle::Planes {
-    let plane = set.len() / 3;
+    let plane = set.len() / CHANNELS;
     core::array::from_fn(|c| set[c * plane..][..plane].to_vec())
 }
 
@@ -54,7 +58,7 @@ pub fn runs(
     let left = part.left.abs_diff(image.left) as usize;
     let top = part.top.abs_diff(image.top) as usize;
     let columns = part.width as usize;
-    (0..3)
+    (0..CHANNELS)
         .flat_map(move |c| (from as usize..to as usize).map(move |row| c * height + top + row))
         .map(move |row| row * width + left..row * width + left + columns)
 }
@@ -121,8 +125,8 @@ pub fn any_region(random: &mut Random) -> oracle::Region {
     let mut r = oracle::Region {
         left: small(-1, 2) as i32,
         top: small(-1, 2) as i32,
-        width: small(1, 3) as u32,
-        height: small(1, 3) as u32,
+        width: small(1, SMALL.into()) as u32,
+        height: small(1, SMALL.into()) as u32,
     };
     match random.within(0, 15) {
         0 => r.left = random.one_of(&CORNERS),
@@ -146,19 +150,19 @@ pub fn any_flag(random: &mut Random) -> u32 {
 pub fn any_row(random: &mut Random) -> u32 {
     match random.within(0, 9) {
         0 => u32::MAX,
-        1 => 4,
-        _ => random.within(0, 3) as u32,
+        1 => SMALL + 1,
+        _ => random.within(0, SMALL.into()) as u32,
     }
 }
 
 /// The due length of a small image's set, or one beside it.
 pub fn any_set_len(image: oracle::Region, random: &mut Random) -> usize {
-    let due = if image.width <= 3 && image.height <= 3 {
-        3 * (image.width * image.height) as usize
+    let plane = if image.width <= SMALL && image.height <= SMALL {
+        image.width * image.height
     } else {
-        27
+        SMALL * SMALL
     };
-    any_len(due, random)
+    any_len(CHANNELS * plane as usize, random)
 }
 
 /// A length, or one beside it.

@@ -4,7 +4,7 @@
 
 mod regroup;
 
-use restoration::{Region, Settings};
+use restoration::{BLOCK, CHANNELS, MAX_ITERS, MAX_OFFSET, Region, Settings};
 
 use crate::{
     bits,
@@ -21,8 +21,6 @@ use crate::{
 const RECTANGLES: u64 = 10_000;
 /// Sides of larger pictures.
 const SIDES: u32 = 64;
-/// The largest left and top.
-const FARTHEST: i32 = 1_048_576;
 /// Pictures that are tried until one sample less is wrong at each edge.
 const TRIES: u64 = 1_000;
 
@@ -124,7 +122,7 @@ impl Pair {
     }
 
     /// The samples of both at a place, plane after plane.
-    fn samples(&self, results: &[Vec<f32>; 2], (x, y): (u32, u32)) -> [[f32; 2]; 3] {
+    fn samples(&self, results: &[Vec<f32>; 2], (x, y): (u32, u32)) -> [[f32; 2]; CHANNELS] {
         let corner = self.smaller.setup.filter;
         core::array::from_fn(|c| {
             let at = |handed: &Handed, result: &[f32]| {
@@ -158,7 +156,7 @@ impl Pair {
         };
         let mut compared = 0;
         for at in self.places().filter(|&at| self.clear(self.between(at))) {
-            compared += 3;
+            compared += CHANNELS as u64;
             let samples = self.samples(&results, at);
             if let Some([small, large]) = samples.into_iter().find(|[a, b]| !agree(*a, *b)) {
                 row.differs(&(case, at), &small, &large);
@@ -213,7 +211,7 @@ fn tight(passes: Passes, random: &mut Random, row: &mut Row) {
 fn part(larger: &Handed, random: &mut Random) -> Region {
     let filter = larger.setup.filter;
     let step = if larger.setup.settings.epf.iters > 0 {
-        8
+        BLOCK
     } else {
         1
     };
@@ -223,7 +221,7 @@ fn part(larger: &Handed, random: &mut Random) -> Region {
         } else {
             step * random.within(0, ((side - 1) / step).into()) as u32
         };
-        let before = before.min(corner.abs_diff(FARTHEST));
+        let before = before.min(corner.abs_diff(MAX_OFFSET));
         let room = side - before;
         let length = if random.once_in(4) {
             room
@@ -305,7 +303,7 @@ fn agreeing(settings: Settings, random: &mut Random) -> Settings {
         own.epf.channel_scale = settings.epf.channel_scale;
         own.epf.sigma.border_sad_mul = settings.epf.sigma.border_sad_mul;
     }
-    if passes.iterations == 3 {
+    if passes.iterations == MAX_ITERS {
         own.epf.sigma.pass0_sigma_scale = settings.epf.sigma.pass0_sigma_scale;
     }
     if passes.iterations >= 2 {

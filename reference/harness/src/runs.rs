@@ -10,6 +10,8 @@ mod nans;
 mod refusals;
 mod scaled;
 
+use restoration::{MAX_BANDS, MAX_ITERS};
+
 use calls::Tally;
 use damage::MOST_SAMPLES;
 pub use draw::{Passes, around, band_height, defaults, passes, settings, with_passes};
@@ -31,6 +33,8 @@ const SMALL: u32 = 40;
 /// Sides of large filter regions, and of images around them.
 const LARGE: (u32, u32) = (300, 270);
 const LARGE_IMAGE: u32 = 310;
+/// The most bands, as their numbers are counted.
+const BANDS: u32 = MAX_BANDS as u32;
 
 pub fn compare(amount: Amount, report: &mut Report) {
     instances::compare(report);
@@ -46,7 +50,7 @@ pub fn compare(amount: Amount, report: &mut Report) {
     for n in 0..amount.few(LARGE_RUNS) {
         let passes = Passes {
             gabor: n % 2 == 0,
-            iterations: (n / 2 % 4) as u32,
+            iterations: (n / 2) as u32 % (MAX_ITERS + 1),
         };
         let handed = draw::with_sides(passes, LARGE, LARGE_IMAGE, &mut random);
         whole(handed, &mut random, &mut row, &mut tally);
@@ -147,10 +151,10 @@ fn stray_start(handed: &Handed, random: &mut Random, tally: &mut Tally) {
 /// A band that is done, one past the last, or any.
 fn stray_band(state: &State, random: &mut Random) -> u32 {
     match random.within(0, 3) {
-        0 => random.one_of(&[0, 255, 256, u32::MAX]),
-        1 | 2 => (0..256)
+        0 => random.one_of(&[0, BANDS - 1, BANDS, u32::MAX]),
+        1 | 2 => (0..BANDS)
             .find(|&k| state.run.done[k as usize] == 1)
-            .unwrap_or(256),
+            .unwrap_or(BANDS),
         _ => random.within(0, 41) as u32,
     }
 }

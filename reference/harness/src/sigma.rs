@@ -3,6 +3,11 @@
 
 use core::{fmt, hint::black_box};
 
+use restoration::{
+    BLOCK, Blocks, CHANNELS, GROUP_DIM, MAX_AREA, MAX_GRID_SIDE, MAX_GROUP_SIZE_SHIFT,
+    MAX_LF_LEVEL, MAX_OFFSET, MAX_SIDE, TABLE_ENTRY,
+};
+
 use crate::{
     bits, convert,
     expected::{self, sigma as rule},
@@ -38,14 +43,25 @@ const NAME: &str = "block sigmas";
 const NUMBERS: [u32; 5] = [0, 4, 7, 8, 9];
 
 /// Sides of frames and filter regions, and corners in blocks, at their limits.
-const SIDES: [u32; 6] = [0, 1, 8, 16_384, 16_385, u32::MAX];
-const CORNERS: [u32; 5] = [127, 128, 131_072, 131_073, u32::MAX];
+pub const SIDES: [u32; 6] = [0, 1, BLOCK, MAX_SIDE, MAX_SIDE + 1, u32::MAX];
+const CORNERS: [u32; 5] = [
+    GROUP_DIM - 1,
+    GROUP_DIM,
+    MAX_OFFSET as u32 / BLOCK,
+    MAX_OFFSET as u32 / BLOCK + 1,
+    u32::MAX,
+];
+/// Presences out of range, and sides of grids at their limits.
+const PRESENCES: [u32; 3] = [2, 3, u32::MAX];
+const GRID_SIDES: [u32; 5] = [0, 1, MAX_GRID_SIDE, MAX_GRID_SIDE + 1, u32::MAX];
+/// Samples along a side of a group whose group size shift is 0.
+const GROUP: u32 = BLOCK * GROUP_DIM;
 
 /// What is asked but the lent sigmas. The filter region's left and top are in blocks.
 #[derive(Clone)]
 pub struct Case {
     pub frame: oracle::Frame,
-    pub blocks: restoration::Blocks,
+    pub blocks: Blocks,
     pub table: Vec<u32>,
     pub grids: Vec<f32>,
     pub modular: f32,
@@ -75,8 +91,8 @@ impl Case {
             on,
             frame: convert::wide_frame(self.frame),
             filter: expected::Region {
-                left: 8 * i128::from(self.blocks.left),
-                top: 8 * i128::from(self.blocks.top),
+                left: i128::from(BLOCK) * i128::from(self.blocks.left),
+                top: i128::from(BLOCK) * i128::from(self.blocks.top),
                 width: self.blocks.width.into(),
                 height: self.blocks.height.into(),
             },
@@ -94,8 +110,8 @@ impl Case {
     /// The filter region of a case that is accepted.
     pub fn filter(&self) -> oracle::Region {
         oracle::Region {
-            left: 8 * self.blocks.left as i32,
-            top: 8 * self.blocks.top as i32,
+            left: (BLOCK * self.blocks.left) as i32,
+            top: (BLOCK * self.blocks.top) as i32,
             width: self.blocks.width,
             height: self.blocks.height,
         }
@@ -108,11 +124,11 @@ impl Case {
 
     /// Blocks of the filter region; one where it is larger than any.
     pub fn count(&self) -> usize {
-        let (width, height) = (self.blocks.width as usize, self.blocks.height as usize);
-        if width.max(height) > 16_384 || width * height > 16_777_216 {
+        let Blocks { width, height, .. } = self.blocks;
+        if width.max(height) > MAX_SIDE || width * height > MAX_AREA {
             return 1;
         }
-        width.div_ceil(8) * height.div_ceil(8)
+        (width.div_ceil(BLOCK) * height.div_ceil(BLOCK)) as usize
     }
 }
 
@@ -129,7 +145,7 @@ pub fn rust_grids(table: &[u32], grids: &[f32]) -> Vec<Option<oracle::SigmaGrid>
         })
     };
     table
-        .chunks_exact(3)
+        .chunks_exact(TABLE_ENTRY)
         .map(|entry| if entry[0] == 1 { grid(entry) } else { None })
         .collect()
 }
@@ -137,7 +153,7 @@ pub fn rust_grids(table: &[u32], grids: &[f32]) -> Vec<Option<oracle::SigmaGrid>
 pub fn compare(amount: Amount, report: &mut Report) {
     let mut random = Random::for_name(NAME);
     let mut row = Row::new(NAME, "instances");
-    for shift in 0..4 {
+    for shift in 0..=MAX_GROUP_SIZE_SHIFT {
         for case in carried(shift, &mut random) {
             carry(&case, &mut random, &mut row);
         }
@@ -174,8 +190,13 @@ pub fn compare(amount: Amount, report: &mut Report) {
 
 fn whole_frames(random: &mut Random, report: &mut Report) {
     let mut row = Row::new(NAME, "whole frames");
-    for (width, height) in [(16_384, 64), (64, 16_384), (2_040, 1_500), (1_500, 2_044)] {
-        for shift in 0..4 {
+    for (width, height) in [
+        (MAX_SIDE, 64),
+        (64, MAX_SIDE),
+        (2_040, 1_500),
+        (1_500, 2_044),
+    ] {
+        for shift in 0..=MAX_GROUP_SIZE_SHIFT {
             let case = whole(shift, width, height, random);
             check(&case, 1, case.count(), random, &mut row);
         }
@@ -210,9 +231,9 @@ fn check(case: &Case, on: u32, lent: usize, random: &mut Random, row: &mut Row) 
         settings(case.modular),
     );
     assert!(case.blocks.height < 7 || !shown.is_empty());
-    let across = case.blocks.width.div_ceil(8) as usize;
+    let across = case.blocks.width.div_ceil(BLOCK) as usize;
     for (y, rust) in shown {
-        let at = (y / 8 - case.blocks.top as usize) * across;
+        let at = (y / BLOCK as usize - case.blocks.top as usize) * across;
         let same = ours[at..].iter().zip(&rust).all(|(a, b)| agree(*a, *b));
         if !same || rust.len() != across {
             row.differs(&(case, y), &&ours[at..at + across], &rust);
@@ -225,7 +246,7 @@ fn settings(sigma_for_modular: f32) -> oracle::Edge {
     oracle::Edge {
         iters: 1,
         sharp_lut: [0.0; 8],
-        channel_scale: [1.0; 3],
+        channel_scale: [1.0; CHANNELS],
         sigma: oracle::Sigma {
             quant_mul: 1.0,
             pass0_sigma_scale: 1.0,
@@ -238,19 +259,19 @@ fn settings(sigma_for_modular: f32) -> oracle::Edge {
 
 /// Group row 0 has grids, row 1 none, and a filter region of one block column around their meeting.
 pub fn carried(shift: u32, random: &mut Random) -> [Case; 4] {
-    let dim = 128 << shift;
+    let dim = GROUP_DIM << shift;
     [(dim - 1, 16), (dim - 2, 39), (dim, 16), (dim + 1, 8)].map(|(top, height)| Case {
         frame: oracle::Frame {
-            width: 8,
-            height: 8 * dim + 8,
+            width: BLOCK,
+            height: BLOCK * (dim + 1),
             upsampling: 1,
             lf_level: 0,
             group_size_shift: shift,
         },
-        blocks: restoration::Blocks {
+        blocks: Blocks {
             left: 0,
             top,
-            width: 8,
+            width: BLOCK,
             height,
         },
         table: vec![1, 1, dim, 0, 0, 0],
@@ -280,15 +301,15 @@ fn carry(case: &Case, random: &mut Random, row: &mut Row) {
 /// A narrow grid lacks a column or a row of its blocks.
 pub fn meeting(shift: u32, groups: (u32, u32), narrow: bool, random: &mut Random) -> Case {
     let frame = frame(shift, groups, random);
-    let dim = 128 << shift;
+    let dim = GROUP_DIM << shift;
     let (left, columns) = around(dim, groups.0, random);
     let (top, rows) = around(dim, groups.1, random);
-    let part = |random: &mut Random| random.within(0, 7) as u32;
-    let blocks = restoration::Blocks {
+    let part = |random: &mut Random| random.within(0, (BLOCK - 1).into()) as u32;
+    let blocks = Blocks {
         left,
         top,
-        width: 8 * columns - part(random),
-        height: 8 * rows - part(random),
+        width: BLOCK * columns - part(random),
+        height: BLOCK * rows - part(random),
     };
     filled(frame, blocks, groups, narrow, random)
 }
@@ -305,16 +326,19 @@ fn around(dim: u32, groups: u32, random: &mut Random) -> (u32, u32) {
 
 /// A frame that has so many groups each way, with any upsampling and LF level that leave room.
 pub fn frame(shift: u32, groups: (u32, u32), random: &mut Random) -> oracle::Frame {
-    let group = 1_024 << shift;
+    let group = GROUP << shift;
     let least = |groups: u32| (groups - 1) * group + 1;
     let largest = least(groups.0.max(groups.1));
-    let (mut upsampling, mut lf_level) = (1 << random.within(0, 3), random.within(0, 4) as u32);
-    if (upsampling << (3 * lf_level)) * largest > 16_384 {
+    let (mut upsampling, mut lf_level) = (
+        1 << random.within(0, 3),
+        random.within(0, MAX_LF_LEVEL.into()) as u32,
+    );
+    if (upsampling << (3 * lf_level)) * largest > MAX_SIDE {
         (upsampling, lf_level) = (1, 0);
     }
     let shrink: u32 = upsampling << (3 * lf_level);
     let mut side = |groups: u32| {
-        let most = (groups * group).min(16_384 / shrink);
+        let most = (groups * group).min(MAX_SIDE / shrink);
         let samples = random.within(least(groups).into(), most.into()) as u32;
         samples * shrink - random.within(0, i128::from(shrink) - 1) as u32
     };
@@ -330,12 +354,12 @@ pub fn frame(shift: u32, groups: (u32, u32), random: &mut Random) -> oracle::Fra
 /// Grids for the blocks: each is missing, just large enough, a little larger, or narrow.
 pub fn filled(
     frame: oracle::Frame,
-    blocks: restoration::Blocks,
+    blocks: Blocks,
     (across, down): (u32, u32),
     narrow: bool,
     random: &mut Random,
 ) -> Case {
-    let dim = 128 << frame.group_size_shift;
+    let dim = GROUP_DIM << frame.group_size_shift;
     let mut table = Vec::new();
     let mut cells = 0;
     for group in 0..across * down {
@@ -366,7 +390,7 @@ pub fn filled(
 
 /// Cells of a group's grid that the blocks need along one direction.
 pub fn needed(group: u32, dim: u32, first: u32, side: u32) -> u32 {
-    let past = first + side.div_ceil(8);
+    let past = first + side.div_ceil(BLOCK);
     let start = group * dim;
     if past <= start || first >= start + dim {
         return 0;
@@ -383,13 +407,13 @@ fn whole(shift: u32, width: u32, height: u32, random: &mut Random) -> Case {
         lf_level: 0,
         group_size_shift: shift,
     };
-    let blocks = restoration::Blocks {
+    let blocks = Blocks {
         left: 0,
         top: 0,
         width,
         height,
     };
-    let groups = |side: u32| side.div_ceil(1_024 << shift);
+    let groups = |side: u32| side.div_ceil(GROUP << shift);
     filled(
         frame,
         blocks,
@@ -440,7 +464,7 @@ pub fn wrong_frame(frame: &mut oracle::Frame, random: &mut Random) {
     }
 }
 
-fn wrong_blocks(blocks: &mut restoration::Blocks, random: &mut Random) {
+fn wrong_blocks(blocks: &mut Blocks, random: &mut Random) {
     match random.within(0, 4) {
         0 => blocks.width = random.one_of(&SIDES),
         1 => blocks.height = random.one_of(&SIDES),
@@ -451,16 +475,17 @@ fn wrong_blocks(blocks: &mut restoration::Blocks, random: &mut Random) {
 }
 
 pub fn wrong_table(table: &mut Vec<u32>, random: &mut Random) {
-    let entry = 3 * random.within(0, table.len() as i128 / 3 - 1).max(0) as usize;
-    if table.len() < entry + 3 {
+    let entries = (table.len() / TABLE_ENTRY) as i128;
+    let entry = TABLE_ENTRY * random.within(0, entries - 1).max(0) as usize;
+    if table.len() < entry + TABLE_ENTRY {
         return;
     }
     match random.within(0, 4) {
-        0 => table[entry] = random.one_of(&[2, 3, u32::MAX]),
-        1 => table[entry + 1] = random.one_of(&[0, 1, 1_024, 1_025, u32::MAX]),
-        2 => table[entry + 2] = random.one_of(&[0, 1, 1_024, 1_025, u32::MAX]),
+        0 => table[entry] = random.one_of(&PRESENCES),
+        1 => table[entry + 1] = random.one_of(&GRID_SIDES),
+        2 => table[entry + 2] = random.one_of(&GRID_SIDES),
         3 => table.truncate(any_len(table.len() - 1, random)),
-        _ => table.extend([0, 0, 0]),
+        _ => table.extend([0; TABLE_ENTRY]),
     }
 }
 

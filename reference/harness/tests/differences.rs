@@ -5,7 +5,8 @@ use std::panic::{AssertUnwindSafe, catch_unwind};
 
 use oracle::Place;
 use restoration::{
-    Blocks, Encoding, EpfSettings, EpfStep, Frame, GaborSettings, Region, Settings, Setup,
+    BLOCK, Blocks, CHANNELS, Encoding, EpfSettings, EpfStep, Frame, GaborSettings, Region,
+    Settings, Setup,
 };
 
 /// 2^-24.
@@ -58,7 +59,7 @@ fn panics<T>(call: impl FnOnce() -> T) -> bool {
 }
 
 fn gabor(weights: [f32; 2]) -> GaborSettings {
-    GaborSettings::with_weights([weights; 3])
+    GaborSettings::with_weights([weights; CHANNELS])
 }
 
 /// The number of a Gabor-like pass over rows of full planes with sets so long.
@@ -72,8 +73,8 @@ fn gabor_number(image: Region, filter: Region, (from, to): (u32, u32), samples: 
 fn gabor_planes(width: u32, weights: [f32; 2], plane: &[f32]) -> [Vec<f32>; 2] {
     let height = plane.len() as u32 / width;
     let image = sized(width, height);
-    let rust = oracle::gabor(place(image, image, true), [weights; 3], three(plane));
-    let mut ours = [plane; 3].concat();
+    let rust = oracle::gabor(place(image, image, true), [weights; CHANNELS], three(plane));
+    let mut ours = [plane; CHANNELS].concat();
     let source = ours.clone();
     let settings = gabor(weights);
     let number = restoration::gabor_pass(image, image, 1, settings, 0, height, &source, &mut ours);
@@ -110,7 +111,7 @@ fn plain_step(step: u32) -> EpfStep {
 }
 
 fn step_number(filter: Region, step: u32) -> u32 {
-    let samples = 3 * (filter.width * filter.height) as usize;
+    let samples = CHANNELS * (filter.width * filter.height) as usize;
     let (source, mut target) = (vec![0.0; samples], vec![0.0; samples]);
     let settings = plain_step(step);
     restoration::epf_pass(
@@ -127,8 +128,8 @@ fn step_number(filter: Region, step: u32) -> u32 {
 }
 
 const SMALL: oracle::Frame = oracle::Frame {
-    width: 8,
-    height: 8,
+    width: BLOCK,
+    height: BLOCK,
     upsampling: 1,
     lf_level: 0,
     group_size_shift: 0,
@@ -153,15 +154,19 @@ fn grid(width: usize, height: usize, cells: &[f32]) -> Option<oracle::SigmaGrid>
     })
 }
 
+fn block_count(filter: Region) -> usize {
+    (filter.width.div_ceil(BLOCK) * filter.height.div_ceil(BLOCK)) as usize
+}
+
 /// The number of block sigmas of a filter region on blocks, with the edge filter on.
 fn sigmas_number(f: oracle::Frame, filter: Region, table: &[u32], grids: &[f32]) -> u32 {
     let blocks = Blocks {
-        left: filter.left as u32 / 8,
-        top: filter.top as u32 / 8,
+        left: filter.left as u32 / BLOCK,
+        top: filter.top as u32 / BLOCK,
         width: filter.width,
         height: filter.height,
     };
-    let mut sigmas = vec![0.0; (filter.width.div_ceil(8) * filter.height.div_ceil(8)) as usize];
+    let mut sigmas = vec![0.0; block_count(filter)];
     restoration::block_sigmas(1, frame(f), blocks, table, grids, 1.0, &mut sigmas)
 }
 
@@ -183,17 +188,10 @@ fn setup(image: Region, filter: Region, iterations: u32, band_height: u32) -> Se
 
 /// Start on a picture of zeros with a table; block sigmas where there are iterations.
 fn start(setup: Setup, table: &[u32]) -> restoration::RunAnswer {
-    let samples = 3 * (setup.image.width * setup.image.height) as usize;
+    let samples = CHANNELS * (setup.image.width * setup.image.height) as usize;
     let (mut first, second) = (vec![0.0; samples], vec![0.0; samples]);
-    let blocks = setup.filter.width.div_ceil(8) * setup.filter.height.div_ceil(8);
-    let mut sigmas = vec![
-        0.0;
-        if setup.settings.epf.iters > 0 {
-            blocks
-        } else {
-            0
-        } as usize
-    ];
+    let on = usize::from(setup.settings.epf.iters > 0);
+    let mut sigmas = vec![0.0; on * block_count(setup.filter)];
     restoration::start(
         setup,
         frame(SMALL),
@@ -402,7 +400,7 @@ fn gabor_mirrors_at_the_filter_region() {
     // Over the whole picture the first sample would have 16 × (1/2 + 2 × 1/4) / 4.
     let [whole, ..] = oracle::gabor(place(image, image, true), weights, three(&plane));
     assert_eq!(whole[0], 4.0);
-    let source = [plane; 3].concat();
+    let source = [plane; CHANNELS].concat();
     let mut target = [1.0; 6];
     let settings = gabor([0.5, 0.25]);
     let number = restoration::gabor_pass(image, filter, 1, settings, 0, 2, &source, &mut target);

@@ -2,7 +2,7 @@
 
 use std::{cell::RefCell, hint::black_box};
 
-use restoration::{EpfStep, GaborSettings, Region};
+use restoration::{BLOCK, CHANNELS, EpfStep, GaborSettings, MAX_HEADER_BYTES, Region};
 
 use super::{FILTERED, Times, best, head, row, run, smooth};
 use crate::{
@@ -51,10 +51,10 @@ pub fn print_cases() {
 fn gabor(width: u32, height: u32) -> Times {
     let plane = width as usize * height as usize;
     let mut random = Random::for_name("bench gabor");
-    let source: Vec<f32> = (0..3 * plane)
+    let source: Vec<f32> = (0..CHANNELS * plane)
         .map(|_| random.within(0, 1 << 20) as f32 / 1024.0)
         .collect();
-    let target = RefCell::new(vec![0.0f32; 3 * plane]);
+    let target = RefCell::new(vec![0.0f32; CHANNELS * plane]);
     let weights = black_box(DEFAULT_WEIGHTS);
     let ours = || {
         let image = Region::with_size(width, height);
@@ -78,8 +78,8 @@ fn epf(step: u32, side: u32, sigma: f32) -> Times {
     let width = side as usize;
     let plane = width * width;
     let source = smooth(plane);
-    let target = RefCell::new(vec![0.0f32; 3 * plane]);
-    let sigmas = vec![sigma; width.div_ceil(8).pow(2)];
+    let target = RefCell::new(vec![0.0f32; CHANNELS * plane]);
+    let sigmas = vec![sigma; width.div_ceil(BLOCK as usize).pow(2)];
     let settings = black_box(DEFAULTS);
     let ours = || {
         let (image, step) = (Region::with_size(side, side), step_of(step, settings));
@@ -111,9 +111,9 @@ pub fn epf_pass(image: Region, step: EpfStep, sigmas: &[f32], source: &[f32], ta
 
 /// Reading both bundles at the last place of a slice of 64 KiB and at the first.
 fn header() {
-    const BITS: usize = 65_536 * 8;
+    const BITS: usize = 8 * MAX_HEADER_BYTES;
     const TIMES: usize = 1000;
-    let bytes = vec![0u8; 65_536];
+    let bytes = vec![0u8; MAX_HEADER_BYTES];
     let read = |place: usize| {
         for _ in 0..TIMES {
             let answer =

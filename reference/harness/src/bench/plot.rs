@@ -2,6 +2,8 @@
 
 use std::fmt::Write;
 
+use restoration::CHANNELS;
+
 use super::Times;
 
 const WIDTH: f64 = 760.0;
@@ -129,7 +131,7 @@ impl Svg {
             self.add(format_args!(
                 "<circle cx=\"{x:.1}\" cy=\"{y:.1}\" r=\"3.5\" fill=\"{colour}\"/>"
             ));
-            let text = format!("{:.1}", cost(times) / (3.0 * area(*side)));
+            let text = format!("{:.1}", cost(times) / (CHANNELS as f64 * area(*side)));
             self.label((x + label.0, y + label.1), anchor, colour, &text);
         }
         let (x, y) = points[points.len() / 2];

@@ -2,7 +2,7 @@
 
 use std::hint::black_box;
 
-use restoration::{Region, Run, Setup};
+use restoration::{BLOCK, CHANNELS, MAX_ITERS, Region, Run, Setup};
 
 use super::{
     FILTERED, Times, best_timed, head,
@@ -19,10 +19,10 @@ const BAND: u32 = 64;
 /// With this group size shift the largest picture, of 4080 by 4080, has one group.
 const ONE_GROUP: u32 = 2;
 /// Gabor and three iterations.
-pub const PASSES: u32 = 4;
+pub const PASSES: u32 = 1 + MAX_ITERS;
 const ALL: Passes = Passes {
     gabor: true,
-    iterations: 3,
+    iterations: MAX_ITERS,
 };
 
 /// A run by bands beside the same passes, each over all rows at once.
@@ -77,7 +77,7 @@ pub fn beside_rust(side: u32) -> Times {
 /// The Gabor-like pass and three iterations over a whole image of one group.
 pub fn handed(side: u32) -> Handed {
     let plane = (side * side) as usize;
-    let blocks = side.div_ceil(8);
+    let blocks = side.div_ceil(BLOCK);
     let cells = (blocks * blocks) as usize;
     Handed {
         setup: Setup {
@@ -96,13 +96,13 @@ pub fn handed(side: u32) -> Handed {
         table: vec![1, blocks, blocks],
         grids: vec![FILTERED; cells],
         first: smooth(plane),
-        second: vec![0.0; 3 * plane],
+        second: vec![0.0; CHANNELS * plane],
         sigmas: vec![FILTERED; cells],
     }
 }
 
 pub fn result_slice(side: u32) -> Vec<f32> {
-    vec![0.0; 3 * (side * side) as usize]
+    vec![0.0; CHANNELS * (side * side) as usize]
 }
 
 /// Start, and all bands and advances.

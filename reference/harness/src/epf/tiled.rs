@@ -2,6 +2,8 @@
 //! that has samples of the filter region on every side reads the planes themselves, every other
 //! tile goes through a window; narrower pictures have no such tile.
 
+use restoration::BLOCK;
+
 use super::{around, block_count, with_sigmas};
 use crate::{
     picture,
@@ -15,12 +17,10 @@ const TILE: u32 = 56;
 /// Tiles of a picture, of which the last may be followed by a narrower one.
 const TILES: core::ops::RangeInclusive<u32> = 2..=5;
 /// Columns beyond whole tiles: none, a few, about a block, and all but one of another tile.
-const BEYOND: [u32; 7] = [0, 1, 2, 7, 8, 9, TILE - 1];
+const BEYOND: [u32; 7] = [0, 1, 2, BLOCK - 1, BLOCK, BLOCK + 1, TILE - 1];
 /// The widest, where widths are drawn too.
 const WIDEST: u32 = 300;
 const HIGHEST: u32 = 40;
-/// Rows and columns of a block.
-const BLOCK: u32 = 8;
 /// Blocks between the corner of a filter region and either axis.
 const FARTHEST: i128 = 40;
 

@@ -1,6 +1,8 @@
 //! Block sigmas from a frame's grids and then the steps of 1 to 3 iterations by bands, against
 //! `apply_epf`.
 
+use restoration::{BLOCK, Blocks, MAX_GROUP_SIZE_SHIFT, MAX_ITERS};
+
 use super::{
     BANDS, DEFAULTS, Pass, SIDES, around, placements, settings, textured, two_samples, whole_images,
 };
@@ -16,8 +18,6 @@ use crate::{
 const PICTURES: u64 = 3_000;
 /// Sides of random pictures.
 const LARGEST: u32 = 48;
-/// The most iterations.
-const ITERATIONS: u32 = 3;
 
 const NAME: &str = "apply_epf";
 
@@ -34,7 +34,7 @@ pub fn compare(amount: Amount, report: &mut Report) {
     }
     report.add(row);
     let mut row = Row::new(NAME, "instances");
-    for shift in 0..4 {
+    for shift in 0..=MAX_GROUP_SIZE_SHIFT {
         for case in sigma::carried(shift, &mut random) {
             random_steps(&case, &mut random, &mut row);
         }
@@ -53,7 +53,7 @@ pub fn compare(amount: Amount, report: &mut Report) {
 /// Two samples under each named sigma, from a grid and from a missing one.
 fn named(random: &mut Random, row: &mut Row) {
     let frame = sigma::frame(0, (1, 1), random);
-    let blocks = restoration::Blocks {
+    let blocks = Blocks {
         left: 0,
         top: 0,
         width: 2,
@@ -72,7 +72,7 @@ fn named(random: &mut Random, row: &mut Row) {
                 modular,
             };
             for place in whole_images(2, 1) {
-                for iterations in 1..=ITERATIONS {
+                for iterations in 1..=MAX_ITERS {
                     let steps = Steps::new(&case, place, (iterations, DEFAULTS), 1);
                     steps.check(source.clone(), random, row);
                 }
@@ -84,13 +84,13 @@ fn named(random: &mut Random, row: &mut Row) {
 /// Every placement in a frame of one group, with every count of iterations.
 fn all_placements((width, height): (u32, u32), amount: Amount, random: &mut Random, row: &mut Row) {
     for place in placements((width, height), random) {
-        for iterations in 1..=ITERATIONS {
+        for iterations in 1..=MAX_ITERS {
             if !row.takes(amount) {
                 continue;
             }
-            let blocks = restoration::Blocks {
-                left: place.filter.left as u32 / 8,
-                top: place.filter.top as u32 / 8,
+            let blocks = Blocks {
+                left: place.filter.left as u32 / BLOCK,
+                top: place.filter.top as u32 / BLOCK,
                 width,
                 height,
             };
@@ -121,7 +121,7 @@ fn random_steps(case: &Case, random: &mut Random, row: &mut Row) {
         filter: case.filter(),
         preserve_outside: random.once_in(2),
     };
-    let iterations = random.within(1, ITERATIONS.into()) as u32;
+    let iterations = random.within(1, MAX_ITERS.into()) as u32;
     let band = random.within(1, 64) as u32;
     let steps = Steps::new(case, place, (iterations, settings(random)), band);
     let source = textured(picture::set_len(&place), random);

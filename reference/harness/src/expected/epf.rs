@@ -1,8 +1,11 @@
 //! Which number an edge-preserving step is refused with.
 
-use super::{BLOCK, Region, Ruled, SETTING, WRONG_LENGTH, blocks, pass};
+use super::{
+    BLOCK, Region, Ruled, blocks,
+    numbers::{NOT_ON_BLOCKS, OUT_OF_RANGE, WRONG_LENGTH},
+    pass,
+};
 
-pub const NOT_ON_BLOCKS: u32 = 6;
 const LAST_STEP: u32 = 2;
 
 /// What a step is handed, with the lengths of its slices.
@@ -34,7 +37,7 @@ fn judged(handed: Handed) -> Ruled<()> {
         return Err(WRONG_LENGTH);
     }
     if handed.step > LAST_STEP {
-        return Err(SETTING);
+        return Err(OUT_OF_RANGE);
     }
     let full = pass::flag(handed.preserve_outside)?;
     let result = if full { image } else { filter };

@@ -1,12 +1,11 @@
 //! The filter header's fields as a table: condition, width, default.
 
-use super::{Ruled, WRONG_LENGTH};
+use restoration::{CHANNELS, MAX_HEADER_BYTES};
 
-const BITS_RUN_OUT: u32 = 1;
-const HALF_NOT_FINITE: u32 = 2;
-const KERNEL_NEAR_ZERO: u32 = 3;
-
-const LONGEST_SLICE: usize = 65_536;
+use super::{
+    Ruled,
+    numbers::{BITS_RUN_OUT, HALF_NOT_FINITE, KERNEL_NEAR_ZERO, WRONG_LENGTH},
+};
 
 /// Fields in order, floats by their bits, and the next bit place.
 pub type Read = (Vec<u32>, usize);
@@ -67,7 +66,7 @@ fn read(
     place: usize,
     fields: impl FnOnce(&mut Bits) -> Ruled<Vec<u32>>,
 ) -> Ruled<Read> {
-    if bytes.len() > LONGEST_SLICE {
+    if bytes.len() > MAX_HEADER_BYTES {
         return Err(WRONG_LENGTH);
     }
     let place = place as u128;
@@ -102,7 +101,7 @@ fn gabor_fields(bits: &mut Bits) -> Ruled<Vec<u32>> {
     }
     let mut fields = vec![1];
     let custom = bits.flag()?;
-    for _ in 0..3 {
+    for _ in 0..CHANNELS {
         let pair = if custom {
             bits.halves(2)?
         } else {
@@ -130,7 +129,7 @@ fn epf_fields(bits: &mut Bits, modular: bool) -> Ruled<Vec<u32>> {
         (0u8..8).map(|n| (f32::from(n) / 7.0).to_bits()).collect()
     });
     fields.extend(if bits.flag()? {
-        let scales = bits.halves(3)?;
+        let scales = bits.halves(CHANNELS)?;
         bits.field(32)?;
         scales
     } else {

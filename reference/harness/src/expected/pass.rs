@@ -1,19 +1,24 @@
 //! Which number a pass over rows is refused with: what all passes share.
 
-use super::{FARTHEST, LARGEST_SIDE, OUT_OF_MEASURE, Region, Ruled, SETTING, WRONG_LENGTH};
+use super::{
+    CHANNELS, MAX_AREA, MAX_OFFSET, MAX_SIDE, Region, Ruled,
+    numbers::{NOT_INSIDE, OUT_OF_MEASURE, OUT_OF_RANGE, WRONG_LENGTH},
+};
 
-pub const NOT_INSIDE: u32 = 5;
+/// Sides and area are in measure; sides are at least 1. Lengths that depend on the region are known.
+pub fn sized(r: Region) -> bool {
+    let side = |length| (1..=MAX_SIDE).contains(&length);
+    side(r.width) && side(r.height) && r.width * r.height <= MAX_AREA
+}
 
-pub const LARGEST_AREA: i128 = 16_777_216;
-
-/// Sides of at least 1, and a limit to the area.
+/// The region is in measure.
 pub fn measured(r: Region) -> bool {
-    let side = |length| (1..=LARGEST_SIDE).contains(&length);
-    side(r.width)
-        && side(r.height)
-        && r.width * r.height <= LARGEST_AREA
-        && r.left.abs() <= FARTHEST
-        && r.top.abs() <= FARTHEST
+    sized(r) && r.left.abs() <= MAX_OFFSET && r.top.abs() <= MAX_OFFSET
+}
+
+/// Samples of all planes of a region.
+pub fn samples(r: Region) -> i128 {
+    CHANNELS * r.width * r.height
 }
 
 pub fn inside(inner: Region, outer: Region) -> bool {
@@ -33,8 +38,9 @@ pub fn placed(image: Region, filter: Region) -> Ruled<()> {
 
 /// Both sets are as long as three planes of the image region.
 pub fn sets(image: Region, lengths: [usize; 2]) -> Ruled<()> {
-    let samples = 3 * image.width * image.height;
-    let sound = lengths.iter().all(|&length| length as i128 == samples);
+    let sound = lengths
+        .iter()
+        .all(|&length| length as i128 == samples(image));
     sound.then_some(()).ok_or(WRONG_LENGTH)
 }
 
@@ -43,12 +49,12 @@ pub fn flag(number: u32) -> Ruled<bool> {
     match number {
         0 => Ok(false),
         1 => Ok(true),
-        _ => Err(SETTING),
+        _ => Err(OUT_OF_RANGE),
     }
 }
 
 /// Rows `from` to `to` are rows of the result.
 pub fn rows(result: Region, (from, to): (i128, i128)) -> Ruled<()> {
     let sound = from <= to && to <= result.height;
-    sound.then_some(()).ok_or(SETTING)
+    sound.then_some(()).ok_or(OUT_OF_RANGE)
 }

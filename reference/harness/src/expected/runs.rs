@@ -1,19 +1,15 @@
 //! Which number start, band, advance and result are refused with: a table of checks for each.
 
 use super::{
-    BLOCK, LARGEST_SIDE, OUT_OF_MEASURE, Region, SETTING, WRONG_LENGTH, blocks,
+    BLOCK, MAX_BANDS, MAX_ITERS, MAX_SIDE, Region, blocks,
     checks::first_that_applies,
-    epf::NOT_ON_BLOCKS,
-    pass::{LARGEST_AREA, NOT_INSIDE, inside, measured},
-    sigma::{self, Frame, NOT_HELD, all_held, of_entries},
+    numbers::*,
+    pass::{inside, measured, sized},
+    sigma::{self, Frame, all_held, of_entries},
 };
 
-const BAND_NOT_OPEN: u32 = 10;
-const PASS_NOT_DONE: u32 = 11;
+pub use super::pass::samples;
 
-const MOST_ITERATIONS: i128 = 3;
-const MOST_BANDS: i128 = 256;
-const PLANES: i128 = 3;
 /// A flag is 0 or this; another number is out of range.
 const YES: u32 = 1;
 
@@ -78,7 +74,7 @@ impl Setup {
     }
 
     fn iterations_fit(&self) -> bool {
-        self.iterations <= MOST_ITERATIONS
+        self.iterations <= MAX_ITERS
     }
 
     fn on_blocks(&self) -> bool {
@@ -87,7 +83,7 @@ impl Setup {
     }
 
     fn height_fits(&self) -> bool {
-        (1..=LARGEST_SIDE).contains(&self.band_height)
+        (1..=MAX_SIDE).contains(&self.band_height)
     }
 
     fn wrong_sets(&self, lengths: [usize; 2]) -> bool {
@@ -104,20 +100,15 @@ impl Setup {
             && self.full_fits()
             && self.gabor_fits()
             && self.height_fits()
-            && self.bands() <= MOST_BANDS
+            && self.bands() <= MAX_BANDS
     }
-}
-
-/// Samples of three planes of a region.
-pub fn samples(region: Region) -> i128 {
-    PLANES * region.width * region.height
 }
 
 /// The number of a margin, which depends on two numbers alone.
 pub fn margin(s: Setup) -> u32 {
     first_that_applies(&[
-        (SETTING, true, &|| !s.gabor_fits()),
-        (SETTING, true, &|| !s.iterations_fit()),
+        (OUT_OF_RANGE, true, &|| !s.gabor_fits()),
+        (OUT_OF_RANGE, true, &|| !s.iterations_fit()),
     ])
 }
 
@@ -170,17 +161,19 @@ pub fn start(handed: Start) -> u32 {
         (WRONG_LENGTH, s.iterations_fit(), &|| {
             handed.sigmas as i128 != s.sigmas()
         }),
-        (NOT_HELD, edge_runs && table_fits, &|| {
+        (BLOCK_NOT_HELD, edge_runs && table_fits, &|| {
             !all_held(handed.sigmas_of())
         }),
-        (SETTING, true, &|| !s.iterations_fit()),
-        (SETTING, true, &|| groups == Err(SETTING)),
-        (SETTING, table_fits, &|| entries.contains(&SETTING)),
-        (SETTING, true, &|| !s.full_fits()),
-        (SETTING, true, &|| !s.gabor_fits()),
-        (SETTING, true, &|| !s.height_fits()),
-        (SETTING, s.full_fits() && s.height_fits(), &|| {
-            s.bands() > MOST_BANDS
+        (OUT_OF_RANGE, true, &|| !s.iterations_fit()),
+        (OUT_OF_RANGE, true, &|| groups == Err(OUT_OF_RANGE)),
+        (OUT_OF_RANGE, table_fits, &|| {
+            entries.contains(&OUT_OF_RANGE)
+        }),
+        (OUT_OF_RANGE, true, &|| !s.full_fits()),
+        (OUT_OF_RANGE, true, &|| !s.gabor_fits()),
+        (OUT_OF_RANGE, true, &|| !s.height_fits()),
+        (OUT_OF_RANGE, s.full_fits() && s.height_fits(), &|| {
+            s.bands() > MAX_BANDS
         }),
     ])
 }
@@ -223,12 +216,6 @@ impl Record<'_> {
     }
 }
 
-/// Sides and area are in measure: lengths that depend on the region are known.
-fn sized(r: Region) -> bool {
-    let side = |length| (1..=LARGEST_SIDE).contains(&length);
-    side(r.width) && side(r.height) && r.width * r.height <= LARGEST_AREA
-}
-
 /// The number of a band.
 pub fn band(run: Record, sets: [usize; 2], sigmas: usize, k: i128) -> u32 {
     let s = run.setup;
@@ -236,7 +223,7 @@ pub fn band(run: Record, sets: [usize; 2], sigmas: usize, k: i128) -> u32 {
     first_that_applies(&[
         (WRONG_LENGTH, sized(s.image), &|| s.wrong_sets(sets)),
         (WRONG_LENGTH, sigmas_known, &|| sigmas as i128 != s.sigmas()),
-        (SETTING, true, &|| !run.fits()),
+        (OUT_OF_RANGE, true, &|| !run.fits()),
         (BAND_NOT_OPEN, true, &|| run.finished()),
         (BAND_NOT_OPEN, true, &|| k >= s.bands()),
         (BAND_NOT_OPEN, true, &|| run.is_done(k)),
@@ -246,7 +233,7 @@ pub fn band(run: Record, sets: [usize; 2], sigmas: usize, k: i128) -> u32 {
 /// The number of an advance.
 pub fn advance(run: Record) -> u32 {
     first_that_applies(&[
-        (SETTING, true, &|| !run.fits()),
+        (OUT_OF_RANGE, true, &|| !run.fits()),
         (PASS_NOT_DONE, true, &|| run.finished()),
         (PASS_NOT_DONE, true, &|| run.missing()),
     ])
@@ -260,7 +247,7 @@ pub fn result(run: Record, sets: [usize; 2], out: usize) -> u32 {
         (WRONG_LENGTH, s.full_fits() && sized(s.result()), &|| {
             out as i128 != samples(s.result())
         }),
-        (SETTING, true, &|| !run.fits()),
+        (OUT_OF_RANGE, true, &|| !run.fits()),
         (PASS_NOT_DONE, true, &|| !run.finished()),
     ])
 }

@@ -1,16 +1,15 @@
 //! Block sigmas: the number that their inputs get, and the sigma of each block.
 
+use restoration::{MAX_GRID_SIDE, TABLE_ENTRY};
+
 use super::{
-    BLOCK, OUT_OF_MEASURE, Region, Ruled, SETTING, WRONG_LENGTH, blocks,
+    BLOCK, Region, Ruled, blocks,
     checks::first_that_applies,
-    group_sizes,
+    group_sizes, limits,
+    numbers::{BLOCK_NOT_HELD, OUT_OF_MEASURE, OUT_OF_RANGE, WRONG_LENGTH},
     pass::{flag, measured},
     split_block,
 };
-
-pub const NOT_HELD: u32 = 8;
-
-const LARGEST_GRID_SIDE: u32 = 1_024;
 
 /// Frame sides, upsampling, LF level and group size shift.
 #[derive(Debug, Clone, Copy)]
@@ -56,7 +55,7 @@ impl Handed<'_> {
     /// The table has an entry for each of the frame's groups, so that its entries can be judged.
     pub fn table_fits(&self) -> bool {
         let groups = self.frame.groups();
-        groups.is_ok_and(|[.., all]| self.table.len() as i128 == 3 * all)
+        groups.is_ok_and(|[.., all]| self.table.len() as i128 == limits::TABLE_ENTRY * all)
     }
 }
 
@@ -79,13 +78,15 @@ pub fn number(handed: Handed) -> u32 {
             entries.contains(&WRONG_LENGTH)
         }),
         (
-            NOT_HELD,
+            BLOCK_NOT_HELD,
             on == Ok(true) && region_fits && table_fits,
             &|| !all_held(handed),
         ),
-        (SETTING, true, &|| on.is_err()),
-        (SETTING, true, &|| groups == Err(SETTING)),
-        (SETTING, table_fits, &|| entries.contains(&SETTING)),
+        (OUT_OF_RANGE, true, &|| on.is_err()),
+        (OUT_OF_RANGE, true, &|| groups == Err(OUT_OF_RANGE)),
+        (OUT_OF_RANGE, table_fits, &|| {
+            entries.contains(&OUT_OF_RANGE)
+        }),
     ])
 }
 
@@ -103,18 +104,18 @@ fn due_sigmas(handed: Handed, on: bool) -> i128 {
 pub fn of_entries(handed: Handed) -> Vec<u32> {
     let mut numbers = Vec::new();
     let mut cells = Some(0);
-    for entry in handed.table.chunks_exact(3) {
+    for entry in handed.table.chunks_exact(TABLE_ENTRY) {
         match entry[0] {
             0 => {}
             1 => {
-                let side = |length: u32| (1..=LARGEST_GRID_SIDE).contains(&length);
+                let side = |length: u32| (1..=MAX_GRID_SIDE).contains(&length);
                 if !side(entry[1]) || !side(entry[2]) {
                     numbers.push(OUT_OF_MEASURE);
                 }
                 cells = cells.map(|n| n + u128::from(entry[1]) * u128::from(entry[2]));
             }
             _ => {
-                numbers.push(SETTING);
+                numbers.push(OUT_OF_RANGE);
                 cells = None;
             }
         }
@@ -146,7 +147,7 @@ pub fn all_held(handed: Handed) -> bool {
                 return false;
             }
             let group = (group_row * across + group_column) as usize;
-            let entry = &handed.table[3 * group..][..3];
+            let entry = &handed.table[TABLE_ENTRY * group..][..TABLE_ENTRY];
             entry[0] != 1 || column < entry[1].into() && row < entry[2].into()
         })
     })
@@ -157,14 +158,14 @@ pub fn sigmas(handed: Handed, grids: &[f32], modular: f32) -> Vec<f32> {
     let [across, ..] = handed.frame.groups().expect("judged before");
     let cells = |entry: &[u32]| (entry[0] * entry[1] * entry[2]) as usize;
     let start = |group: usize| -> usize {
-        let before = &handed.table[..3 * group];
+        let before = &handed.table[..TABLE_ENTRY * group];
         before
-            .chunks_exact(3)
+            .chunks_exact(TABLE_ENTRY)
             .filter(|e| e[0] == 1)
             .map(cells)
             .sum()
     };
-    let starts: Vec<usize> = (0..handed.table.len() / 3).map(start).collect();
+    let starts: Vec<usize> = (0..handed.table.len() / TABLE_ENTRY).map(start).collect();
     let (columns, rows) = touched(handed.filter);
     let mut above = vec![modular; columns.clone().count()];
     let mut sigmas = Vec::new();
@@ -173,7 +174,7 @@ pub fn sigmas(handed: Handed, grids: &[f32], modular: f32) -> Vec<f32> {
         for (bx, sigma) in columns.clone().zip(&mut above) {
             let [group_column, column] = handed.frame.split(bx);
             let group = (group_row * across + group_column) as usize;
-            let entry = &handed.table[3 * group..][..3];
+            let entry = &handed.table[TABLE_ENTRY * group..][..TABLE_ENTRY];
             if entry[0] == 1 {
                 *sigma = grids[starts[group] + row as usize * entry[1] as usize + column as usize];
             }

@@ -1,6 +1,6 @@
 //! A frame with groups and grids of its own that give a part of a filter region the same sigmas.
 
-use restoration::{Region, Settings};
+use restoration::{BLOCK, GROUP_DIM, MAX_SIDE, Region, Settings};
 
 use crate::{
     picture::agree,
@@ -8,9 +8,6 @@ use crate::{
     runs::Handed,
     sigma::{self, needed, sigma},
 };
-
-/// The largest side of a frame.
-const LARGEST_SIDE: u32 = 16_384;
 
 pub struct Groups {
     pub frame: oracle::Frame,
@@ -32,10 +29,13 @@ impl Sigmas {
     fn of(larger: &Handed, filter: Region) -> Self {
         let whole = larger.setup.filter;
         let all = larger.due_sigmas();
-        let stride = whole.width.div_ceil(8);
-        let (left, top) = (filter.left as u32 / 8, filter.top as u32 / 8);
-        let (across, down) = (filter.width.div_ceil(8), filter.height.div_ceil(8));
-        let (right, below) = (left - whole.left as u32 / 8, top - whole.top as u32 / 8);
+        let stride = whole.width.div_ceil(BLOCK);
+        let (left, top) = (filter.left as u32 / BLOCK, filter.top as u32 / BLOCK);
+        let (across, down) = (filter.width.div_ceil(BLOCK), filter.height.div_ceil(BLOCK));
+        let (right, below) = (
+            left - whole.left as u32 / BLOCK,
+            top - whole.top as u32 / BLOCK,
+        );
         let cells = (0..across * down)
             .map(|n| (below + n / across) * stride + right + n % across)
             .map(|at| all[at as usize])
@@ -113,8 +113,8 @@ fn counts(due: &Sigmas, random: &mut Random) -> (u32, (u32, u32)) {
     // Larger groups have larger grids.
     let shift = random.one_of(&[0, 0, 0, 0, 0, 0, 0, 0, 0, 0, 0, 0, 1, 1, 1, 2]);
     let mut count = |first: u32, blocks: u32| {
-        let needed = (first + blocks).div_ceil(128 << shift);
-        let most = LARGEST_SIDE.div_ceil(1_024 << shift);
+        let needed = (first + blocks).div_ceil(GROUP_DIM << shift);
+        let most = MAX_SIDE.div_ceil((BLOCK * GROUP_DIM) << shift);
         (needed + random.within(0, 1) as u32).min(most)
     };
     let counts = (count(due.left, due.across), count(due.top, due.down));
@@ -125,15 +125,15 @@ impl Groups {
     /// The next group's entry: missing where its blocks may repeat those above, else a grid that
     /// has them.
     fn add(&mut self, due: &Sigmas, group: (u32, u32), modular: f32, random: &mut Random) {
-        let dim = 128 << self.frame.group_size_shift;
+        let dim = GROUP_DIM << self.frame.group_size_shift;
         let blocks = due.within(group, dim);
         if due.carried(&blocks, modular) && random.once_in(2) {
             self.table
                 .extend([0, random.next() as u32, random.next() as u32]);
             return;
         }
-        let width = needed(group.0, dim, due.left, 8 * due.across);
-        let height = needed(group.1, dim, due.top, 8 * due.down);
+        let width = needed(group.0, dim, due.left, BLOCK * due.across);
+        let height = needed(group.1, dim, due.top, BLOCK * due.down);
         let mut side = |need: u32| dim.min(need + random.within(0, 3) as u32).max(1);
         let (width, height) = (side(width), side(height));
         self.table.extend([1, width, height]);

@@ -1,35 +1,38 @@
 //! What is lent, with one to four things wrong: every field of a setup and a record, the frame, its
 //! table and grids, and lengths.
 
-use restoration::{Region, Run, Settings, Setup};
+use restoration::{
+    BLOCK, CHANNELS, MAX_AREA, MAX_BANDS, MAX_OFFSET, MAX_SIDE, Region, Run, Settings, Setup,
+    TABLE_ENTRY,
+};
 
 use super::handed::{Handed, State, setup_rule};
 use crate::{
     picture::{any_len, special},
     random::Random,
-    sigma,
+    sigma::{self, SIDES},
 };
 
-/// Sides and corners at their limits, and sides whose area is.
-const SIDES: [u32; 6] = [0, 1, 8, 16_384, 16_385, u32::MAX];
+/// Corners at their limits, and sides whose area is.
 const CORNERS: [i32; 8] = [
     i32::MIN,
-    -1_048_577,
-    -1_048_576,
-    -8,
-    8,
-    1_048_576,
-    1_048_577,
+    -MAX_OFFSET - 1,
+    -MAX_OFFSET,
+    -(BLOCK as i32),
+    BLOCK as i32,
+    MAX_OFFSET,
+    MAX_OFFSET + 1,
     i32::MAX,
 ];
 const AREAS: [(u32, u32); 6] = [
-    (16_384, 1_024),
-    (16_384, 1_025),
-    (4_096, 4_096),
-    (4_097, 4_096),
-    (16_384, 16_384),
+    (MAX_SIDE, MAX_AREA / MAX_SIDE),
+    (MAX_SIDE, MAX_AREA / MAX_SIDE + 1),
+    (MAX_AREA.isqrt(), MAX_AREA.isqrt()),
+    (MAX_AREA.isqrt() + 1, MAX_AREA.isqrt()),
+    (MAX_SIDE, MAX_SIDE),
     (u32::MAX, u32::MAX),
 ];
+const BAND_HEIGHTS: [u32; 7] = [0, 1, 2, BLOCK, MAX_SIDE, MAX_SIDE + 1, u32::MAX];
 /// Flags, in a number and in a byte: mostly 0 or 1.
 const FLAGS: [u32; 8] = [0, 1, 0, 1, 2, 255, 256, u32::MAX];
 const BYTES: [u8; 7] = [0, 1, 0, 1, 2, 128, 255];
@@ -84,7 +87,7 @@ fn setup(s: &mut Setup, random: &mut Random) {
         2 | 3 => region(filter, random),
         4 => *preserve_outside = random.one_of(&FLAGS),
         5 | 6 => passes(settings, random),
-        7 | 8 => *band_height = random.one_of(&[0, 1, 2, 8, 16_384, 16_385, u32::MAX]),
+        7 | 8 => *band_height = random.one_of(&BAND_HEIGHTS),
         _ => floats(settings, random),
     }
 }
@@ -115,8 +118,9 @@ fn region(r: &mut Region, random: &mut Random) {
 
 /// No number depends on a float.
 fn floats(settings: &mut Settings, random: &mut Random) {
-    settings.gabor.weights[random.within(0, 2) as usize][0] = special(random);
-    settings.epf.channel_scale[random.within(0, 2) as usize] = special(random);
+    let channel = |random: &mut Random| random.within(0, CHANNELS as i128 - 1) as usize;
+    settings.gabor.weights[channel(random)][0] = special(random);
+    settings.epf.channel_scale[channel(random)] = special(random);
     settings.epf.sigma.border_sad_mul = special(random);
     settings.epf.sigma_for_modular = special(random);
 }
@@ -138,7 +142,7 @@ fn move_both(s: &mut Setup, random: &mut Random) {
 /// A present grid loses a column or a row, and the grids slice its cells.
 fn narrow(h: &mut Handed, random: &mut Random) {
     let present = |entry: &&mut [u32]| entry[0] == 1 && entry[1].min(entry[2]) > 1;
-    let entries = h.table.chunks_exact_mut(3);
+    let entries = h.table.chunks_exact_mut(TABLE_ENTRY);
     let mut grids: Vec<&mut [u32]> = entries.filter(present).collect();
     // The largest is one that blocks are in.
     grids.sort_by_key(|entry| core::cmp::Reverse(u64::from(entry[1]) * u64::from(entry[2])));
@@ -156,13 +160,13 @@ fn progress(run: &mut Run, random: &mut Random) {
     let Run { setup, pass, done } = run;
     match random.within(0, 5) {
         0 | 1 => *pass = random.one_of(&[0, 1, 2, 3, 4, 5, u32::MAX]),
-        2 => done[random.within(0, 255) as usize] = random.one_of(&BYTES),
-        3 => *done = [random.one_of(&BYTES); 256],
+        2 => done[random.within(0, MAX_BANDS as i128 - 1) as usize] = random.one_of(&BYTES),
+        3 => *done = [random.one_of(&BYTES); MAX_BANDS],
         4 => {
             // All bands of the pass, or one too many.
             let s = setup_rule(setup);
             let bands = if s.band_height > 0 { s.bands() } else { 0 };
-            let bands = bands.min(255) as usize + usize::from(random.once_in(2));
+            let bands = bands.min(MAX_BANDS as i128 - 1) as usize + usize::from(random.once_in(2));
             *done = core::array::from_fn(|k| u8::from(k < bands));
         }
         _ => {

@@ -1,6 +1,9 @@
 //! Random pictures that start accepts.
 
-use restoration::{Blocks, GaborSettings, Region, Settings, Setup};
+use restoration::{
+    BLOCK, Blocks, GROUP_DIM, GaborSettings, MAX_BANDS, MAX_ITERS, MAX_OFFSET, MAX_SIDE, Region,
+    Settings, Setup,
+};
 
 use super::handed::{Handed, setup_rule};
 use crate::{
@@ -11,12 +14,19 @@ use crate::{
     sigma,
 };
 
-const FARTHEST: i32 = 1_048_576;
-/// A run has at most so many bands.
-const MOST_BANDS: u32 = 256;
-
-/// Places at which groups of 1,024 to 8,192 samples meet.
-const MEETINGS: [i32; 8] = [-8_192, -1_024, 0, 1_024, 2_048, 8_192, 16_384, 1_040_384];
+/// Samples along a side of the smallest group, and places at which groups of this and up to eight times
+/// this size meet.
+const GROUP: i32 = (BLOCK * GROUP_DIM) as i32;
+const MEETINGS: [i32; 8] = [
+    -8 * GROUP,
+    -GROUP,
+    0,
+    GROUP,
+    2 * GROUP,
+    8 * GROUP,
+    16 * GROUP,
+    1_016 * GROUP,
+];
 
 /// Which passes run: the Gabor-like one or not, and iterations of the edge filter.
 #[derive(Debug, Clone, Copy)]
@@ -28,7 +38,7 @@ pub struct Passes {
 pub fn passes(random: &mut Random) -> Passes {
     Passes {
         gabor: random.once_in(2),
-        iterations: random.within(0, 3) as u32,
+        iterations: random.within(0, MAX_ITERS.into()) as u32,
     }
 }
 
@@ -115,9 +125,9 @@ fn on_blocks(width: u32, height: u32, random: &mut Random) -> sigma::Case {
     let shift = sigma::seldom_large(random.within(0, 49) as u64);
     let mut groups = || random.within(1, sigma::GROUPS[shift as usize].into()) as u32;
     let groups = (groups(), groups());
-    let dim = 128 << shift;
+    let dim = GROUP_DIM << shift;
     let mut first = |side: u32, groups: u32| {
-        let count = side.div_ceil(8);
+        let count = side.div_ceil(BLOCK);
         let meeting = dim * random.within(0, groups.into()) as u32;
         let before = random.within(0, count.into()) as u32;
         meeting.saturating_sub(before).min(groups * dim - count)
@@ -138,8 +148,8 @@ fn anywhere(width: u32, height: u32, random: &mut Random) -> Region {
     let mut corner = || match random.within(0, 7) {
         0..=2 => random.within(-40, 40) as i32,
         3 | 4 => random.one_of(&MEETINGS) - random.within(0, 40) as i32,
-        5 => random.one_of(&[-FARTHEST, FARTHEST]),
-        _ => random.within((-FARTHEST).into(), FARTHEST.into()) as i32,
+        5 => random.one_of(&[-MAX_OFFSET, MAX_OFFSET]),
+        _ => random.within((-MAX_OFFSET).into(), MAX_OFFSET.into()) as i32,
     };
     Region {
         left: corner(),
@@ -157,7 +167,7 @@ pub fn around(filter: Region, most: u32, random: &mut Random) -> Region {
     let mut wider = |corner: i32, side: u32| {
         let room = most - side;
         let before = random.within(0, room.into()) as u32;
-        let before = before.min(corner.abs_diff(-FARTHEST));
+        let before = before.min(corner.abs_diff(-MAX_OFFSET));
         let after = random.within(0, (room - before).into()) as u32;
         (corner - before as i32, side + before + after)
     };
@@ -173,9 +183,9 @@ pub fn around(filter: Region, most: u32, random: &mut Random) -> Region {
 
 /// Any height that makes at most 256 bands, mostly less than the rows.
 pub fn band_height(rows: u32, random: &mut Random) -> u32 {
-    let least = rows.div_ceil(MOST_BANDS);
+    let least = rows.div_ceil(MAX_BANDS as u32);
     let most = match random.within(0, 7) {
-        0 => 16_384,
+        0 => MAX_SIDE,
         1 => 4,
         _ => rows + 1,
     };

@@ -1,6 +1,6 @@
 //! Document 01's instances of runs.
 
-use restoration::Setup;
+use restoration::{CHANNELS, MAX_GROUP_SIZE_SHIFT, MAX_ITERS, Setup};
 
 use super::{
     calls::{self, Tally},
@@ -21,12 +21,12 @@ pub fn compare(report: &mut Report) {
     let mut tally = Tally::new("named");
     let mut row = Row::new("runs", "instances");
     for gabor in [false, true] {
-        for iterations in 0..=3 {
+        for iterations in 0..=MAX_ITERS {
             let passes = Passes { gabor, iterations };
             two_bands(passes, &mut random, &mut row, &mut tally);
         }
     }
-    for shift in 0..4 {
+    for shift in 0..=MAX_GROUP_SIZE_SHIFT {
         for case in sigma::carried(shift, &mut random) {
             carry(case, &mut row, &mut tally);
         }
@@ -53,7 +53,7 @@ fn two_bands(passes: Passes, random: &mut Random, row: &mut Row, tally: &mut Tal
     let (number, run) = calls::start(&mut handed, tally);
     expect("start", number, 0, row);
     let mut state = State::new(run, &handed);
-    let mut out = samples(3 * 16 * 16, random);
+    let mut out = samples(CHANNELS * 16 * 16, random);
     let count = u32::from(passes.gabor) + passes.iterations;
     for _ in 0..count {
         let number = calls::band(&mut state, 0, tally);
@@ -105,7 +105,7 @@ fn one_iteration(case: sigma::Case) -> Handed {
         iterations: 1,
     });
     settings.epf.sigma_for_modular = case.modular;
-    let samples = (3 * filter.width * filter.height) as usize;
+    let samples = CHANNELS * (filter.width * filter.height) as usize;
     Handed {
         setup: Setup {
             settings,

@@ -1,7 +1,10 @@
 //! Named refusals: which number is given where several things are wrong, and which conditions a
 //! faulty setting hides.
 
-use restoration::{Region, Setup};
+use restoration::{
+    BLOCK, CHANNELS, GROUP_DIM, MAX_BANDS, MAX_GRID_SIDE, MAX_ITERS, MAX_OFFSET, MAX_SIDE, Region,
+    Setup, TABLE_ENTRY,
+};
 
 use super::{
     calls::{self, Tally},
@@ -21,11 +24,11 @@ const REGION: Region = Region {
 };
 const ALL: Passes = Passes {
     gabor: true,
-    iterations: 3,
+    iterations: MAX_ITERS,
 };
 /// A left that no frame reaches.
-const PAST_FRAMES: i32 = 16_384;
-const SAMPLES: usize = 3 * 16 * 16;
+const PAST_FRAMES: i32 = MAX_SIDE as i32;
+const SAMPLES: usize = CHANNELS * 16 * 16;
 const BLOCKS: usize = 4;
 
 /// What is wrong, what is due, and how it comes about.
@@ -39,16 +42,16 @@ const STARTS: &[Wrong<Handed, u32>] = &[
         h.setup.filter = Region {
             left: 4_000,
             top: 0,
-            width: 16_384,
-            height: 16_384,
+            width: MAX_SIDE,
+            height: MAX_SIDE,
         }
     }),
     ("an image side of 16,385, a short set", 4, |h| {
-        h.setup.image.height = 16_385;
+        h.setup.image.height = MAX_SIDE + 1;
         h.first.pop();
     }),
     ("a filter region beside the image", 5, |h| {
-        h.setup.filter.left += 8
+        h.setup.filter.left += BLOCK as i32
     }),
     ("regions off their blocks, a short set", 6, |h| {
         off_blocks(&mut h.setup);
@@ -73,7 +76,7 @@ const STARTS: &[Wrong<Handed, u32>] = &[
         h.setup.band_height = 0;
     }),
     ("a sigma too many", 7, |h| h.sigmas.push(0.0)),
-    ("a table of one entry", 7, |h| h.table.truncate(3)),
+    ("a table of one entry", 7, |h| h.table.truncate(TABLE_ENTRY)),
     ("a cell too few", 7, |h| {
         h.grids.pop();
     }),
@@ -88,27 +91,27 @@ const STARTS: &[Wrong<Handed, u32>] = &[
     }),
     ("LF level 5, presence 2, grid side 1,025", 9, |h| {
         h.frame.lf_level = 5;
-        h.table = vec![2, 1, 1, 1, 1_025, 1];
+        h.table = vec![2, 1, 1, 1, MAX_GRID_SIDE + 1, 1];
     }),
     ("a frame side of 0, no table", 4, |h| {
         h.frame.height = 0;
         h.table.clear();
     }),
     ("presence 2 with sides of 0, no grids", 9, |h| {
-        h.table[..3].copy_from_slice(&[2, 0, 0]);
+        h.table[..TABLE_ENTRY].copy_from_slice(&[2, 0, 0]);
         h.grids.clear();
     }),
     ("presence 2, the other grid's side 1,025", 4, |h| {
-        h.table = vec![2, 1, 1, 1, 1_025, 2]
+        h.table = vec![2, 1, 1, 1, MAX_GRID_SIDE + 1, 2]
     }),
     ("presence 2, the other grid too narrow", 8, |h| {
         h.table = vec![2, 1, 1, 1, 1, 1]
     }),
     ("a grid too narrow", 8, narrow),
     ("a group past the frame, band height 0", 8, |h| {
-        h.frame.width = 1_024;
-        h.table.truncate(3);
-        h.grids.truncate(256);
+        h.frame.width = BLOCK * GROUP_DIM;
+        h.table.truncate(TABLE_ENTRY);
+        h.grids.truncate(2 * GROUP_DIM as usize);
         h.setup.band_height = 0;
     }),
     ("a flag of 2 for the result", 9, |h| {
@@ -124,13 +127,15 @@ const STARTS: &[Wrong<Handed, u32>] = &[
     }),
     ("a filter region at left 16,384, the widest frame", 8, |h| {
         moved(&mut h.setup, PAST_FRAMES - REGION.left);
-        h.frame.width = 16_384;
-        h.table = vec![0; 3 * 16];
+        h.frame.width = MAX_SIDE;
+        h.table = vec![0; TABLE_ENTRY * 16];
         h.grids.clear();
     }),
-    ("band height 16,385", 9, |h| h.setup.band_height = 16_385),
-    ("256 bands", 0, |h| rows(h, 256)),
-    ("257 bands", 9, |h| rows(h, 257)),
+    ("band height 16,385", 9, |h| {
+        h.setup.band_height = MAX_SIDE + 1
+    }),
+    ("256 bands", 0, |h| rows(h, MAX_BANDS as u32)),
+    ("257 bands", 9, |h| rows(h, MAX_BANDS as u32 + 1)),
     ("edge filter off, off blocks, a narrow grid", 0, |h| {
         edge_off(h);
         moved(&mut h.setup, -1_019);
@@ -149,7 +154,7 @@ const STARTS: &[Wrong<Handed, u32>] = &[
     }),
     ("edge filter off, grid side 1,025", 4, |h| {
         edge_off(h);
-        h.table[4] = 1_025;
+        h.table[4] = MAX_GRID_SIDE + 1;
     }),
 ];
 
@@ -184,7 +189,9 @@ const RECORDS: &[Wrong<State, [u32; 3]>] = &[
     ("a Gabor flag of 2", [9, 9, 9], |t| {
         t.run.setup.settings.gabor.enabled = 2
     }),
-    ("the last flag", [9, 9, 9], |t| t.run.done[255] = 1),
+    ("the last flag", [9, 9, 9], |t| {
+        t.run.done[MAX_BANDS - 1] = 1
+    }),
     ("a pass past the last", [9, 9, 9], |t| t.run.pass = 5),
     ("finished", [10, 11, 0], |t| t.run.pass = 4),
     ("finished with a done band", [9, 9, 9], |t| {
@@ -197,7 +204,7 @@ const RECORDS: &[Wrong<State, [u32; 3]>] = &[
         t.first.pop();
     }),
     ("an image region too far, a short set", [7, 9, 7], |t| {
-        t.run.setup.image.left = 1_048_577;
+        t.run.setup.image.left = MAX_OFFSET + 1;
         t.first.pop();
     }),
     // Start gives 8 for every frame; a record is not judged by it.
@@ -217,8 +224,8 @@ const RECORDS: &[Wrong<State, [u32; 3]>] = &[
         t.run.setup.settings.epf.iters = 0;
     }),
     ("a huge filter region, full planes", [9, 9, 9], |t| {
-        t.run.setup.filter.width = 16_384;
-        t.run.setup.filter.height = 16_384;
+        t.run.setup.filter.width = MAX_SIDE;
+        t.run.setup.filter.height = MAX_SIDE;
         t.run.setup.preserve_outside = 1;
     }),
     ("off blocks, a sigma too few", [7, 9, 9], |t| {
@@ -277,8 +284,8 @@ fn sound() -> Handed {
             lf_level: 0,
             group_size_shift: 0,
         },
-        table: vec![1, 128, 2, 1, 1, 2],
-        grids: vec![1.0; 256 + 2],
+        table: vec![1, GROUP_DIM, 2, 1, 1, 2],
+        grids: vec![1.0; 2 * (GROUP_DIM as usize + 1)],
         first: vec![0.5; SAMPLES],
         second: vec![0.25; SAMPLES],
         sigmas: vec![0.0; BLOCKS],
@@ -297,7 +304,7 @@ fn off_blocks(setup: &mut Setup) {
 /// The first grid has one row of the two that are needed.
 fn narrow(h: &mut Handed) {
     h.table[2] = 1;
-    h.grids.truncate(128 + 2);
+    h.grids.truncate(GROUP_DIM as usize + 2);
 }
 
 fn edge_off(h: &mut Handed) {
@@ -310,10 +317,10 @@ fn rows(h: &mut Handed, rows: u32) {
     h.setup.image.height = rows;
     h.setup.filter.height = rows;
     h.setup.band_height = 1;
-    let blocks = rows.div_ceil(8);
-    h.table = vec![1, 128, blocks, 1, 1, blocks];
-    h.grids.resize(129 * blocks as usize, 1.0);
-    let samples = 3 * 16 * rows as usize;
+    let blocks = rows.div_ceil(BLOCK);
+    h.table = vec![1, GROUP_DIM, blocks, 1, 1, blocks];
+    h.grids.resize(((GROUP_DIM + 1) * blocks) as usize, 1.0);
+    let samples = CHANNELS * 16 * rows as usize;
     h.first.resize(samples, 0.5);
     h.second.resize(samples, 0.25);
     h.sigmas.resize(2 * blocks as usize, 0.0);
