@@ -2,8 +2,8 @@
 
 use crate::boundary::{answers, defaults, entries};
 
-/// What a frame header says that its groups depend on. Its default has a header's default fields, and
-/// no sides yet.
+/// The frame header fields that groups depend on. The default has the header's default values and no
+/// width and height yet.
 #[repr(C)]
 #[derive(Debug, Clone, Copy, PartialEq, Eq)]
 pub struct Frame {
@@ -23,7 +23,7 @@ impl Frame {
         group_size_shift: 1,
     };
 
-    /// A frame of this width and height, its other fields by default.
+    /// A frame of this width and height; all other fields have their defaults.
     ///
     /// ```
     /// # use restoration::{Frame, group_sizes};
@@ -82,12 +82,12 @@ entries! {
     /// ```
     group_sizes = restoration_group_sizes(f: Frame) -> FrameAnswer;
 
-    /// The group of a block's column or row, and the cell in it.
+    /// The group of a block column or row, and the block's index inside that group.
     split_block = restoration_split_block(block: u32, group_size_shift: u32) -> SplitAnswer;
 
-    /// Fills in one sigma per block where the edge filter is on (1); there are none where it is off
-    /// (0). The table has three numbers a group: whether it has a grid, the grid's width and its
-    /// height; the grids lie one after another.
+    /// Fills in one sigma per block if the edge filter is on (1); if it is off (0) there are none. The
+    /// table has [`crate::TABLE_ENTRY`] numbers per group: whether it has a grid, the grid's width and
+    /// its height. `grids` has the cells of all grids, one grid after another.
     ///
     /// ```
     /// // Document 01, "Instances": group row 0 has grids, row 1 none: block row 128 repeats row 127.

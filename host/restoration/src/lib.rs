@@ -1,8 +1,8 @@
 //! Safe functions over the proved library, `librestoration.a` (crates `export_*`).
 //!
-//! Each entry point takes and answers what the library's does. The library refuses what it does
-//! not take, so nothing is tested here; `value` of an answer is what was asked for or the
-//! [`Refusal`]. [`Smoothing`] is a run with everything that it needs:
+//! Each function has the parameters and the answer of an entry point. The library checks its inputs
+//! itself and answers a number for what it refuses, so nothing is checked here; `value` turns an
+//! answer into a `Result`, whose error is a [`Refusal`]. [`Smoothing`] is a run with its buffers:
 //!
 //! ```
 //! use restoration::{Frame, GaborSettings, Region, Settings, Setup, Smoothing};

@@ -21,7 +21,7 @@ pub const TABLE_ENTRY: usize = 3;
 pub const MAX_SIDE: u32 = 16_384;
 /// Largest area of an image region or a filter region, in samples.
 pub const MAX_AREA: u32 = 16_777_216;
-/// Largest distance from 0, either way: of a region's left and top, and of an offset to mirror.
+/// Largest absolute value of a region's left and top, and of an offset to mirror.
 pub const MAX_OFFSET: i32 = 1_048_576;
 /// Largest factor of [`crate::region_downsample`].
 pub const MAX_DOWNSAMPLE: u32 = 16;
@@ -33,7 +33,7 @@ pub const MAX_GROUP_SIZE_SHIFT: u32 = 3;
 pub const MAX_GRID_SIDE: u32 = 1_024;
 /// Longest slice that a header is read from, in bytes.
 pub const MAX_HEADER_BYTES: usize = 65_536;
-/// Iterations of the edge-preserving filter.
+/// Most iterations of the edge-preserving filter.
 pub const MAX_ITERS: u32 = 3;
-/// Bands of a run.
+/// Most bands of a run.
 pub const MAX_BANDS: usize = 256;

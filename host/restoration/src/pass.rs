@@ -1,5 +1,5 @@
-//! One pass over some rows of its result, which is the full planes (`preserve_outside` 1) or the filter
-//! region alone (0).
+//! One pass over some rows of its result: the whole image region if `preserve_outside` is 1, the filter
+//! region alone if it is 0.
 
 use crate::{
     EpfSettings, EpfSigma, GaborSettings, Region,
@@ -33,7 +33,7 @@ answers! {
 }
 
 entries! {
-    /// The place that a filter reads for an offset beyond an edge.
+    /// The index that a filter reads for an offset beyond an edge.
     ///
     /// ```
     /// // Document 01, "Instances".
@@ -63,7 +63,7 @@ entries! {
         from: u32, to: u32, src: &[f32], dst: &mut [f32]
     ) -> u32;
 
-    /// An edge-preserving step.
+    /// One step of the edge-preserving filter, with one sigma per block of the filter region.
     ///
     /// ```
     /// // Document 01, "Instances": step 2 copies where the block's sigma is 0.25, not where it is 1.5.

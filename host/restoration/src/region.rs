@@ -4,7 +4,7 @@ use crate::boundary::{answers, entries};
 
 /// ```
 /// # use restoration::*;
-/// // A rectangle of a picture, widened by 7 samples and clipped; and moved out of the picture.
+/// // A rectangle of a picture, widened by 7 samples and clipped, then moved out of the picture.
 /// let picture = Region::with_size(100, 80);
 /// let rectangle = Region { left: 3, top: 20, width: 10, height: 10 };
 /// let widened = region_pad(rectangle, 7).value()?;
@@ -52,7 +52,7 @@ entries! {
     region_intersection = restoration_region_intersection(a: Region, b: Region) -> RegionAnswer;
     region_pad = restoration_region_pad(r: Region, size: u32) -> RegionAnswer;
 
-    /// Sides and corners divided by 2 to the power of the factor, outward.
+    /// All edges divided by 2 to the power of `factor`, rounded outward.
     ///
     /// ```
     /// // Document 01, "Instances": left -3, width 5.

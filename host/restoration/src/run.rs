@@ -8,8 +8,8 @@ use crate::{
     boundary::{answers, defaults, entries},
 };
 
-/// The edge filter is on where there are iterations. By default there are two, with a header's default
-/// floats.
+/// Settings of the edge-preserving filter, which is on if `iters` is not 0. The default is that of a
+/// header: two iterations.
 #[repr(C)]
 #[derive(Debug, Clone, Copy, PartialEq)]
 pub struct EpfSettings {
@@ -40,8 +40,8 @@ impl From<EdgePreservingFilter> for EpfSettings {
     }
 }
 
-/// The Gabor-like filter's settings, with a flag: 0 is off, 1 is on, and another number is 9. By
-/// default it is on, with a header's default weights.
+/// Settings of the Gabor-like filter. `enabled` is a flag: 0 is off, 1 is on, any other value is
+/// refused with 9. The default is that of a header: on, with its default weights.
 #[repr(C)]
 #[derive(Debug, Clone, Copy, PartialEq)]
 pub struct GaborSettings {
@@ -55,8 +55,8 @@ impl GaborSettings {
         weights: [[0.115_169_525, 0.061_248_592]; CHANNELS],
     };
 
-    /// The filter on, with these weights: for each channel that of the four nearest neighbours and that
-    /// of the four diagonal ones.
+    /// The filter on with these weights: for each channel the weight of the four nearest neighbours and
+    /// that of the four diagonal ones.
     pub const fn with_weights(weights: [[f32; 2]; CHANNELS]) -> Self {
         Self {
             weights,
@@ -74,12 +74,12 @@ impl From<Gabor> for GaborSettings {
     }
 }
 
-/// Which filters run, and how. The default is that of ISO/IEC 18181-1 for a frame whose header gives no
-/// filters of its own: the Gabor-like filter and two iterations of the edge-preserving one.
+/// Settings of both filters. The default is that of ISO/IEC 18181-1 for a frame header without filter
+/// settings of its own: the Gabor-like filter and two iterations of the edge-preserving filter.
 ///
 /// ```
 /// use restoration::{EpfSettings, Settings};
-/// // A header that turns the Gabor-like filter on and asks for two iterations, nothing custom.
+/// // A header with the Gabor-like filter on, two iterations and no custom values.
 /// let (filter, _) = restoration::read_filters_vardct(&[0b000_10_01], 0).value()?;
 /// assert_eq!(Settings::default(), filter.into());
 /// assert_eq!(restoration::margin(Settings::default()).value(), Ok(4));
@@ -102,7 +102,7 @@ impl Settings {
         epf: EpfSettings::DEFAULT,
     };
 
-    /// Neither filter runs; weights and floats are the default ones.
+    /// Both filters off; weights, scales and sigma settings are the default ones.
     pub const OFF: Self = Self {
         gabor: GaborSettings {
             enabled: 0,
@@ -126,13 +126,13 @@ impl From<RestorationFilter> for Settings {
     }
 }
 
-/// What start is told. By default: default settings, the filter region as the result, and bands of 64
-/// rows, of which a picture of any height has at most [`MAX_BANDS`]. The regions are empty, which start
-/// refuses, until they are set.
+/// What to filter, and how. The default has the default settings, the filter region as the result, and
+/// bands of 64 rows, with which the tallest picture has [`MAX_BANDS`]. Its regions are empty, and
+/// `start` refuses it until they are set.
 ///
 /// ```
 /// use restoration::{Frame, Region, Setup, Smoothing};
-/// // The right half of a picture, the left half kept.
+/// // Filters the right half of a picture and keeps the left half.
 /// let image = Region::with_size(32, 16);
 /// let filter = Region { left: 16, width: 16, ..image };
 /// let setup = Setup { filter, preserve_outside: 1, ..Setup::whole(image) };
@@ -148,7 +148,7 @@ impl From<RestorationFilter> for Settings {
 pub struct Setup {
     pub image: Region,
     pub filter: Region,
-    /// 1 where the result is the full planes, 0 where it is the filter region alone.
+    /// 1: the result is the whole image region. 0: it is the filter region alone.
     pub preserve_outside: u32,
     pub settings: Settings,
     pub band_height: u32,
@@ -163,7 +163,7 @@ impl Setup {
         band_height: MAX_SIDE / MAX_BANDS as u32,
     };
 
-    /// An image of which every sample is filtered, with the default settings.
+    /// All samples of an image, with the default settings.
     pub const fn whole(image: Region) -> Self {
         Self {
             image,
@@ -173,12 +173,12 @@ impl Setup {
     }
 }
 
-/// The record of a run. The default is one of which no pass and no band is done, for the default setup.
+/// The record of a run. The default is that of a run that has just started, with the default setup.
 #[repr(C)]
 #[derive(Clone, Copy, PartialEq)]
 pub struct Run {
     pub setup: Setup,
-    /// How many passes are over.
+    /// How many passes are finished.
     pub pass: u32,
     /// 1 for each band of this pass that is done.
     pub done: [u8; 256],
@@ -188,7 +188,7 @@ impl Run {
     pub const DEFAULT: Self = Self {
         setup: Setup::DEFAULT,
         pass: 0,
-        // The field's length, which tools/header reads as a number, has to be this one.
+        // This holds the length in the declaration, a number for tools/header, to the constant.
         done: [0; MAX_BANDS],
     };
 }
@@ -213,23 +213,24 @@ answers! {
 }
 
 entries! {
-    /// How far the passes of a run read beyond a sample; 9 where Gabor's flag or the iterations are
-    /// out of range.
+    /// How many samples the passes of a run read beyond a sample, in each direction. Refused with 9 if
+    /// the Gabor-like filter's flag or the iterations are out of range.
     ///
     /// ```
-    /// // The Gabor-like filter and three iterations with default settings, in seven bits. The margin
-    /// // is 1 + 6 (`crates/run_passes/specs/Plan.antt`).
+    /// // A header of seven bits: the Gabor-like filter and three iterations, default settings. The
+    /// // margin is 1 + 6 (`crates/run_passes/specs/Plan.antt`).
     /// let (filter, next) = restoration::read_filters_vardct(&[0b000_11_01], 0).value()?;
     /// assert_eq!((next, restoration::margin(filter.into()).value()), (7, Ok(7)));
     /// # Ok::<(), restoration::Refusal>(())
     /// ```
     margin = restoration_margin(settings: Settings) -> MarginAnswer;
 
-    /// Checks everything and fills in the block sigmas; table and grids as in [`crate::block_sigmas`].
+    /// Starts a run: checks all inputs and fills in the block sigmas. `table` and `grids` are those of
+    /// [`crate::block_sigmas`].
     ///
     /// ```
     /// # use restoration::*;
-    /// // Document 01, "Instances": weights 1/2, 1/4 on a single sample of 16; a band a row.
+    /// // Document 01, "Instances": weights 1/2, 1/4 on a single sample of 16; one band per row.
     /// let gabor = GaborSettings::with_weights([[0.5, 0.25]; 3]);
     /// let settings = Settings { gabor, ..Settings::OFF };
     /// let setup = Setup { settings, band_height: 1, ..Setup::whole(Region::with_size(3, 3)) };
@@ -250,14 +251,14 @@ entries! {
         first: &mut [f32], second: &[f32], sigmas: &mut [f32]
     ) -> RunAnswer;
 
-    /// The next pass over the rows of band `k`, from one set into the other.
+    /// Runs the next pass over the rows of band `k`, from one set of planes to the other.
     band = restoration_band(
         run: Run, sigmas: &[f32], first: &mut [f32], second: &mut [f32], k: u32
     ) -> RunAnswer;
 
-    /// Goes on to the next pass.
+    /// Goes on to the next pass when all bands of this one are done.
     advance = restoration_advance(run: Run) -> RunAnswer;
 
-    /// Copies the result of a finished run, plane after plane.
+    /// Copies the result of a finished run to `out`, one plane after another.
     result = restoration_result(run: Run, first: &[f32], second: &[f32], out: &mut [f32]) -> u32;
 }
