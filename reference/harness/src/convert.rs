@@ -1,5 +1,5 @@
-//! The same region, frame and settings for each of the three that read it: the proved library, the
-//! original and the rules, whose numbers are wide enough for anything.
+//! Conversions of regions, frames and settings between the proved library, the original and the rules,
+//! which use 128-bit numbers.
 
 use restoration::{EpfSettings, EpfSigma};
 

@@ -1,5 +1,5 @@
-//! Group sizes: inputs are the frame's sides, upsampling, LF level and group size shift. The split
-//! of a block: its column or row and the group size shift.
+//! Group sizes: inputs are the frame's width, height, upsampling, LF level and group size shift. The
+//! split of a block: its column or row and the group size shift.
 
 use crate::{
     convert,
@@ -37,7 +37,7 @@ pub const GROUP_SIZES: Subject = Subject {
         Ok(sizes) => Answer::new(0, &sizes),
         Err(number) => Answer::refused(number),
     },
-    rust: |c| {
+    original: |c| {
         let sizes = oracle::group_sizes(frame(c));
         let fields = [
             sizes.sample_width,
@@ -92,7 +92,7 @@ pub const SPLIT_BLOCK: Subject = Subject {
         Ok(parts) => Answer::new(0, &parts),
         Err(number) => Answer::refused(number),
     },
-    rust: |c| {
+    original: |c| {
         let (group, inner) = oracle::split_block(c[0] as u32, c[1] as u32);
         Answer::new(0, &[group.into(), inner.into()])
     },

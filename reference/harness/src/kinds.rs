@@ -1,21 +1,21 @@
-//! What kind of number each input is: its type's range, its measure, and where its limits lie.
+//! Kinds of inputs: the range of the type, the valid numbers, and the limits.
 
 use std::collections::BTreeSet;
 
 use crate::{expected::limits::*, random::Random};
 
 pub struct Kind {
-    /// The least and largest number of its type.
+    /// The smallest and largest number of its type.
     pub range: (i128, i128),
-    /// The numbers that are in measure.
-    pub sound: Sound,
-    /// Numbers at and around every limit but those of the type.
+    /// The numbers that are in range.
+    pub valid: Valid,
+    /// Numbers at and next to every limit except those of the type.
     pub limits: &'static [i128],
-    /// The few of them that are crossed where there are many inputs.
+    /// The few of them that are combined if there are many inputs.
     pub core: &'static [i128],
 }
 
-pub enum Sound {
+pub enum Valid {
     From(i128, i128),
     Of(&'static [i128]),
 }
@@ -24,15 +24,15 @@ pub enum Sound {
 #[derive(Clone, Copy)]
 pub enum Draw {
     Small,
-    /// In measure and at most a side away from zero, so that regions meet.
+    /// In range and within `MAX_SIDE` of zero, so that regions meet.
     Close,
-    Sound,
+    Valid,
     Limits,
     Any,
 }
 
 impl Kind {
-    /// The limits and the ends of the type, ascending.
+    /// The limits and the ends of the type, in ascending order.
     pub fn edges(&self) -> Vec<i128> {
         let (least, most) = self.range;
         let ends = [least, least + 1, most - 1, most];
@@ -44,14 +44,14 @@ impl Kind {
         let (least, most) = self.range;
         match how {
             Draw::Small => random.within(least.max(-40), most.min(40)),
-            Draw::Close => self.draw_sound(MAX_SIDE, random),
-            Draw::Sound => self.draw_sound(i128::MAX, random),
+            Draw::Close => self.draw_valid(MAX_SIDE, random),
+            Draw::Valid => self.draw_valid(i128::MAX, random),
             Draw::Limits if random.within(0, 2) == 0 => {
                 let near = self.draw_limit(random) + random.within(-2, 2);
                 near.clamp(least, most)
             }
             Draw::Any if random.within(0, 3) == 0 => random.within(least, most),
-            Draw::Limits | Draw::Any => self.draw_sound(i128::MAX, random),
+            Draw::Limits | Draw::Any => self.draw_valid(i128::MAX, random),
         }
     }
 
@@ -64,10 +64,10 @@ impl Kind {
         }
     }
 
-    fn draw_sound(&self, farthest: i128, random: &mut Random) -> i128 {
-        match self.sound {
-            Sound::From(least, most) => random.within(least.max(-farthest), most.min(farthest)),
-            Sound::Of(list) => random.one_of(list),
+    fn draw_valid(&self, farthest: i128, random: &mut Random) -> i128 {
+        match self.valid {
+            Valid::From(least, most) => random.within(least.max(-farthest), most.min(farthest)),
+            Valid::Of(list) => random.one_of(list),
         }
     }
 }
@@ -77,7 +77,7 @@ const U32: (i128, i128) = (0, u32::MAX as i128);
 const ISIZE: (i128, i128) = (isize::MIN as i128, isize::MAX as i128);
 const USIZE: (i128, i128) = (0, usize::MAX as i128);
 
-/// The chief limits of corners and of sides.
+/// The main limits of left and top, and of sides.
 const AROUND_OFFSETS: [i128; 5] = [-MAX_OFFSET - 1, -MAX_OFFSET, 0, MAX_OFFSET, MAX_OFFSET + 1];
 const AROUND_SIDES: [i128; 4] = [0, 1, MAX_SIDE, MAX_SIDE + 1];
 /// Samples along a side of a group whose group size shift is 0.
@@ -86,7 +86,7 @@ const GROUP: i128 = BLOCK * GROUP_DIM;
 /// Left or top of a region.
 pub const CORNER: Kind = Kind {
     range: I32,
-    sound: Sound::From(-MAX_OFFSET, MAX_OFFSET),
+    valid: Valid::From(-MAX_OFFSET, MAX_OFFSET),
     limits: &[
         -MAX_OFFSET - 1,
         -MAX_OFFSET,
@@ -106,7 +106,7 @@ pub const CORNER: Kind = Kind {
 /// Width or height of a region.
 pub const SIDE: Kind = Kind {
     range: U32,
-    sound: Sound::From(0, MAX_SIDE),
+    valid: Valid::From(0, MAX_SIDE),
     limits: &[
         0,
         1,
@@ -120,10 +120,10 @@ pub const SIDE: Kind = Kind {
     core: &AROUND_SIDES,
 };
 
-/// How far a region is moved.
+/// How far a region is translated.
 pub const MOVE: Kind = Kind {
     range: I32,
-    sound: Sound::From(-MAX_OFFSET, MAX_OFFSET),
+    valid: Valid::From(-MAX_OFFSET, MAX_OFFSET),
     limits: &[
         -2 * MAX_OFFSET - 1,
         -2 * MAX_OFFSET,
@@ -142,10 +142,10 @@ pub const MOVE: Kind = Kind {
     core: &[-2 * MAX_OFFSET, -MAX_OFFSET, 0, MAX_OFFSET, 2 * MAX_OFFSET],
 };
 
-/// How far a region is grown.
+/// How far a region is padded.
 pub const PADDING: Kind = Kind {
     range: U32,
-    sound: Sound::From(0, MAX_SIDE / 2),
+    valid: Valid::From(0, MAX_SIDE / 2),
     limits: &[
         0,
         1,
@@ -169,7 +169,7 @@ pub const PADDING: Kind = Kind {
 /// The shift of `downsample`.
 pub const FACTOR: Kind = Kind {
     range: U32,
-    sound: Sound::From(0, MAX_DOWNSAMPLE),
+    valid: Valid::From(0, MAX_DOWNSAMPLE),
     limits: &[
         0,
         1,
@@ -187,7 +187,7 @@ pub const FACTOR: Kind = Kind {
 /// The grid of `container_aligned`.
 pub const ALIGNMENT: Kind = Kind {
     range: U32,
-    sound: Sound::Of(&[
+    valid: Valid::Of(&[
         1, 2, 4, 8, 16, 32, 64, 128, 256, 512, 1_024, 2_048, 4_096, MAX_ALIGNMENT,
     ]),
     limits: &[
@@ -200,7 +200,7 @@ pub const ALIGNMENT: Kind = Kind {
 /// The offset that is mirrored.
 pub const OFFSET: Kind = Kind {
     range: ISIZE,
-    sound: Sound::From(-MAX_OFFSET, MAX_OFFSET),
+    valid: Valid::From(-MAX_OFFSET, MAX_OFFSET),
     limits: &[
         I32.0 - 1,
         I32.0,
@@ -233,10 +233,10 @@ pub const OFFSET: Kind = Kind {
     core: &AROUND_OFFSETS,
 };
 
-/// The length that is mirrored in.
+/// The length at whose ends offsets are mirrored.
 pub const LENGTH: Kind = Kind {
     range: USIZE,
-    sound: Sound::From(1, MAX_SIDE),
+    valid: Valid::From(1, MAX_SIDE),
     limits: &[
         0,
         1,
@@ -256,7 +256,7 @@ pub const LENGTH: Kind = Kind {
 /// A side of a frame.
 pub const FRAME_SIDE: Kind = Kind {
     range: U32,
-    sound: Sound::From(1, MAX_SIDE),
+    valid: Valid::From(1, MAX_SIDE),
     limits: &[
         0,
         1,
@@ -287,21 +287,21 @@ pub const FRAME_SIDE: Kind = Kind {
 
 pub const UPSAMPLING: Kind = Kind {
     range: U32,
-    sound: Sound::Of(&[1, 2, 4, 8]),
+    valid: Valid::Of(&[1, 2, 4, 8]),
     limits: &[0, 1, 2, 3, 4, 5, 7, 8, 9, 16],
     core: &[0, 1, 8, 16],
 };
 
 pub const LF_LEVEL: Kind = Kind {
     range: U32,
-    sound: Sound::From(0, MAX_LF_LEVEL),
+    valid: Valid::From(0, MAX_LF_LEVEL),
     limits: &[0, 1, 2, 3, MAX_LF_LEVEL, MAX_LF_LEVEL + 1, 11],
     core: &[0, MAX_LF_LEVEL, MAX_LF_LEVEL + 1],
 };
 
 pub const GROUP_SIZE_SHIFT: Kind = Kind {
     range: U32,
-    sound: Sound::From(0, MAX_GROUP_SIZE_SHIFT),
+    valid: Valid::From(0, MAX_GROUP_SIZE_SHIFT),
     limits: &[
         0,
         1,
@@ -314,10 +314,10 @@ pub const GROUP_SIZE_SHIFT: Kind = Kind {
     core: &[0, MAX_GROUP_SIZE_SHIFT, MAX_GROUP_SIZE_SHIFT + 1],
 };
 
-/// A block's column or row.
+/// A block column or row.
 pub const BLOCK_PLACE: Kind = Kind {
     range: U32,
-    sound: Sound::From(0, (MAX_OFFSET + MAX_SIDE) / BLOCK),
+    valid: Valid::From(0, (MAX_OFFSET + MAX_SIDE) / BLOCK),
     limits: &[
         0,
         1,

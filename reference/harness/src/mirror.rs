@@ -19,7 +19,7 @@ pub const MIRROR: Subject = Subject {
         Ok(place) => Answer::new(0, &[place]),
         Err(number) => Answer::refused(number),
     },
-    rust: |c| Answer::new(0, &[oracle::mirror(c[0] as isize, c[1] as usize) as i128]),
+    original: |c| Answer::new(0, &[oracle::mirror(c[0] as isize, c[1] as usize) as i128]),
     near: &[
         ("near zero", &[(-400, 400), (0, 100)]),
         (

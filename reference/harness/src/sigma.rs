@@ -1,5 +1,5 @@
-//! Block sigmas: frames of 1 to 4 groups each way with filter regions where groups meet, grids that
-//! are missing or too narrow, and refusals.
+//! Block sigmas: frames of 1 to 4 groups per row and column, filter regions where groups meet, grids
+//! that are missing or too small, and refusals.
 
 use core::{fmt, hint::black_box};
 
@@ -11,17 +11,17 @@ use restoration::{
 use crate::{
     bits, convert,
     expected::{self, sigma as rule},
-    picture::{agree, any_flag, any_len, judge, plain, special},
+    picture::{agree, any_flag, any_len, compare_answer, plain, special},
     random::Random,
     report::{Amount, Report, Row},
 };
 
-/// Filter regions where groups meet for each count of groups, before `--scale`, by group size shift.
+/// Filter regions where groups meet, for each number of groups, before `--scale`; by group size shift.
 const MEETINGS: [u64; 4] = [40, 10, 3, 2];
-/// The most groups each way by group size shift.
+/// The most groups per row and column, by group size shift.
 pub const GROUPS: [u32; 4] = [4, 4, 4, 2];
 
-/// A group size shift: larger groups have larger grids, so they are drawn less often.
+/// A group size shift. Larger groups have larger grids, so they are drawn less often.
 pub const fn seldom_large(n: u64) -> u32 {
     match n {
         0 => 3,
@@ -31,18 +31,18 @@ pub const fn seldom_large(n: u64) -> u32 {
     }
 }
 
-/// Frames with narrow grids, before `--scale`.
+/// Frames with grids that are too small, before `--scale`.
 const NARROW: u64 = 2_000;
-/// Draws of wrong inputs, before `--scale`.
+/// Draws of damaged inputs, before `--scale`.
 const DRAWS: u64 = 60_000;
-/// Cells of a grid repeat after so many, a prime that is no sum of few rows.
+/// Cells of a grid repeat after this many: a prime, so that rows and grids do not repeat with it.
 const PERIOD: usize = 8_191;
 
 const NAME: &str = "block sigmas";
-/// The numbers that block sigmas can give.
+/// The numbers that block sigmas can answer.
 const NUMBERS: [u32; 5] = [0, 4, 7, 8, 9];
 
-/// Sides of frames and filter regions, and corners in blocks, at their limits.
+/// Sides of frames and filter regions, and left and top in blocks, at their limits.
 pub const SIDES: [u32; 6] = [0, 1, BLOCK, MAX_SIDE, MAX_SIDE + 1, u32::MAX];
 const CORNERS: [u32; 5] = [
     GROUP_DIM - 1,
@@ -57,7 +57,8 @@ const GRID_SIDES: [u32; 5] = [0, 1, MAX_GRID_SIDE, MAX_GRID_SIDE + 1, u32::MAX];
 /// Samples along a side of a group whose group size shift is 0.
 const GROUP: u32 = BLOCK * GROUP_DIM;
 
-/// What is asked but the lent sigmas. The filter region's left and top are in blocks.
+/// The inputs of block sigmas, without the buffer for the sigmas. The filter region's left and top are in
+/// blocks.
 #[derive(Clone)]
 pub struct Case {
     pub frame: oracle::Frame,
@@ -86,8 +87,8 @@ impl Case {
         )
     }
 
-    fn handed(&self, on: u32, sigmas: usize) -> rule::Handed<'_> {
-        rule::Handed {
+    fn input(&self, on: u32, sigmas: usize) -> rule::Input<'_> {
+        rule::Input {
             on,
             frame: convert::wide_frame(self.frame),
             filter: expected::Region {
@@ -102,12 +103,12 @@ impl Case {
         }
     }
 
-    /// Table and grids have the bits that they had.
+    /// Table and grids have the same bits as before.
     fn is_left_as(&self, before: &Self) -> bool {
         *black_box(&self.table) == before.table && bits::same(&self.grids, &before.grids)
     }
 
-    /// The filter region of a case that is accepted.
+    /// The filter region of an accepted case.
     pub fn filter(&self) -> oracle::Region {
         oracle::Region {
             left: (BLOCK * self.blocks.left) as i32,
@@ -117,12 +118,12 @@ impl Case {
         }
     }
 
-    /// The grids of a case that is accepted.
-    pub fn rust_grids(&self) -> Vec<Option<oracle::SigmaGrid>> {
-        rust_grids(&self.table, &self.grids)
+    /// The grids of an accepted case, for the original.
+    pub fn original_grids(&self) -> Vec<Option<oracle::SigmaGrid>> {
+        original_grids(&self.table, &self.grids)
     }
 
-    /// Blocks of the filter region; one where it is larger than any.
+    /// Blocks of the filter region; 1 if the region is too large.
     pub fn count(&self) -> usize {
         let Blocks { width, height, .. } = self.blocks;
         if width.max(height) > MAX_SIDE || width * height > MAX_AREA {
@@ -132,8 +133,8 @@ impl Case {
     }
 }
 
-/// The grids of a table with its cells, as the original has them.
-pub fn rust_grids(table: &[u32], grids: &[f32]) -> Vec<Option<oracle::SigmaGrid>> {
+/// The grids of a table and its cells, for the original.
+pub fn original_grids(table: &[u32], grids: &[f32]) -> Vec<Option<oracle::SigmaGrid>> {
     let mut rest = grids;
     let mut grid = |entry: &[u32]| {
         let (width, height) = (entry[1] as usize, entry[2] as usize);
@@ -182,7 +183,7 @@ pub fn compare(amount: Amount, report: &mut Report) {
     whole_frames(&mut random, report);
     let mut row = Row::new(NAME, "refusals");
     while row.draws(DRAWS, amount) {
-        wrong(&mut random, &mut row);
+        damaged(&mut random, &mut row);
     }
     row.require(&NUMBERS, amount);
     report.add(row);
@@ -204,44 +205,44 @@ fn whole_frames(random: &mut Random, report: &mut Report) {
     report.add(row);
 }
 
-/// The number and the sigmas are the rule's, and the sigmas are the original's in all rows that it
-/// shows.
-fn check(case: &Case, on: u32, lent: usize, random: &mut Random, row: &mut Row) {
-    let mut before: Vec<f32> = (0..lent).map(|_| special(random)).collect();
+/// The number and the sigmas must be the rule's, and the sigmas also the original's, in all rows in which
+/// the original shows them.
+fn check(case: &Case, on: u32, len: usize, random: &mut Random, row: &mut Row) {
+    let mut before: Vec<f32> = (0..len).map(|_| special(random)).collect();
     bits::sprinkle(&mut before, random);
     let mut ours = before.clone();
-    let handed = case.handed(on, lent);
-    let number = rule::number(handed);
+    let input = case.input(on, len);
+    let number = rule::number(input);
     let read = (number != 0).then(|| case.clone());
     let given = case.ours(on, &mut ours);
     if number != 0 || on == 0 {
-        let due = (number, &before[..]);
-        judge(case, (0, 0), (given, &ours), due, &|_| false, row);
+        let expected = (number, &before[..]);
+        compare_answer(case, (0, 0), (given, &ours), expected, &|_| false, row);
         if read.is_some_and(|read| !case.is_left_as(&read)) {
             row.differs(case, &"a changed table or grid", &"left");
         }
         return;
     }
-    let due = rule::sigmas(handed, &case.grids, case.modular);
-    judge(case, (0, 0), (given, &ours), (0, &due), &|_| true, row);
+    let expected = rule::sigmas(input, &case.grids, case.modular);
+    compare_answer(case, (0, 0), (given, &ours), (0, &expected), &|_| true, row);
     let shown = oracle::sigma_rows(
         case.filter(),
         case.frame,
-        &case.rust_grids(),
+        &case.original_grids(),
         settings(case.modular),
     );
     assert!(case.blocks.height < 7 || !shown.is_empty());
     let across = case.blocks.width.div_ceil(BLOCK) as usize;
-    for (y, rust) in shown {
+    for (y, original) in shown {
         let at = (y / BLOCK as usize - case.blocks.top as usize) * across;
-        let same = ours[at..].iter().zip(&rust).all(|(a, b)| agree(*a, *b));
-        if !same || rust.len() != across {
-            row.differs(&(case, y), &&ours[at..at + across], &rust);
+        let same = ours[at..].iter().zip(&original).all(|(a, b)| agree(*a, *b));
+        if !same || original.len() != across {
+            row.differs(&(case, y), &&ours[at..at + across], &original);
         }
     }
 }
 
-/// Settings of one iteration; the original's sigmas depend on `sigma_for_modular` alone.
+/// Settings for one iteration; block sigmas depend on `sigma_for_modular` alone.
 fn settings(sigma_for_modular: f32) -> oracle::Edge {
     oracle::Edge {
         iters: 1,
@@ -257,7 +258,7 @@ fn settings(sigma_for_modular: f32) -> oracle::Edge {
     }
 }
 
-/// Group row 0 has grids, row 1 none, and a filter region of one block column around their meeting.
+/// Group row 0 has grids, row 1 has none; a filter region of one block column where they meet.
 pub fn carried(shift: u32, random: &mut Random) -> [Case; 4] {
     let dim = GROUP_DIM << shift;
     [(dim - 1, 16), (dim - 2, 39), (dim, 16), (dim + 1, 8)].map(|(top, height)| Case {
@@ -280,7 +281,7 @@ pub fn carried(shift: u32, random: &mut Random) -> [Case; 4] {
     })
 }
 
-/// Blocks of group row 1 repeat the last row above, where the filter region has it.
+/// Blocks of group row 1 repeat the last block row above, if that is in the filter region.
 fn carry(case: &Case, random: &mut Random, row: &mut Row) {
     check(case, 1, case.count(), random, row);
     let mut sigmas = vec![0.0; case.count()];
@@ -297,8 +298,8 @@ fn carry(case: &Case, random: &mut Random, row: &mut Row) {
     }
 }
 
-/// A frame of so many groups each way, and a filter region around a corner of one of its groups.
-/// A narrow grid lacks a column or a row of its blocks.
+/// A frame with these groups per row and column, and a filter region near a corner of one of them. A
+/// narrow grid lacks a column or a row of its blocks.
 pub fn meeting(shift: u32, groups: (u32, u32), narrow: bool, random: &mut Random) -> Case {
     let frame = frame(shift, groups, random);
     let dim = GROUP_DIM << shift;
@@ -314,8 +315,8 @@ pub fn meeting(shift: u32, groups: (u32, u32), narrow: bool, random: &mut Random
     filled(frame, blocks, groups, narrow, random)
 }
 
-/// Blocks around a place where groups of so many blocks meet, or at an end of the frame: the first
-/// and their count.
+/// Blocks near a place where groups of `dim` blocks meet, or near an end of the frame: the first block
+/// and the number of blocks.
 fn around(dim: u32, groups: u32, random: &mut Random) -> (u32, u32) {
     let place = dim * random.within(0, groups.into()) as u32;
     let first = place.saturating_sub(random.within(0, 6) as u32);
@@ -324,7 +325,7 @@ fn around(dim: u32, groups: u32, random: &mut Random) -> (u32, u32) {
     (first, random.within(1, most.into()) as u32)
 }
 
-/// A frame that has so many groups each way, with any upsampling and LF level that leave room.
+/// A frame with these groups per row and column, with any upsampling and LF level that its size allows.
 pub fn frame(shift: u32, groups: (u32, u32), random: &mut Random) -> oracle::Frame {
     let group = GROUP << shift;
     let least = |groups: u32| (groups - 1) * group + 1;
@@ -351,7 +352,7 @@ pub fn frame(shift: u32, groups: (u32, u32), random: &mut Random) -> oracle::Fra
     }
 }
 
-/// Grids for the blocks: each is missing, just large enough, a little larger, or narrow.
+/// Grids for the blocks. Each is missing, just large enough, a little larger, or narrow.
 pub fn filled(
     frame: oracle::Frame,
     blocks: Blocks,
@@ -388,7 +389,7 @@ pub fn filled(
     }
 }
 
-/// Cells of a group's grid that the blocks need along one direction.
+/// How many cells of a group's grid the blocks need on one axis.
 pub fn needed(group: u32, dim: u32, first: u32, side: u32) -> u32 {
     let past = first + side.div_ceil(BLOCK);
     let start = group * dim;
@@ -398,7 +399,7 @@ pub fn needed(group: u32, dim: u32, first: u32, side: u32) -> u32 {
     (past - start).min(dim)
 }
 
-/// A filter region that is large, from the corner of the frame on.
+/// A large filter region at the corner of the frame.
 fn whole(shift: u32, width: u32, height: u32, random: &mut Random) -> Case {
     let frame = oracle::Frame {
         width,
@@ -423,27 +424,27 @@ fn whole(shift: u32, width: u32, height: u32, random: &mut Random) -> Case {
     )
 }
 
-/// A sound case with one to three things wrong.
-fn wrong(random: &mut Random, row: &mut Row) {
+/// A valid case, damaged in one to three places.
+fn damaged(random: &mut Random, row: &mut Row) {
     let groups = (random.within(1, 2) as u32, random.within(1, 2) as u32);
     let narrow = random.once_in(4);
     let mut case = meeting(0, groups, narrow, random);
     let mut on = u32::from(!random.once_in(8));
-    let mut lent = on as usize * case.count();
+    let mut len = on as usize * case.count();
     for _ in 0..random.within(1, 3) {
         match random.within(0, 4) {
-            0 => wrong_frame(&mut case.frame, random),
+            0 => damage_frame(&mut case.frame, random),
             1 => {
-                wrong_blocks(&mut case.blocks, random);
-                lent = case.count();
+                damage_blocks(&mut case.blocks, random);
+                len = case.count();
             }
-            2 => wrong_table(&mut case.table, random),
+            2 => damage_table(&mut case.table, random),
             3 => {
-                let due = any_len(case.grids.len(), random);
-                case.grids.resize(due, 1.0);
+                let cells = any_len(case.grids.len(), random);
+                case.grids.resize(cells, 1.0);
             }
             _ => {
-                lent = any_len(lent, random);
+                len = any_len(len, random);
                 if random.once_in(4) {
                     on = any_flag(random);
                 }
@@ -451,10 +452,10 @@ fn wrong(random: &mut Random, row: &mut Row) {
         }
     }
     bits::sprinkle(&mut case.grids, random);
-    check(&case, on, lent, random, row);
+    check(&case, on, len, random, row);
 }
 
-pub fn wrong_frame(frame: &mut oracle::Frame, random: &mut Random) {
+pub fn damage_frame(frame: &mut oracle::Frame, random: &mut Random) {
     match random.within(0, 4) {
         0 => frame.width = random.one_of(&SIDES),
         1 => frame.height = random.one_of(&SIDES),
@@ -464,7 +465,7 @@ pub fn wrong_frame(frame: &mut oracle::Frame, random: &mut Random) {
     }
 }
 
-fn wrong_blocks(blocks: &mut Blocks, random: &mut Random) {
+fn damage_blocks(blocks: &mut Blocks, random: &mut Random) {
     match random.within(0, 4) {
         0 => blocks.width = random.one_of(&SIDES),
         1 => blocks.height = random.one_of(&SIDES),
@@ -474,7 +475,7 @@ fn wrong_blocks(blocks: &mut Blocks, random: &mut Random) {
     }
 }
 
-pub fn wrong_table(table: &mut Vec<u32>, random: &mut Random) {
+pub fn damage_table(table: &mut Vec<u32>, random: &mut Random) {
     let entries = (table.len() / TABLE_ENTRY) as i128;
     let entry = TABLE_ENTRY * random.within(0, entries - 1).max(0) as usize;
     if table.len() < entry + TABLE_ENTRY {
@@ -489,7 +490,7 @@ pub fn wrong_table(table: &mut Vec<u32>, random: &mut Random) {
     }
 }
 
-/// Sigmas of so many cells.
+/// Sigmas for this many cells.
 pub fn sigmas(cells: usize, random: &mut Random) -> Vec<f32> {
     let first: Vec<f32> = (0..cells.min(PERIOD)).map(|_| sigma(random)).collect();
     let mut all = Vec::with_capacity(cells);
@@ -499,7 +500,7 @@ pub fn sigmas(cells: usize, random: &mut Random) -> Vec<f32> {
     all
 }
 
-/// A sigma: plain, at the copying limit or beside it, negative, zero, infinite or NaN.
+/// A sigma: plain, at the copying limit or next to it, negative, zero, infinite or NaN.
 pub fn sigma(random: &mut Random) -> f32 {
     match random.within(0, 9) {
         0..=5 => 0.3 + 4.0 * plain(random).abs(),

@@ -1,4 +1,4 @@
-//! Each pass over all rows at once beside the original's row functions, and the whole of them.
+//! Each pass over all rows at once beside the original's row functions, and whole runs.
 
 use std::{cell::RefCell, hint::black_box};
 
@@ -15,7 +15,7 @@ use crate::{
 const SIDES: [u32; 3] = [64, 504, 2040];
 /// Other pictures of the Gabor-like pass.
 const GABOR_SIZES: [(u32, u32); 3] = [(256, 256), (1024, 1024), (7, 2040)];
-/// A sigma that copies a block.
+/// A sigma with which blocks are copied.
 const COPIED: f32 = 0.1;
 
 const COLUMNS: [&str; 5] = ["pass", "picture", "ours, ns", "Rust, ns", "ratio"];
@@ -29,11 +29,11 @@ pub fn print() {
             let times = epf(step, side, FILTERED);
             row(&format!("step {step}"), (side, side), times);
         }
-        row("whole run", (side, side), run::beside_rust(side));
+        row("whole run", (side, side), run::beside_original(side));
     }
 }
 
-/// Other pictures, copied blocks, and headers.
+/// Other sizes, copied blocks, and headers.
 pub fn print_cases() {
     head(&COLUMNS);
     for (width, height) in GABOR_SIZES {
@@ -96,7 +96,7 @@ fn epf(step: u32, side: u32, sigma: f32) -> Times {
     best(ours, theirs)
 }
 
-/// All rows of an image that is filtered whole.
+/// All rows of an image whose filter region is the whole image.
 pub fn gabor_pass(image: Region, settings: GaborSettings, source: &[f32], target: &mut [f32]) {
     let to = image.height;
     let number = restoration::gabor_pass(image, image, 1, settings, 0, to, source, target);
@@ -109,7 +109,7 @@ pub fn epf_pass(image: Region, step: EpfStep, sigmas: &[f32], source: &[f32], ta
     assert_eq!(number, 0);
 }
 
-/// Reading both bundles at the last place of a slice of 64 KiB and at the first.
+/// Reading both filters at the last bit position of a slice of 64 KiB and at the first.
 fn header() {
     const BITS: usize = 8 * MAX_HEADER_BYTES;
     const TIMES: usize = 1000;
@@ -123,7 +123,7 @@ fn header() {
     };
     let times = best(|| read(BITS - 3), || read(0));
     println!(
-        "\nA header read at the last place of 64 KiB: {:.1} ns, at the first: {:.1} ns, ratio {:.2}.",
+        "\nA header read at the last bit position of 64 KiB: {:.1} ns, at the first: {:.1} ns, ratio {:.2}.",
         times.ours / TIMES as f64,
         times.theirs / TIMES as f64,
         times.ratio()

@@ -1,4 +1,4 @@
-//! Block sigmas from a frame's grids and then the steps of 1 to 3 iterations by bands, against
+//! Block sigmas from a frame's grids and then all steps of 1 to 3 iterations, band by band, against
 //! `apply_epf`.
 
 use restoration::{BLOCK, Blocks, MAX_GROUP_SIZE_SHIFT, MAX_ITERS};
@@ -8,7 +8,7 @@ use super::{
 };
 use crate::{
     pass::Pass as _,
-    picture::{self, is_written, judge, samples},
+    picture::{self, compare_answer, is_written, samples},
     random::Random,
     report::{Amount, Report, Row},
     sigma::{self, Case},
@@ -50,7 +50,7 @@ pub fn compare(amount: Amount, report: &mut Report) {
     report.add(row);
 }
 
-/// Two samples under each named sigma, from a grid and from a missing one.
+/// Two samples with each named sigma, from a grid and from `sigma_for_modular`.
 fn named(random: &mut Random, row: &mut Row) {
     let frame = sigma::frame(0, (1, 1), random);
     let blocks = Blocks {
@@ -81,7 +81,7 @@ fn named(random: &mut Random, row: &mut Row) {
     }
 }
 
-/// Every placement in a frame of one group, with every count of iterations.
+/// Every placement in a frame of one group, with every number of iterations.
 fn all_placements((width, height): (u32, u32), amount: Amount, random: &mut Random, row: &mut Row) {
     for place in placements((width, height), random) {
         for iterations in 1..=MAX_ITERS {
@@ -108,13 +108,13 @@ fn where_groups_meet(shift: u32, random: &mut Random, row: &mut Row) {
     let mut groups = || random.within(1, sigma::GROUPS[shift as usize].into()) as u32;
     let groups = (groups(), groups());
     let mut case = sigma::meeting(shift, groups, false, random);
-    // Fewer blocks need no other grids.
+    // The grids hold fewer blocks as well.
     case.blocks.width = case.blocks.width.min(LARGEST);
     case.blocks.height = case.blocks.height.min(LARGEST);
     random_steps(&case, random, row);
 }
 
-/// A case's filter region in an image around it.
+/// The filter region of a case, in an image around it.
 fn random_steps(case: &Case, random: &mut Random, row: &mut Row) {
     let place = oracle::Place {
         image: around(case.filter(), random),
@@ -128,7 +128,7 @@ fn random_steps(case: &Case, random: &mut Random, row: &mut Row) {
     steps.check(source, random, row);
 }
 
-/// What all steps are handed but the sets.
+/// The inputs of all steps without the sets.
 #[derive(Debug)]
 struct Steps<'a> {
     case: &'a Case,
@@ -159,23 +159,23 @@ impl<'a> Steps<'a> {
 
     fn check(&self, source: Vec<f32>, random: &mut Random, row: &mut Row) {
         let before = samples(source.len(), random);
-        let rust = oracle::epf(
+        let original = oracle::epf(
             self.place,
             self.case.frame,
-            &self.case.rust_grids(),
+            &self.case.original_grids(),
             self.settings,
             picture::planes(&source),
         );
         let (number, ours) = self.run([source, before.clone()]);
-        let mut due = before;
+        let mut expected = before;
         let rows = (0, picture::result(&self.place).height);
-        picture::store(&self.place, &rust, rows, &mut due);
+        picture::store(&self.place, &original, rows, &mut expected);
         let written = |at| is_written(&self.place, rows, at);
-        judge(self, rows, (number, &ours), (0, &due), &written, row);
+        compare_answer(self, rows, (number, &ours), (0, &expected), &written, row);
     }
 
-    /// The largest number that a call gave, and the set that the last step wrote. A step reads the
-    /// first set and writes over what the second had.
+    /// The largest number that a call answered, and the set that the last step wrote. Each step reads the
+    /// first set and overwrites the second, which has the samples from before.
     fn run(&self, mut sets: [Vec<f32>; 2]) -> (u32, Vec<f32>) {
         let before = sets[1].clone();
         let mut sigmas = vec![0.0; self.case.count()];

@@ -1,10 +1,9 @@
-//! Tables of checks. Their order is that in which a function looks for numbers: a later one may be
-//! smaller.
+//! Tables of checks, in the order in which a function makes them. Numbers need not ascend.
 
-/// The number, whether what the condition reads is in range, and the condition.
+/// A number, whether the values that the condition reads are in range, and the condition.
 pub type Check<'a> = (u32, bool, &'a dyn Fn() -> bool);
 
-/// The number of the first check that applies, 0 where none does.
+/// The number of the first check that applies; 0 if none does.
 pub fn first_that_applies(checks: &[Check]) -> u32 {
     let applies = |&&(_, readable, condition): &&Check| readable && condition();
     checks.iter().find(applies).map_or(0, |check| check.0)

@@ -7,7 +7,7 @@ use super::{
     numbers::{BITS_RUN_OUT, HALF_NOT_FINITE, KERNEL_NEAR_ZERO, WRONG_LENGTH},
 };
 
-/// Fields in order, floats by their bits, and the next bit place.
+/// Fields in order, floats by their bits, and the next bit position.
 pub type Read = (Vec<u32>, usize);
 
 struct Bits<'a> {
@@ -43,7 +43,7 @@ impl Bits<'_> {
     }
 }
 
-/// The bits of the binary32 number that a half is.
+/// A half as binary32, by its bits.
 fn float_of_half(half: u32) -> Ruled<u32> {
     let sign = half >> 15 << 31;
     let exponent = half >> 10 & 31;

@@ -1,5 +1,4 @@
-//! The library's sizes and limits on the rules' wide numbers. `restoration` has their values and says
-//! what they are.
+//! The library's sizes and limits as 128-bit numbers. Their values and meanings are in `restoration`.
 
 macro_rules! widened {
     ($($name:ident)*) => {

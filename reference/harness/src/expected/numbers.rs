@@ -1,4 +1,4 @@
-//! The numbers of refusals, as `restoration` has them.
+//! The numbers of refusals, from `restoration`.
 
 use restoration::Refusal;
 

@@ -5,7 +5,7 @@ use restoration::{
     Settings, Setup,
 };
 
-use super::handed::{Handed, setup_rule};
+use super::input::{Input, setup_rule};
 use crate::{
     convert::{epf_settings, region},
     epf, gabor,
@@ -14,8 +14,8 @@ use crate::{
     sigma,
 };
 
-/// Samples along a side of the smallest group, and places at which groups of this and up to eight times
-/// this size meet.
+/// Samples along a side of the smallest group, and places where groups of one to eight times this size
+/// meet.
 const GROUP: i32 = (BLOCK * GROUP_DIM) as i32;
 const MEETINGS: [i32; 8] = [
     -8 * GROUP,
@@ -28,7 +28,7 @@ const MEETINGS: [i32; 8] = [
     1_016 * GROUP,
 ];
 
-/// Which passes run: the Gabor-like one or not, and iterations of the edge filter.
+/// Which passes run.
 #[derive(Debug, Clone, Copy)]
 pub struct Passes {
     pub gabor: bool,
@@ -42,25 +42,25 @@ pub fn passes(random: &mut Random) -> Passes {
     }
 }
 
-/// A picture with sides of at most so many samples.
-pub fn picture(most: u32, random: &mut Random) -> Handed {
+/// A picture with sides of at most `most` samples.
+pub fn picture(most: u32, random: &mut Random) -> Input {
     let passes = passes(random);
     with_passes(passes, most, random)
 }
 
-pub fn with_passes(passes: Passes, most: u32, random: &mut Random) -> Handed {
+pub fn with_passes(passes: Passes, most: u32, random: &mut Random) -> Input {
     let mut side = || random.within(1, most.into()) as u32;
     let (width, height) = (side(), side());
     with_sides(passes, (width, height), most, random)
 }
 
-/// A filter region with such sides in an image region with sides of at most so many samples.
+/// A filter region with these sides, in an image region with sides of at most `most` samples.
 pub fn with_sides(
     passes: Passes,
     (width, height): (u32, u32),
     most: u32,
     random: &mut Random,
-) -> Handed {
+) -> Input {
     let case = on_blocks(width, height, random);
     let filter = if passes.iterations > 0 {
         region(case.filter())
@@ -78,14 +78,14 @@ pub fn with_sides(
         band_height: band_height(rows, random),
         ..Setup::DEFAULT
     };
-    lent(setup, case, random)
+    with_slices(setup, case, random)
 }
 
-/// The picture with slices of due lengths.
-fn lent(setup: Setup, case: sigma::Case, random: &mut Random) -> Handed {
+/// The inputs of start, with slices of the right lengths.
+fn with_slices(setup: Setup, case: sigma::Case, random: &mut Random) -> Input {
     let rule = setup_rule(&setup);
     let set = rule.set() as usize;
-    Handed {
+    Input {
         setup,
         frame: case.frame,
         table: case.table,
@@ -97,7 +97,7 @@ fn lent(setup: Setup, case: sigma::Case, random: &mut Random) -> Handed {
 }
 
 impl Passes {
-    /// The settings with these passes.
+    /// Turns these passes on and all others off.
     fn of(self, mut settings: Settings) -> Settings {
         settings.gabor.enabled = self.gabor.into();
         settings.epf.iters = self.iterations;
@@ -105,7 +105,7 @@ impl Passes {
     }
 }
 
-/// The default settings of a header with such passes.
+/// A header's default settings with these passes.
 pub fn defaults(passes: Passes) -> Settings {
     passes.of(Settings::DEFAULT)
 }
@@ -120,7 +120,7 @@ pub fn settings(passes: Passes, modular: f32, random: &mut Random) -> Settings {
     })
 }
 
-/// Grids and a filter region with such sides around a place where groups meet.
+/// A filter region with these sides, near a place where groups meet, and grids for it.
 fn on_blocks(width: u32, height: u32, random: &mut Random) -> sigma::Case {
     let shift = sigma::seldom_large(random.within(0, 49) as u64);
     let mut groups = || random.within(1, sigma::GROUPS[shift as usize].into()) as u32;
@@ -142,8 +142,7 @@ fn on_blocks(width: u32, height: u32, random: &mut Random) -> sigma::Case {
     sigma::filled(frame, blocks, groups, false, random)
 }
 
-/// A region with its corner near zero, where groups would meet, at the ends of the measures, or
-/// anywhere between.
+/// A region with left and top near zero, near a place where groups meet, at their limits, or anywhere.
 fn anywhere(width: u32, height: u32, random: &mut Random) -> Region {
     let mut corner = || match random.within(0, 7) {
         0..=2 => random.within(-40, 40) as i32,
@@ -159,7 +158,7 @@ fn anywhere(width: u32, height: u32, random: &mut Random) -> Region {
     }
 }
 
-/// An image region around a filter region, in one of four pictures the same.
+/// An image region around a filter region; one time in four they are the same.
 pub fn around(filter: Region, most: u32, random: &mut Random) -> Region {
     if random.once_in(4) {
         return filter;
@@ -181,7 +180,7 @@ pub fn around(filter: Region, most: u32, random: &mut Random) -> Region {
     }
 }
 
-/// Any height that makes at most 256 bands, mostly less than the rows.
+/// Any band height with at most `MAX_BANDS` bands, mostly less than the rows.
 pub fn band_height(rows: u32, random: &mut Random) -> u32 {
     let least = rows.div_ceil(MAX_BANDS as u32);
     let most = match random.within(0, 7) {

@@ -1,11 +1,11 @@
-//! NaNs of any kind in all that a call is handed, so that a refused one is seen to leave their bits.
+//! NaNs of every kind in all inputs of a call, to see that a refused call leaves their bits.
 
 use restoration::{EpfSettings, EpfSigma, GaborSettings, Settings};
 
-use super::handed::{Handed, State};
+use super::input::{Input, State};
 use crate::{bits, random::Random};
 
-pub fn in_handed(h: &mut Handed, random: &mut Random) {
+pub fn in_input(h: &mut Input, random: &mut Random) {
     in_settings(&mut h.setup.settings, random);
     for buffer in [&mut h.grids, &mut h.first, &mut h.second, &mut h.sigmas] {
         bits::sprinkle(buffer, random);
@@ -19,7 +19,7 @@ pub fn in_state(t: &mut State, random: &mut Random) {
     }
 }
 
-/// Some of the floats of the settings: the patterns name all fields, so that a new one is not left out.
+/// Some floats of the settings. The patterns name all fields, so that a new one is not forgotten.
 fn in_settings(settings: &mut Settings, random: &mut Random) {
     let Settings { gabor, epf } = settings;
     let GaborSettings {

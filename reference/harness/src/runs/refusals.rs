@@ -1,5 +1,5 @@
-//! Named refusals: which number is given where several things are wrong, and which conditions a
-//! faulty setting hides.
+//! Named refusals: which number is answered for several faults at once, and which checks are skipped
+//! because they depend on a value that is out of range.
 
 use restoration::{
     BLOCK, CHANNELS, GROUP_DIM, MAX_BANDS, MAX_GRID_SIDE, MAX_ITERS, MAX_OFFSET, MAX_SIDE, Region,
@@ -9,13 +9,13 @@ use restoration::{
 use super::{
     calls::{self, Tally},
     draw::{Passes, defaults},
-    handed::{Handed, State},
+    input::{Input, State},
     instances::expect,
     nans,
 };
 use crate::{bits, random::Random, report::Row};
 
-/// Two blocks each way, of which the first column lies in one group and the second in the next.
+/// Two by two blocks; the first block column is in one group, the second in the next.
 const REGION: Region = Region {
     left: 1_016,
     top: 0,
@@ -31,11 +31,11 @@ const PAST_FRAMES: i32 = MAX_SIDE as i32;
 const SAMPLES: usize = CHANNELS * 16 * 16;
 const BLOCKS: usize = 4;
 
-/// What is wrong, what is due, and how it comes about.
-type Wrong<T, Due> = (&'static str, Due, fn(&mut T));
+/// What is wrong, the expected number or numbers, and the damage.
+type Damage<T, Expected> = (&'static str, Expected, fn(&mut T));
 
-/// The number that start gives.
-const STARTS: &[Wrong<Handed, u32>] = &[
+/// The number that start answers.
+const STARTS: &[Damage<Input, u32>] = &[
     ("nothing", 0, |_| {}),
     ("an empty filter region", 4, |h| h.setup.filter.width = 0),
     ("a huge filter region outside the image", 4, |h| {
@@ -141,7 +141,7 @@ const STARTS: &[Wrong<Handed, u32>] = &[
         moved(&mut h.setup, -1_019);
         narrow(h);
     }),
-    ("edge filter off, sigmas lent", 7, |h| {
+    ("edge filter off, sigmas passed", 7, |h| {
         h.setup.settings.epf.iters = 0
     }),
     ("edge filter off, a short table", 7, |h| {
@@ -158,8 +158,8 @@ const STARTS: &[Wrong<Handed, u32>] = &[
     }),
 ];
 
-/// The numbers that band 0, an advance and the result give.
-const RECORDS: &[Wrong<State, [u32; 3]>] = &[
+/// The numbers that band 0, an advance and the result answer.
+const RECORDS: &[Damage<State, [u32; 3]>] = &[
     ("nothing", [0, 11, 11], |_| {}),
     ("a short set, band height 0", [7, 9, 7], |t| {
         t.first.pop();
@@ -207,7 +207,7 @@ const RECORDS: &[Wrong<State, [u32; 3]>] = &[
         t.run.setup.image.left = MAX_OFFSET + 1;
         t.first.pop();
     }),
-    // Start gives 8 for every frame; a record is not judged by it.
+    // Start answers 8 for every frame; a record has no frame, and is accepted.
     ("a filter region at left 16,384", [0, 11, 11], |t| {
         moved(&mut t.run.setup, PAST_FRAMES - REGION.left)
     }),
@@ -232,46 +232,46 @@ const RECORDS: &[Wrong<State, [u32; 3]>] = &[
         off_blocks(&mut t.run.setup);
         t.sigmas.pop();
     }),
-    ("edge filter off, sigmas lent", [7, 11, 11], |t| {
+    ("edge filter off, sigmas passed", [7, 11, 11], |t| {
         t.run.setup.settings.epf.iters = 0
     }),
 ];
 
 pub fn compare(random: &mut Random, row: &mut Row, tally: &mut Tally) {
-    for (what, due, damage) in STARTS {
-        let mut handed = sound();
-        damage(&mut handed);
-        nans::in_handed(&mut handed, random);
-        calls::margin(&handed.setup, tally);
-        let (number, _) = calls::start(&mut handed, tally);
-        expect(what, number, *due, row);
+    for (what, expected, damage) in STARTS {
+        let mut input = valid();
+        damage(&mut input);
+        nans::in_input(&mut input, random);
+        calls::margin(&input.setup, tally);
+        let (number, _) = calls::start(&mut input, tally);
+        expect(what, number, *expected, row);
     }
-    let mut handed = sound();
-    let (_, run) = calls::start(&mut handed, tally);
-    for (what, dues, damage) in RECORDS {
-        let mut lent = State::new(run, &handed);
-        damage(&mut lent);
-        nans::in_state(&mut lent, random);
-        // The result's slice is as long as it should be, then one shorter.
+    let mut input = valid();
+    let (_, run) = calls::start(&mut input, tally);
+    for (what, expected, damage) in RECORDS {
+        let mut state = State::new(run, &input);
+        damage(&mut state);
+        nans::in_state(&mut state, random);
+        // The result's slice has the right length, then one sample less.
         let mut out = vec![0.0; SAMPLES];
         bits::sprinkle(&mut out, random);
-        let number = calls::result(&mut lent, &mut out, tally);
-        expect(what, number, dues[2], row);
+        let number = calls::result(&mut state, &mut out, tally);
+        expect(what, number, expected[2], row);
         out.pop();
-        let number = calls::result(&mut lent, &mut out, tally);
-        let s = lent.run.setup;
+        let number = calls::result(&mut state, &mut out, tally);
+        let s = state.run.setup;
         let known = s.preserve_outside == 1 || s.preserve_outside == 0 && s.filter.height > 0;
-        expect(what, number, if known { 7 } else { dues[2] }, row);
-        let number = calls::band(&mut lent.clone(), 0, tally);
-        expect(what, number, dues[0], row);
-        let number = calls::advance(&mut lent.run, tally);
-        expect(what, number, dues[1], row);
+        expect(what, number, if known { 7 } else { expected[2] }, row);
+        let number = calls::band(&mut state.clone(), 0, tally);
+        expect(what, number, expected[0], row);
+        let number = calls::advance(&mut state.run, tally);
+        expect(what, number, expected[1], row);
     }
 }
 
-/// A picture that start accepts: all passes, two bands of 8 rows.
-fn sound() -> Handed {
-    Handed {
+/// Inputs that start accepts: all passes, two bands of 8 rows.
+fn valid() -> Input {
+    Input {
         setup: Setup {
             settings: defaults(ALL),
             band_height: 8,
@@ -301,19 +301,19 @@ fn off_blocks(setup: &mut Setup) {
     moved(setup, 1);
 }
 
-/// The first grid has one row of the two that are needed.
-fn narrow(h: &mut Handed) {
+/// The first grid has one row where two are needed.
+fn narrow(h: &mut Input) {
     h.table[2] = 1;
     h.grids.truncate(GROUP_DIM as usize + 2);
 }
 
-fn edge_off(h: &mut Handed) {
+fn edge_off(h: &mut Input) {
     h.setup.settings.epf.iters = 0;
     h.sigmas.clear();
 }
 
-/// So many rows, each a band.
-fn rows(h: &mut Handed, rows: u32) {
+/// A picture of this many rows, one per band.
+fn rows(h: &mut Input, rows: u32) {
     h.setup.image.height = rows;
     h.setup.filter.height = rows;
     h.setup.band_height = 1;

@@ -1,4 +1,4 @@
-//! What the calls of a run are handed and leave, as the rules and the original read it.
+//! Inputs of the calls of a run and what they leave, for the library, the rules and the original.
 
 use core::fmt;
 
@@ -11,9 +11,9 @@ use crate::{
     picture, sigma,
 };
 
-/// Everything that start is handed.
+/// The inputs of start.
 #[derive(Clone)]
-pub struct Handed {
+pub struct Input {
     pub setup: Setup,
     pub frame: oracle::Frame,
     pub table: Vec<u32>,
@@ -23,9 +23,9 @@ pub struct Handed {
     pub sigmas: Vec<f32>,
 }
 
-impl fmt::Debug for Handed {
+impl fmt::Debug for Input {
     fn fmt(&self, f: &mut fmt::Formatter) -> fmt::Result {
-        f.debug_struct("Handed")
+        f.debug_struct("Input")
             .field("setup", &self.setup)
             .field("frame", &self.frame)
             .field("table", &self.table)
@@ -36,7 +36,7 @@ impl fmt::Debug for Handed {
     }
 }
 
-impl Handed {
+impl Input {
     pub fn rule(&self) -> rule::Start<'_> {
         rule::Start {
             setup: setup_rule(&self.setup),
@@ -48,7 +48,7 @@ impl Handed {
         }
     }
 
-    /// Calls start with it all.
+    /// Calls start with these inputs.
     pub fn start(&mut self) -> RunAnswer {
         restoration::start(
             self.setup,
@@ -61,31 +61,31 @@ impl Handed {
         )
     }
 
-    /// The block sigmas that an accepted start leaves.
-    pub fn due_sigmas(&self) -> Vec<f32> {
+    /// The block sigmas after an accepted start.
+    pub fn expected_sigmas(&self) -> Vec<f32> {
         if self.setup.settings.epf.iters == 0 {
             return Vec::new();
         }
         let modular = self.setup.settings.epf.sigma_for_modular;
-        let handed = self.rule();
-        expected::sigma::sigmas(handed.sigmas_of(), &self.grids, modular)
+        let input = self.rule();
+        expected::sigma::sigmas(input.sigmas_of(), &self.grids, modular)
     }
 
-    /// The result of a whole run by the original; without passes it is not asked, and the result
-    /// is a part of the first set.
-    pub fn rust(&self) -> Vec<f32> {
+    /// The result of a whole run by the original. A run without passes is not compared with it: its
+    /// result is a part of the first set.
+    pub fn original(&self) -> Vec<f32> {
         if setup_rule(&self.setup).passes() == 0 {
             return result_part(&self.setup, &self.first);
         }
-        self.rust_run()().concat()
+        self.original_run()().concat()
     }
 
-    /// A whole run by the original, which has copies of planes and grids and owns them.
-    pub fn rust_run(&self) -> impl FnOnce() -> oracle::Planes + use<> {
+    /// A whole run by the original on its own copies of planes and grids.
+    pub fn original_run(&self) -> impl FnOnce() -> oracle::Planes + use<> {
         let Settings { gabor, epf, .. } = self.setup.settings;
         let weights = (gabor.enabled == 1).then_some(gabor.weights);
         let edge = (epf.iters > 0).then(|| edge(epf));
-        let grids = sigma::rust_grids(&self.table, &self.grids);
+        let grids = sigma::original_grids(&self.table, &self.grids);
         let (place, frame) = (place(&self.setup), self.frame);
         let planes = picture::planes(&self.first);
         move || {
@@ -95,7 +95,7 @@ impl Handed {
     }
 }
 
-/// What the calls so far left.
+/// The record and the buffers between calls.
 #[derive(Clone)]
 pub struct State {
     pub run: Run,
@@ -115,13 +115,13 @@ impl fmt::Debug for State {
 }
 
 impl State {
-    /// What an accepted start leaves of what it was handed.
-    pub fn new(run: Run, handed: &Handed) -> Self {
+    /// The state after an accepted start.
+    pub fn new(run: Run, input: &Input) -> Self {
         Self {
             run,
-            sigmas: handed.sigmas.clone(),
-            first: handed.first.clone(),
-            second: handed.second.clone(),
+            sigmas: input.sigmas.clone(),
+            first: input.first.clone(),
+            second: input.second.clone(),
         }
     }
 
@@ -137,8 +137,8 @@ impl State {
         [self.first.len(), self.second.len()]
     }
 
-    /// The set that the next pass reads, and the other.
-    pub fn by_turns(&mut self) -> [&mut Vec<f32>; 2] {
+    /// The set that the next pass reads, and the set that it writes.
+    pub fn read_and_written(&mut self) -> [&mut Vec<f32>; 2] {
         if self.run.pass.is_multiple_of(2) {
             [&mut self.first, &mut self.second]
         } else {
@@ -174,7 +174,7 @@ pub fn place(s: &Setup) -> oracle::Place {
     }
 }
 
-/// The result's part of a set, plane after plane.
+/// The samples of the result in a set, one plane after another.
 pub fn result_part(s: &Setup, set: &[f32]) -> Vec<f32> {
     let place = place(s);
     let part = picture::result(&place);
@@ -183,8 +183,8 @@ pub fn result_part(s: &Setup, set: &[f32]) -> Vec<f32> {
         .collect()
 }
 
-/// Every field of a record, floats by their bits. Patterns name all fields, so that a new one is not
-/// left out.
+/// Every field of a record, floats by their bits. The patterns name all fields, so that a new one is
+/// not forgotten.
 pub fn fields(run: &Run) -> Vec<u32> {
     let &Run { setup, pass, done } = run;
     let mut all = setup_fields(&setup);
