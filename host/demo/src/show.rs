@@ -83,7 +83,7 @@ impl Shown {
 
     fn say_settings(&mut self) -> Result<(), Refusal> {
         let Region { width, height, .. } = self.picture.region;
-        let restoration::Settings { gabor, epf } = self.filters.settings;
+        let restoration::Settings { gabor, epf, .. } = self.filters.settings;
         let ([side, corner], iters) = (gabor.weights[0], epf.iters);
         let sigmas = self.filters.grids.iter().copied();
         let least = sigmas.clone().fold(f32::INFINITY, f32::min);

@@ -111,21 +111,17 @@ pub fn judge(picture: Region, part: Region, samples: usize) -> Result<(), Refusa
 /// The frame that a picture fills.
 pub fn frame(picture: Region) -> Frame {
     Frame {
-        width: picture.width,
-        height: picture.height,
-        upsampling: 1,
-        lf_level: 0,
         group_size_shift: 0,
+        ..Frame::with_size(picture.width, picture.height)
     }
 }
 
 fn setup(image: Region, filter: Region, settings: Settings) -> Setup {
     Setup {
-        image,
         filter,
-        preserve_outside: 0,
         settings,
         band_height: BAND_HEIGHT,
+        ..Setup::whole(image)
     }
 }
 

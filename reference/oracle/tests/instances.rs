@@ -1,4 +1,4 @@
-//! Document 01's instances, on the original: that it was compiled and is asked as it should be.
+//! Document 01's instances on the original, to see that it is compiled and called as it should be.
 
 use oracle::*;
 

@@ -156,26 +156,15 @@ fn by_run(
         .unwrap();
     let mut settings = filter.into();
     change(&mut settings);
-    let (left, top, upsampling, lf_level, group_size_shift) = (0, 0, 1, 0, 3);
-    let image = Region {
-        left,
-        top,
-        width,
-        height,
-    };
     let setup = Setup {
-        image,
-        filter: image,
         preserve_outside: 1,
         settings,
         band_height: 16,
+        ..Setup::whole(Region::with_size(width, height))
     };
     let frame = Frame {
-        width,
-        height,
-        upsampling,
-        lf_level,
-        group_size_shift,
+        group_size_shift: 3,
+        ..Frame::with_size(width, height)
     };
     let smoothing = Smoothing::start(setup, frame, &[0; 3], &[], planes);
     smoothing.unwrap().finish().unwrap()
@@ -196,10 +185,7 @@ const OPTIONS: [(&[&str], Change); 6] = [
     }),
     (&["--iters", "0", "--gabor", "0.2,0.1"], |s| {
         s.epf.iters = 0;
-        s.gabor = GaborSettings {
-            enabled: 1,
-            weights: [[0.2, 0.1]; 3],
-        };
+        s.gabor = GaborSettings::with_weights([[0.2, 0.1]; 3]);
     }),
     (&["--gabor", "0.1,0.2,-0.3,0.4,0.5,0.6"], |s| {
         s.gabor.weights = [[0.1, 0.2], [-0.3, 0.4], [0.5, 0.6]];
