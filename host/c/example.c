@@ -122,7 +122,7 @@ static void passes(void)
         COMPARE(restoration_epf_pass(image, image, 1, step, &sigma, 1, 0, SIDE, from, SAMPLES, to, SAMPLES) == RESTORATION_ACCEPTED && ZEROS(to));
 }
 
-// Document 01, "Instances": weights 1/2, 1/4 on a single sample of 16; one band per row.
+// Specification 14.6: weights 1/2, 1/4 on a single sample of 16; one band per row.
 static void run_calls(void)
 {
     static const float smooth[] = {1, 2, 1, 2, 4, 2, 1, 2, 1};

@@ -1,4 +1,4 @@
--- Step 2 from a set itself (document 01, "Edge-preserving steps"): a sample and its four neighbours, where nothing is mirrored. Definitions only.
+-- Step 2 from a set itself (Specification 11): a sample and its four neighbours, where nothing is mirrored. Definitions only.
 use mathlib.Core.Bool.{Bool, cond, _&&_}
 use mathlib.Core.List.{List}
 use Prim.Native.Nat.{ℕ, _+_, _-_, _*_, _<_, _≤_}

@@ -1,4 +1,4 @@
--- The slopes of a tile's columns (document 01, "Edge-preserving steps"): (6.6 × (s − 1)) / sigma × M, for rows that lie at no block's border and for those that do.
+-- The slopes of a tile's columns (Specification 11.5, 11.7): (6.6 × (s − 1)) / sigma × M, for rows that lie at no block's border and for those that do.
 -- Definitions only.
 use mathlib.Core.Path.{_≡_}
 use mathlib.Core.Bool.{cond, _&&_}

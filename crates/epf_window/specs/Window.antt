@@ -24,7 +24,7 @@ rowSample src row x w j = getD src (row + mirror (subℕ (x + j) 4) w) nan
 unfoldable pub planeSample : List Float → ℕ → ℕ → ℕ → ℕ → ℕ → ℕ → ℕ → ℕ → Float
 planeSample src at stride w h x y i j = rowSample src (at + mirror (subℕ (y + i) 3) h * stride) x w j
 
--- Column j and row i of a window on column x and row y of the filter region: the sample four columns left of x + j and three rows above y + i, mirrored (document 01, "Mirror").
+-- Column j and row i of a window on column x and row y of the filter region: the sample four columns left of x + j and three rows above y + i, mirrored (Specification 8.2).
 unfoldable pub windowSample : Layout → List Float → ℕ → ℕ → Picture
 windowSample l src x y = λ c j i. inner l src c (mirror (subℕ (x + j) 4) (l .width)) (mirror (subℕ (y + i) 3) (l .height))
 

@@ -1,4 +1,4 @@
--- A frame whose numbers are in range (document 01, "Block sigmas"). Definitions only.
+-- A frame whose numbers are in range (Specification 7). Definitions only.
 use Prim.Native.Nat.{_≤_}
 use Rattle.frame.specs.declared.Frame.{Frame}
 

@@ -1,4 +1,4 @@
--- Places that lie away from the cut edges of a row, and mirrored places that a cut leaves alone (document 01, "Mirror"). Definitions only.
+-- Places that lie away from the cut edges of a row, and mirrored places that a cut leaves alone (Specification 8.2). Definitions only.
 use mathlib.Core.Path.{_≡_}
 use Prim.Native.Nat.{ℕ, _+_, _<_, _≤_}
 use lib.IntN.{ℤ, pos, _+ℤ_}

@@ -1,4 +1,4 @@
--- Document 01's instances of the mirror, and the limits of its measures, computed. Assumes nothing.
+-- The instances of the mirror (Specification 14.1) and its limits (Specification 4.1), computed. Assumes nothing.
 use mathlib.Core.Path.{_≡_, refl}
 use lib.IntN.{pos, negsuc}
 use Rattle.mirror.specs.Mirror.{mirror}

@@ -1,4 +1,4 @@
-// The numbers of document 01, by who brings them about. Everything else cites these names; specs/Numbers.antt has the same names for definitions.
+// The numbers of Specification 3.1, by what they come from. Everything else cites these names; specs/Numbers.antt has the same names for definitions.
 ghost use mathlib.Core.Path.{_≡_};
 ghost use Rattle.refusals.specs.Flags.{flagFits, flagSet};
 

@@ -1,4 +1,4 @@
--- What each method answers (document 01, "Regions"): the first number that applies, and the value, or zeros where it refuses.
+-- What each method answers (Specification 6.1, 6.4): the first number that applies, and the value, or zeros where it refuses.
 use mathlib.Core.Bool.{Bool, false, cond, _&&_, not}
 use mathlib.Core.List.{List, [], _∷_}
 use Prim.Native.Nat.{ℕ}

@@ -1,4 +1,4 @@
--- A region as its columns and rows, and what it has and contains (document 01, "Regions").
+-- A region as its columns and rows, and what it has and contains (Specification 2.1, 6.1).
 use mathlib.Core.Bool.{Bool, _&&_, _||_}
 use lib.Dec.{eqb}
 use lib.IntN.{ℤ, pos}

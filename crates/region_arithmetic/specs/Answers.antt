@@ -1,4 +1,4 @@
--- What each function answers (document 01, "Regions"): the first number that applies, and the region, or zeros where it refuses.
+-- What each function answers (Specification 6.1, 6.4): the first number that applies, and the region, or zeros where it refuses.
 use mathlib.Core.Bool.{Bool, cond, not}
 use mathlib.Core.List.{List, [], _∷_}
 use Prim.Native.Nat.{ℕ}

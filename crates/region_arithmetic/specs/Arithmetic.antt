@@ -1,4 +1,4 @@
--- The arithmetic of regions (document 01, "Regions"): that of intervals, on both axes.
+-- The arithmetic of regions (Specification 6.1–6.3): that of intervals, on both axes.
 use mathlib.Core.Bool.{cond, _||_}
 use Prim.Native.Nat.{ℕ, _^_}
 use lib.IntN.{ℤ}

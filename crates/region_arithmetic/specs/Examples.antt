@@ -5,7 +5,7 @@ use Rattle.region.specs.Regions.{regionOf}
 use Rattle.region.specs.declared.Region.{Region}
 use Rattle.region_arithmetic.specs.Arithmetic.{shrunkBy, downsampled, alignedTo}
 
--- ---- document 01, "Instances": left −3, width 5
+-- ---- Specification 14.5: left −3, width 5
 
 abbrev instance : Region
 instance = record { left = negsuc 2; top = negsuc 2; width = 5; height = 5 }

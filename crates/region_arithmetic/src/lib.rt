@@ -1,4 +1,4 @@
-// Regions made from regions (region.rs). Each function judges the regions that it is given, and the one that results, by document 01's measures.
+// Regions made from regions (region.rs). Each function judges the regions that it is given, and the one that results, by the limits of Specification 4.1.
 use refusals::ACCEPTED;
 use refusals::OUT_OF_MEASURE;
 use refusals::OUT_OF_RANGE;

@@ -1,4 +1,4 @@
--- Intervals that start and end at multiples of a number (document 01, "Regions"). Definitions only.
+-- Intervals that start and end at multiples of a number (Specification 6). Definitions only.
 use mathlib.Core.Path.{_≡_}
 use Prim.Native.Nat.{ℕ}
 use lib.IntN.{ℤ, pos, _*ℤ_}

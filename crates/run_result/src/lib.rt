@@ -1,4 +1,4 @@
-// The result of a finished run: its part of the set that a next pass would read, copied plane after plane (document 01, "Runs").
+// The result of a finished run: its part of the set that a next pass would read, copied plane after plane (Specification 12.11).
 use planes::Layout;
 use planes::copy_run;
 use planes_layout::layout_of;

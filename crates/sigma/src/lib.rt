@@ -1,4 +1,4 @@
-// The sigma of each block of a filter region, from the frame's groups and their grids (document 01, "Block sigmas").
+// The sigma of each block of a filter region, from the frame's groups and their grids (Specification 7.6).
 use frame::Frame;
 use frame::GroupSizes;
 use planes::copy_run;

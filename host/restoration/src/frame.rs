@@ -90,7 +90,7 @@ entries! {
     /// its height. `grids` has the cells of all grids, one grid after another.
     ///
     /// ```
-    /// // Document 01, "Instances": group row 0 has grids, row 1 none: block row 128 repeats row 127.
+    /// // Specification 14.9: group row 0 has grids, row 1 none: block row 128 repeats row 127.
     /// # use restoration::{Blocks, Frame};
     /// let frame = Frame { group_size_shift: 0, ..Frame::with_size(8, 1032) };
     /// let blocks = Blocks { width: 8, height: 1032, ..Blocks::default() };

@@ -65,7 +65,7 @@ answers! {
 
 entries! {
     /// ```
-    /// // Document 01, "Instances": halves 0001 and 7C00.
+    /// // Specification 14.3: halves 0001 and 7C00.
     /// let (value, next) = restoration::read_half(&[0x01, 0x00], 0).value()?;
     /// assert_eq!((value.to_bits(), next), (0x3380_0000, 16));
     /// let refused = restoration::read_half(&[0x00, 0x7C], 0).value();
@@ -75,7 +75,7 @@ entries! {
     read_half = restoration_read_half(bytes: &[u8], at: usize) -> HalfAnswer;
 
     /// ```
-    /// // Document 01, "Instances": weights -1/8, -1/8 and 1/4, 0, after the enabled and custom bits.
+    /// // Specification 14.4: weights -1/8, -1/8 and 1/4, 0, after the enabled and custom bits.
     /// let header = |w0: u128, w1: u128| {
     ///     let pair = w0 | w1 << 16;
     ///     (0b11 | pair << 2 | pair << 34 | pair << 66).to_le_bytes()

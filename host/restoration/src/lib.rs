@@ -15,7 +15,7 @@
 //! let (frame, table, grids) = (Frame::with_size(3, 1), [0, 0, 0], []);
 //! let planes = [[0.0, 16.0, 0.0]; 3].concat();
 //! let smooth = Smoothing::start(setup, frame, &table, &grids, planes)?.finish()?;
-//! // Document 01, "Instances": 4 14 4.
+//! // Specification 14.7: 4 14 4.
 //! assert_eq!(smooth, [[4.0, 14.0, 4.0]; 3].concat());
 //! # Ok::<(), restoration::Refusal>(())
 //! ```

@@ -36,7 +36,7 @@ entries! {
     /// The index that a filter reads for an offset beyond an edge.
     ///
     /// ```
-    /// // Document 01, "Instances".
+    /// // Specification 14.1.
     /// let places = [(-1, 1, 0), (-3, 2, 1), (5, 4, 2), (7, 3, 1)];
     /// for (offset, len, place) in places {
     ///     assert_eq!(restoration::mirror(offset, len).value(), Ok(place));
@@ -47,7 +47,7 @@ entries! {
     /// The Gabor-like pass; `enabled` is ignored.
     ///
     /// ```
-    /// // Document 01, "Instances": weights 1/2, 1/4 on a single sample of 16.
+    /// // Specification 14.6: weights 1/2, 1/4 on a single sample of 16.
     /// let image = restoration::Region::with_size(3, 3);
     /// let settings = restoration::GaborSettings::with_weights([[0.5, 0.25]; 3]);
     /// let plane = [0.0, 0.0, 0.0, 0.0, 16.0, 0.0, 0.0, 0.0, 0.0];
@@ -66,7 +66,7 @@ entries! {
     /// One step of the edge-preserving filter, with one sigma per block of the filter region.
     ///
     /// ```
-    /// // Document 01, "Instances": step 2 copies where the block's sigma is 0.25, not where it is 1.5.
+    /// // Specification 14.8: step 2 copies where the block's sigma is 0.25, not where it is 1.5.
     /// # use restoration::EpfStep;
     /// let image = restoration::Region::with_size(2, 1);
     /// let step = EpfStep { step: 2, channel_scale: [1.0; 3], ..EpfStep::default() };

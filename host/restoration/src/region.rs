@@ -55,7 +55,7 @@ entries! {
     /// All edges divided by 2 to the power of `factor`, rounded outward.
     ///
     /// ```
-    /// // Document 01, "Instances": left -3, width 5.
+    /// // Specification 14.5: left -3, width 5.
     /// let r = restoration::Region { left: -3, top: -3, width: 5, height: 5 };
     /// let down = restoration::region_downsample(r, 1).value()?;
     /// assert_eq!((down.left, down.width), (-2, 3));

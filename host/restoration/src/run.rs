@@ -230,7 +230,7 @@ entries! {
     ///
     /// ```
     /// # use restoration::*;
-    /// // Document 01, "Instances": weights 1/2, 1/4 on a single sample of 16; one band per row.
+    /// // Specification 14.6: weights 1/2, 1/4 on a single sample of 16; one band per row.
     /// let gabor = GaborSettings::with_weights([[0.5, 0.25]; 3]);
     /// let settings = Settings { gabor, ..Settings::OFF };
     /// let setup = Setup { settings, band_height: 1, ..Setup::whole(Region::with_size(3, 3)) };

@@ -6,7 +6,7 @@ use crate::{BLOCK, Frame, Refusal, Region, Run, Setup, accepted, advance, band, 
 ///
 /// ```
 /// # use restoration::{Frame, Region, Setup, Smoothing};
-/// // Document 01, "Instances": two bands; band 0 twice, and advance with band 1 missing.
+/// // Specification 14.10: two bands; band 0 twice, and advance with band 1 missing.
 /// let setup = Setup { band_height: 1, ..Setup::whole(Region::with_size(2, 2)) };
 /// let planes = (0..12u8).map(f32::from).collect();
 /// let mut smoothing = Smoothing::start(setup, Frame::with_size(2, 2), &[0; 3], &[], planes)?;

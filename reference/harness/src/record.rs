@@ -16,7 +16,7 @@ const ROWS: usize = 64;
 const CANDIDATES: usize = 2_000;
 
 const HEAD: &str = "\
-# Answers of the original Rust, and document 01's number where it refuses.
+# Answers of the original Rust, and the number of the refusal (Specification 3.1) where there is one.
 # Made in reference/ by: cargo run --release --offline -p harness -- record
 # A row: the subject, its inputs in order, the number, the result's fields in order.
 # A header is the count of its bytes and each byte; of a header's row the next bit place is last.

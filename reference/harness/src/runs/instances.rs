@@ -1,4 +1,4 @@
-//! Document 01's instances for runs.
+//! The Specification's instances for runs.
 
 use restoration::{CHANNELS, MAX_GROUP_SIZE_SHIFT, MAX_ITERS, Setup};
 
