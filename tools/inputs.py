@@ -43,7 +43,7 @@ fn setup_of(image: region::Region, filter: region::Region, full: u32, settings: 
 """,
     "run_record": """
 fn run_at(setup: run_setup::Setup, pass: u32) -> run_record::Run {
-    run_record::Run { setup, pass, done: [0; 256] }
+    run_record::Run { setup, pass, done: [0; run_setup::MAX_BANDS] }
 }
 
 fn with_done(run: run_record::Run, k: usize) -> run_record::Run {

@@ -3,6 +3,7 @@ use refusals::ACCEPTED;
 use run_outcomes::RunAnswer;
 use run_record::Run;
 use run_record::advance_number;
+use run_setup::MAX_BANDS;
 ghost use mathlib.Core.Path.{_≡_};
 ghost use Prim.Native.Nat.{_<_};
 ghost use Rattle.run_record.specs.Record.{advanced};
@@ -13,7 +14,7 @@ fn advanced(run: Run) -> Run
     ensures { λ r. ⌜ r ≡ advanced run ⌝ }
 {
     let setup = run.setup;
-    let done = [0; 256];
+    let done = [0; MAX_BANDS];
     Run {
         setup,
         pass: run.pass + 1,

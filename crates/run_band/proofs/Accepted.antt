@@ -15,7 +15,7 @@ use Rattle.region.proofs.Laws.{pictured-measured, measured-height}
 use Rattle.planes_layout.specs.Outcome.{layoutOf}
 use Rattle.run_setup.specs.declared.Setup.{Setup}
 use Rattle.run_record.specs.declared.Run.{Run}
-use Rattle.run_setup.specs.Setup.{fullPlanes, epfOn, rowCount, bandCount, bandFrom, bandTo, sized, itersFit, setLength, sigmaLength}
+use Rattle.run_setup.specs.Setup.{maxBands, fullPlanes, epfOn, rowCount, bandCount, bandFrom, bandTo, sized, itersFit, setLength, sigmaLength}
 use Rattle.run_record.specs.Record.{marked, openChecks}
 use Rattle.refusals.proofs.Tables.{of-true, met-given, row-passed}
 use Rattle.run_setup.specs.SetupFits.{SetupFits}
@@ -64,9 +64,9 @@ module _ (t : State) (k : ℕ) (e : bandNumber 3 t k ≡ 0) where
 
   -- numbers of the machine
   pub record Room : Type 0 where
-    pub band : k < 256
+    pub band : k < maxBands
     pub height : s .«band_height» ≤ 16384
-    pub from : k * s .«band_height» ≤ 256 * 16384
+    pub from : k * s .«band_height» ≤ maxBands * 16384
     pub rows : rowCount s ≤ 16384
 
   rows-most : rowCount s ≤ 16384
@@ -79,8 +79,8 @@ module _ (t : State) (k : ℕ) (e : bandNumber 3 t k ≡ 0) where
 
   pub room : Room
   room =
-      let b : k < 256 = omega (arith, fits .band .below, setup .count) in
-      let c : k ≤ 256 = omega arith in
+      let b : k < maxBands = omega (arith, fits .band .below, setup .count) in
+      let c : k ≤ maxBands = omega arith in
       record { band = b; height = setup .height-most; from = mul-le-mul c (setup .height-most); rows = rows-most }
 
   -- band k begins before the last row

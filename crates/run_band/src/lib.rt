@@ -17,6 +17,7 @@ ghost use mathlib.Core.List.{_∷_};
 ghost use Prim.Native.Nat.{_<_, min};
 ghost use lib.ListN.{length};
 ghost use Rattle.refusals.specs.Checks.{firstOf};
+ghost use Rattle.run_setup.specs.Setup.{maxBands};
 ghost use Rattle.run_record.specs.Record.{marked, openChecks};
 ghost use Rattle.run_outcomes.specs.Band.{State, BandOutcome, setCheck, sigmaCheck, bandNumber, bandOutcome};
 ghost use Rattle.run_band.specs.Rows.{RowsFit, passedRows, bandWritten};
@@ -81,7 +82,7 @@ fn filter_band(run: Run, sigmas: &[f32], first: &mut [f32], second: &mut [f32], 
 }
 
 fn marked(run: Run, k: usize) -> Run
-    requires { ⌜ k < 256 ⌝ }
+    requires { ⌜ k < maxBands ⌝ }
     ensures { λ r. ⌜ r ≡ marked run k ⌝ }
 {
     let mut r = run;

@@ -7,7 +7,7 @@ use lib.Dec.{T}
 use lib.ListN.{length}
 use Rattle.run_setup.specs.declared.Setup.{Setup}
 use Rattle.run_record.specs.declared.Run.{Run}
-use Rattle.run_setup.specs.Setup.{bandCount, setupFits}
+use Rattle.run_setup.specs.Setup.{maxBands, bandCount, setupFits}
 use Rattle.run_record.specs.Record.{passCount, finished, runFits, Reached}
 use Rattle.run_outcomes.specs.Start.{Handed, startOutcome}
 use Rattle.run_outcomes.specs.Band.{State, bandOutcome, advanceOutcome}
@@ -55,7 +55,7 @@ module _ (n : ℕ) (K : Calls n) where
   -- the record after any list of calls is sound
   abbrev pub EndFits : Type 0
   EndFits = (h : Handed) → StartAccepted n h → (cs : List (K .Call)) → Unaltered n K (startState n h) cs
-      → let r = end n K (startState n h) cs .run in (r .setup ≡ h .setup) × T (runFits r) × (length (r .done) ≡ 256)
+      → let r = end n K (startState n h) cs .run in (r .setup ≡ h .setup) × T (runFits r) × (length (r .done) ≡ maxBands)
 
 -- document 01's three planes and its calls
 abbrev pub DocumentCountRule : Type 0
@@ -69,7 +69,7 @@ ReachedFits = (s : Setup) (r : Run) → T (setupFits s) → Reached s r → T (r
 
 -- each sound record is reached from the one that start gives
 abbrev pub FitsReached : Type 0
-FitsReached = (r : Run) → length (r .done) ≡ 256 → T (runFits r) → Reached (r .setup) r
+FitsReached = (r : Run) → length (r .done) ≡ maxBands → T (runFits r) → Reached (r .setup) r
 
 -- a list of document 01's calls after an accepted start, all accepted and lent what those before them left, that ends in the record r
 pub record LeadsTo (n : ℕ) (h : Handed) (cs : List DocumentCall) (r : Run) : Type 0 where
@@ -79,5 +79,5 @@ pub record LeadsTo (n : ℕ) (h : Handed) (cs : List DocumentCall) (r : Run) : T
 
 -- there is one for each sound record of that start: EndFits the other way round
 abbrev pub EachReached : Type 0
-EachReached = (n : ℕ) (h : Handed) → StartAccepted n h → (r : Run) → r .setup ≡ h .setup → T (runFits r) → length (r .done) ≡ 256
+EachReached = (n : ℕ) (h : Handed) → StartAccepted n h → (r : Run) → r .setup ≡ h .setup → T (runFits r) → length (r .done) ≡ maxBands
     → (cs : List DocumentCall) × LeadsTo n h cs r

@@ -18,7 +18,7 @@ use Rattle.sigma.proofs.Laws.{length-sigmas}
 use Rattle.region_placement.specs.Blocks.{onBlocks}
 use Rattle.run_passes.specs.Plan.{gaborFits}
 use Rattle.run_record.specs.declared.Run.{Run}
-use Rattle.run_setup.specs.Setup.{layout, epfOn, itersFit, fullFits, heightFits, countFits, bandCount, setupFits, sized, setLength, sigmaLength, resultRegion, resultLength}
+use Rattle.run_setup.specs.Setup.{maxBands, layout, epfOn, itersFit, fullFits, heightFits, countFits, bandCount, setupFits, sized, setLength, sigmaLength, resultRegion, resultLength}
 use Rattle.run_record.specs.Record.{advanced, finished, runFits, overChecks}
 use Rattle.refusals.proofs.Tables.{is-true, met, met-given, none-zero, row-passed}
 use Rattle.run_setup.proofs.Laws.{fits-setup}
@@ -59,7 +59,7 @@ picture-fits n h e =
         gabor = met (gaborFits (s .settings)) (passed 14);
         height-least = leb→le 1 (s .«band_height») (and-l (leb 1 (s .«band_height»)) (leb (s .«band_height») 16384) height);
         height-most = leb→le (s .«band_height») 16384 (and-r (leb 1 (s .«band_height»)) (leb (s .«band_height») 16384) height);
-        count = leb→le (bandCount s) 256 count;
+        count = leb→le (bandCount s) maxBands count;
       });
       first = eqb→eq (length (h .first)) (setLength n s) (and-l (eqb (length (h .first)) (setLength n s)) (eqb (length (h .second)) (setLength n s)) set);
       second = eqb→eq (length (h .second)) (setLength n s) (and-r (eqb (length (h .first)) (setLength n s)) (eqb (length (h .second)) (setLength n s)) set);

@@ -6,6 +6,7 @@ use lib.ListN.{length, length-set, length-replicate}
 use lib.Seq.{getD-set-same, getD-set-other}
 use Rattle.run_setup.specs.declared.Setup.{Setup}
 use Rattle.run_record.specs.declared.Run.{Run}
+use Rattle.run_setup.specs.Setup.{maxBands}
 use Rattle.run_record.specs.Record.{isDone, started, marked, advanced}
 use Rattle.run_record.proofs.Laws.{none-done}
 
@@ -13,9 +14,9 @@ pub started-none : (s : Setup) (k : ℕ) → isDone (started s) k ≡ false
 unfolding started isDone
 started-none s k = rw (none-done k)
 
-pub started-flags : (s : Setup) → length (started s .done) ≡ 256
+pub started-flags : (s : Setup) → length (started s .done) ≡ maxBands
 unfolding started
-started-flags s = length-replicate {A = ℕ} 256 0
+started-flags s = length-replicate {A = ℕ} maxBands 0
 
 pub marked-same : (r : Run) (k : ℕ) → k < length (r .done) → isDone (marked r k) k ≡ true
 unfolding marked isDone
@@ -33,6 +34,6 @@ pub advanced-none : (r : Run) (k : ℕ) → isDone (advanced r) k ≡ false
 unfolding advanced isDone
 advanced-none r k = rw (none-done k)
 
-pub advanced-flags : (r : Run) → length (advanced r .done) ≡ 256
+pub advanced-flags : (r : Run) → length (advanced r .done) ≡ maxBands
 unfolding advanced
-advanced-flags r = length-replicate {A = ℕ} 256 0
+advanced-flags r = length-replicate {A = ℕ} maxBands 0

@@ -15,7 +15,7 @@ use Rattle.run_passes.specs.Plan.{oneIf}
 use Rattle.run_setup.specs.declared.Setup.{Setup}
 use Rattle.run_record.specs.declared.Run.{Run}
 use Rattle.refusals.proofs.Tables.{is-true, of-true}
-use Rattle.run_setup.specs.Setup.{bandCount, setupFits}
+use Rattle.run_setup.specs.Setup.{maxBands, bandCount, setupFits}
 use Rattle.run_setup.specs.SetupFits.{SetupFits}
 use Rattle.run_setup.proofs.Laws.{setup-fits}
 use Rattle.run_record.specs.Record.{passCount, isDone, noneDone, started, marked, advanced, finished, bandMissing, notOpen, notOver, openBands, strayFlag, strayDone, runFits}
@@ -56,8 +56,8 @@ run-fits r t =
       stray = λ k l o. let z : getD (r .done) k 0 ≡ 0 = flag-none (openBands r) k (getD (r .done) k 0) (fair none k l) o in rw z;
     }
   where
-    fair : strayDone r ≡ false → (k : ℕ) → k < 256 → strayFlag (openBands r) k (getD (r .done) k 0) ≡ false
-    fair none k l = none-below 256 k (λ k. strayFlag (openBands r) k (getD (r .done) k 0)) none l
+    fair : strayDone r ≡ false → (k : ℕ) → k < maxBands → strayFlag (openBands r) k (getD (r .done) k 0) ≡ false
+    fair none k l = none-below maxBands k (λ k. strayFlag (openBands r) k (getD (r .done) k 0)) none l
 
 -- the same of a test's answer
 pub fits-setup-of : (r : Run) → runFits r ≡ true → SetupFits (r .setup)
@@ -66,7 +66,7 @@ fits-setup-of r e = setup-fits (r .setup) (run-fits r (of-true (runFits r) e) .s
 pub fits-run : (r : Run) → RunFits r → T (runFits r)
 unfolding runFits strayDone isDone
 fits-run r f =
-    let none : strayDone r ≡ false = none-has 256 (λ k. strayFlag (openBands r) k (getD (r .done) k 0)) (λ k l. not-stray (openBands r) k (getD (r .done) k 0) (f .flag k l) (f .stray k l)) in
+    let none : strayDone r ≡ false = none-has maxBands (λ k. strayFlag (openBands r) k (getD (r .done) k 0)) (λ k l. not-stray (openBands r) k (getD (r .done) k 0) (f .flag k l) (f .stray k l)) in
     and-i (setupFits (r .setup)) (leb (r .pass) (passCount (r .setup)) && not (strayDone r)) (f .setup)
     (and-i (leb (r .pass) (passCount (r .setup))) (not (strayDone r)) (le→leb (r .pass) (passCount (r .setup)) (f .pass)) (rw none tt))
 
@@ -106,7 +106,7 @@ over-pass r o =
 
 -- no band is done after a start and after an advance
 pub none-done : (k : ℕ) → _≡_ {A = ℕ} (getD noneDone k 0) 0
-none-done k = go 256 k
+none-done k = go maxBands k
   where
     go : (n k : ℕ) → _≡_ {A = ℕ} (getD (replicate n 0) k 0) 0
     go zero k = refl

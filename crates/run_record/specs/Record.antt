@@ -12,7 +12,7 @@ use Rattle.sigma_grids.specs.Table.{someBelow}
 use Rattle.run_passes.specs.Plan.{oneIf, plan}
 use Rattle.run_setup.specs.declared.Setup.{Setup}
 use Rattle.run_record.specs.declared.Run.{Run}
-use Rattle.run_setup.specs.Setup.{bandCount, setupFits}
+use Rattle.run_setup.specs.Setup.{maxBands, bandCount, setupFits}
 
 -- how many passes the settings ask for
 abbrev pub passCount : Setup → ℕ
@@ -21,9 +21,9 @@ passCount s = length (plan 3 (s .settings))
 unfoldable pub isDone : Run → ℕ → Bool
 isDone r k = flagSet (getD (r .done) k 0)
 
--- no band is done: 256 zeros
+-- no band is done: a zero for each band that there may be
 abbrev pub noneDone : List ℕ
-noneDone = replicate 256 0
+noneDone = replicate maxBands 0
 
 -- ---- as calls make it
 
@@ -68,7 +68,7 @@ abbrev pub strayFlag : ℕ → ℕ → ℕ → Bool
 strayFlag bands k flag = ltb (oneIf (ltb k bands)) flag
 
 unfoldable pub strayDone : Run → Bool
-strayDone r = someBelow 256 (λ k. strayFlag (openBands r) k (getD (r .done) k 0))
+strayDone r = someBelow maxBands (λ k. strayFlag (openBands r) k (getD (r .done) k 0))
 
 -- what start was told is in range, and the pass and the done bands are some to which accepted calls lead (Reached, and its two laws)
 unfoldable pub runFits : Run → Bool

@@ -15,7 +15,7 @@ ghost use Prim.Native.Nat.{ℕ, _<_, _≤_};
 ghost use lib.ListN.{getD};
 ghost use Rattle.refusals.specs.Checks.{firstOf};
 ghost use Rattle.sigma_grids.specs.Table.{someBelow};
-ghost use Rattle.run_setup.specs.Setup.{bandCount};
+ghost use Rattle.run_setup.specs.Setup.{maxBands, bandCount};
 ghost use Rattle.run_record.specs.Record.{isDone, strayFlag, finished, openBands, runFits, notOpen, openChecks, overChecks, finishedChecks};
 
 // `pass` counts the passes that are over; `done` has a flag for each band of the next one: 1 where it is done.
@@ -23,11 +23,11 @@ ghost use Rattle.run_record.specs.Record.{isDone, strayFlag, finished, o
 pub struct Run {
     pub setup: Setup,
     pub pass: u32,
-    pub done: [u8; 256],
+    pub done: [u8; MAX_BANDS],
 }
 
 fn is_done(r: Run, k: usize) -> bool
-    requires { ⌜ k < 256 ⌝ }
+    requires { ⌜ k < maxBands ⌝ }
     ensures { λ b. ⌜ b ≡ isDone r k ⌝ }
 {
     flag_set(r.done[k] as u32)
@@ -44,7 +44,7 @@ fn stray(bands: usize, k: usize, flag: u8) -> bool
 }
 
 fn stray_done(r: Run, bands: usize) -> bool
-    ensures { λ b. ⌜ b ≡ someBelow 256 (λ (k : ℕ). strayFlag bands k (getD (r .done) k 0)) ⌝ }
+    ensures { λ b. ⌜ b ≡ someBelow maxBands (λ (k : ℕ). strayFlag bands k (getD (r .done) k 0)) ⌝ }
 {
     let done = r.done;
     let mut k = 0;
@@ -59,7 +59,7 @@ fn stray_done(r: Run, bands: usize) -> bool
 
 // Whether one of the first n bands is not done.
 fn band_missing(r: Run, n: usize) -> bool
-    requires { ⌜ n ≤ 256 ⌝ }
+    requires { ⌜ n ≤ maxBands ⌝ }
     ensures { λ b. ⌜ b ≡ someBelow n (λ (k : ℕ). not (isDone r k)) ⌝ }
 {
     let done = r.done;
@@ -105,7 +105,7 @@ pub fn run_fits(r: Run) -> bool
 
 // Whether the run is finished, there is no band k, or it is done.
 fn not_open(r: Run, k: usize) -> bool
-    requires { ⌜ bandCount (r .setup) ≤ 256 ⌝ }
+    requires { ⌜ bandCount (r .setup) ≤ maxBands ⌝ }
     ensures { λ b. ⌜ b ≡ notOpen r k ⌝ }
 {
     if finished(r) {

@@ -19,7 +19,7 @@ use Rattle.region_placement.specs.Blocks.{onBlocks}
 use Rattle.run_passes.specs.Plan.{gaborFits}
 use Rattle.run_setup.specs.declared.Setup.{Setup}
 use Rattle.refusals.proofs.Tables.{is-true}
-use Rattle.run_setup.specs.Setup.{fullPlanes, fullFits, numbersFit, layout, epfOn, rowCount, bandCount, bandFrom, bandTo, sized, resultRegion, itersFit, blocksFit, heightFits, countFits, setupFits}
+use Rattle.run_setup.specs.Setup.{maxBands, fullPlanes, fullFits, numbersFit, layout, epfOn, rowCount, bandCount, bandFrom, bandTo, sized, resultRegion, itersFit, blocksFit, heightFits, countFits, setupFits}
 use Rattle.run_setup.specs.SetupFits.{SetupFits}
 
 blocks-are : (on b : Bool) → T (cond on b true) → T on → T b
@@ -52,7 +52,7 @@ setup-fits s t =
       gabor = and-l gabor bands (and-r (fullFits s) (gabor && bands) flags);
       height-least = leb→le 1 (s .«band_height») (and-l (leb 1 (s .«band_height»)) (leb (s .«band_height») 16384) h);
       height-most = leb→le (s .«band_height») 16384 (and-r (leb 1 (s .«band_height»)) (leb (s .«band_height») 16384) h);
-      count = leb→le (bandCount s) 256 (and-r (heightFits s) (countFits s) u);
+      count = leb→le (bandCount s) maxBands (and-r (heightFits s) (countFits s) u);
     }
 
 pub fits-setup : (s : Setup) → SetupFits s → T (setupFits s)
@@ -68,7 +68,7 @@ fits-setup s f =
     (and-i (fullFits s) (gabor && bands) (f .full) (and-i gabor bands (f .gabor)
     (and-i (heightFits s) (countFits s)
     (and-i (leb 1 (s .«band_height»)) (leb (s .«band_height») 16384) (le→leb 1 (s .«band_height») (f .height-least)) (le→leb (s .«band_height») 16384 (f .height-most)))
-    (le→leb (bandCount s) 256 (f .count))))))
+    (le→leb (bandCount s) maxBands (f .count))))))
 
 -- sides and area of a picture's region
 pub pictured-sized : (r : Region) → T (pictured r) → sized r ≡ true

@@ -18,7 +18,7 @@ use Rattle.region_placement.specs.Blocks.{onBlocks}
 use Rattle.run_passes.specs.Plan.{gaborFits}
 use Rattle.run_setup.specs.declared.Setup.{Setup}
 use Rattle.refusals.proofs.Tables.{is-true}
-use Rattle.run_setup.specs.Setup.{fullPlanes, fullFits, rowCount, bandCount, sized, blocksFit, heightFits, numbersFit, setupFits}
+use Rattle.run_setup.specs.Setup.{maxBands, fullPlanes, fullFits, rowCount, bandCount, sized, blocksFit, heightFits, numbersFit, setupFits}
 
 -- ---- a region's sides and area
 
@@ -89,7 +89,7 @@ module _ (s : Setup) where
         unfolding numbersFit
         no-height-fits h = rw (le-leb (s .settings .epf .iters) 3 i, f, g, h)
 
-        pub fits-by-count : heightFits s ≡ true → leb (bandCount s) 256 ≡ numbersFit s
+        pub fits-by-count : heightFits s ≡ true → leb (bandCount s) maxBands ≡ numbersFit s
         unfolding numbersFit
         fits-by-count h = rw (le-leb (s .settings .epf .iters) 3 i, f, g, h)
 

@@ -17,6 +17,10 @@ use Rattle.run_passes.specs.Pass.{Area}
 use Rattle.run_passes.specs.Plan.{gaborFits, iterationsFit}
 use Rattle.run_setup.specs.declared.Setup.{Setup}
 
+-- the most bands that a pass may have (Specification 4.1), and how many flags a record has
+abbrev pub maxBands : ℕ
+maxBands = 256
+
 -- the result is the full planes, or else the filter region's part
 abbrev pub fullPlanes : Setup → Bool
 fullPlanes s = flagSet (s .«preserve_outside»)
@@ -68,7 +72,7 @@ abbrev pub heightFits : Setup → Bool
 heightFits s = leb 1 (s .«band_height») && leb (s .«band_height») 16384
 
 abbrev pub countFits : Setup → Bool
-countFits s = leb (bandCount s) 256
+countFits s = leb (bandCount s) maxBands
 
 -- the iterations, both flags, the band height and the count of bands
 unfoldable pub numbersFit : Setup → Bool

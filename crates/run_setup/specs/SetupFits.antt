@@ -6,7 +6,7 @@ use Rattle.region.specs.Measures.{pictured}
 use Rattle.region_placement.specs.Blocks.{onBlocks}
 use Rattle.run_passes.specs.Plan.{gaborFits}
 use Rattle.run_setup.specs.declared.Setup.{Setup}
-use Rattle.run_setup.specs.Setup.{fullFits, epfOn, bandCount}
+use Rattle.run_setup.specs.Setup.{maxBands, fullFits, epfOn, bandCount}
 
 -- what start would not refuse under 4, 5, 6 and 9
 pub record SetupFits (s : Setup) : Type 0 where
@@ -19,4 +19,4 @@ pub record SetupFits (s : Setup) : Type 0 where
   pub gabor : T (gaborFits (s .settings))
   pub height-least : 1 ≤ s .«band_height»
   pub height-most : s .«band_height» ≤ 16384
-  pub count : bandCount s ≤ 256
+  pub count : bandCount s ≤ maxBands

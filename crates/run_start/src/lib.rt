@@ -16,6 +16,7 @@ use run_passes::MAX_ITERS;
 use run_passes::Settings;
 use run_passes::gabor_settings;
 use run_record::Run;
+use run_setup::MAX_BANDS;
 use run_setup::Setup;
 use run_setup::numbers_fit;
 use sigma::block_sigmas;
@@ -153,7 +154,7 @@ fn started(setup: Setup) -> Run
     Run {
         setup,
         pass: 0,
-        done: [0; 256],
+        done: [0; MAX_BANDS],
     }
 }
 

@@ -7,15 +7,16 @@ use borrow.Author.Needs.{needs}
 use lib.ListN.{getD}
 use Rattle.sigma_grids.specs.Table.{someBelow}
 use Rattle.sigma_grids.proofs.Laws.{some-found, some-turn, some-end}
+use Rattle.run_setup.specs.Setup.{maxBands}
 use Rattle.run_record.specs.Record.{strayFlag}
 use Rattle.run_record.proofs.stray_done.Statement.{statement}
 use Rattle.run_record.proofs.stray_done.Tie as tie
 
 abbrev Inv-loop : tie.InvT-loop
-Inv-loop bands done k₀ k = (k ≤ 256) × (someBelow k (λ (i : ℕ). strayFlag bands i (getD done i 0)) ≡ false)
+Inv-loop bands done k₀ k = (k ≤ maxBands) × (someBelow k (λ (i : ℕ). strayFlag bands i (getD done i 0)) ≡ false)
 
 abbrev μ-loop : tie.MeasureT-loop
-μ-loop bands done k₀ k = 256 - k
+μ-loop bands done k₀ k = maxBands - k
 
 loop-holds : tie.Need-loop-holds Inv-loop μ-loop
 unfolding someBelow

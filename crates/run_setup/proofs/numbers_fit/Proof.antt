@@ -7,7 +7,7 @@ use borrow.Author.Needs.{needs}
 use borrow.Author.Tests.{not-true, not-false}
 use lib.Dec.{leb}
 use Rattle.run_passes.specs.Plan.{gaborFits}
-use Rattle.run_setup.specs.Setup.{fullFits}
+use Rattle.run_setup.specs.Setup.{maxBands, fullFits}
 use Rattle.run_setup.proofs.Tests.{too-many-iters, no-full-fits, no-gabor-fits, no-height-fits, fits-by-count}
 use Rattle.run_setup.proofs.numbers_fit.Statement.{statement}
 use Rattle.run_setup.proofs.numbers_fit.Tie as tie
@@ -31,5 +31,5 @@ numbers-fit-spec =
     (λ c κs. search needs)
     (λ c. no-height-fits (c .before .before .before .before .before .before .before .before .args .s) (omega arith) (full (c .before .before .before .before)) (gabor (c .before .before)) (sym (c .before .height-fits .ensures) ∙ not-true _ (c .if4 .taken)))
     (λ c κs. search needs)
-    (λ c. ap (λ (k : ℕ). leb k 256) (c .band-count .ensures)
+    (λ c. ap (λ (k : ℕ). leb k maxBands) (c .band-count .ensures)
     ∙ fits-by-count (c .before .before .before .before .before .before .before .before .before .args .s) (omega arith) (full (c .before .before .before .before .before)) (gabor (c .before .before .before)) (sym (c .before .before .height-fits .ensures) ∙ not-false _ (c .before .if4 .left))))
