@@ -17,11 +17,12 @@ use Rattle.run_setup.specs.declared.Setup.{Setup}
 use Rattle.run_record.specs.declared.Run.{Run}
 use Rattle.run_setup.specs.Setup.{maxBands, fullPlanes, epfOn, rowCount, bandCount, bandFrom, bandTo, sized, itersFit, setLength, sigmaLength}
 use Rattle.run_record.specs.Record.{marked, openChecks}
-use Rattle.refusals.proofs.Tables.{of-true, met-given, row-passed}
+use Rattle.refusals.proofs.Tables.{of-true, met-given}
 use Rattle.run_setup.specs.SetupFits.{SetupFits}
 use Rattle.run_setup.proofs.Laws.{setup-fits, image-sized, filter-sized}
 use Rattle.run_record.proofs.Laws.{pass-left}
 use Rattle.run_outcomes.specs.Band.{State, BandOutcome, setCheck, sigmaCheck, readsFirst, source, target, bandChecks, bandNumber, banded, bandOutcome}
+use Rattle.run_outcomes.proofs.Rows.{Row, here, below, row-passed}
 use Rattle.run_outcomes.proofs.Laws.{BandFits, band-fits}
 use Rattle.run_band.specs.Rows.{RowsFit, passedRows, bandWritten}
 
@@ -41,7 +42,7 @@ module _ (t : State) (k : ℕ) (e : bandNumber 3 t k ≡ 0) where
   unfolding bandChecks
   sets =
       met-given (sized (s .image)) (eqb (length (t .first)) (setLength 3 s) && eqb (length (t .second)) (setLength 3 s))
-      (row-passed (bandChecks 3 t k) tt e 0) (of-true (sized (s .image)) (image-sized s setup))
+      (row-passed (bandChecks 3 t k) tt e (setCheck 3 s (length (t .first)) (length (t .second))) (search (here, below) depth 20)) (of-true (sized (s .image)) (image-sized s setup))
 
   first-length : length (t .first) ≡ setLength 3 s
   first-length = eqb→eq _ _ (and-l (eqb (length (t .first)) (setLength 3 s)) (eqb (length (t .second)) (setLength 3 s)) sets)
@@ -60,7 +61,7 @@ module _ (t : State) (k : ℕ) (e : bandNumber 3 t k ≡ 0) where
   sigma-length : length (t .sigmas) ≡ sigmaLength s
   unfolding bandChecks
   sigma-length =
-      eqb→eq _ _ (met-given (itersFit s && (not (epfOn s) || sized (s .filter))) (eqb (length (t .sigmas)) (sigmaLength s)) (row-passed (bandChecks 3 t k) tt e 1) sigma-known)
+      eqb→eq _ _ (met-given (itersFit s && (not (epfOn s) || sized (s .filter))) (eqb (length (t .sigmas)) (sigmaLength s)) (row-passed (bandChecks 3 t k) tt e (sigmaCheck 3 s (length (t .sigmas))) (search (here, below) depth 20)) sigma-known)
 
   -- numbers of the machine
   pub record Room : Type 0 where

@@ -19,14 +19,15 @@ use Rattle.region_placement.specs.Blocks.{onBlocks}
 use Rattle.run_passes.specs.Plan.{gaborFits}
 use Rattle.run_record.specs.declared.Run.{Run}
 use Rattle.run_setup.specs.Setup.{maxBands, layout, epfOn, itersFit, fullFits, heightFits, countFits, bandCount, setupFits, sized, setLength, sigmaLength, resultRegion, resultLength}
-use Rattle.run_record.specs.Record.{advanced, finished, runFits, overChecks}
-use Rattle.refusals.proofs.Tables.{is-true, met, met-given, none-zero, row-passed}
+use Rattle.run_record.specs.Record.{advanced, finished, runFits, runInRange, bandOpen, passDone, overChecks}
+use Rattle.refusals.proofs.Tables.{is-true, met, met-given, none-zero}
 use Rattle.run_setup.proofs.Laws.{fits-setup}
 use Rattle.run_record.specs.RunFits.{RunFits}
 use Rattle.run_record.proofs.Laws.{run-fits, fits-run, Open, band-open, open-band, Over, pass-over, over-pass}
-use Rattle.run_outcomes.specs.Start.{Handed, blocksOf, pictureChecks, startNumber, startLeaves, sigmasFilled, startAccepted, startRefused, startOutcome}
+use Rattle.run_outcomes.specs.Start.{Handed, blocksOf, regionSides, filterInside, filterOnBlocks, setLengths, sigmasLength, itersInRange, fullInRange, gaborInRange, heightInRange, countInRange, orElse, pictureChecks, tailChecks, startChecks, startNumber, startLeaves, sigmasFilled, startAccepted, startRefused, startOutcome}
 use Rattle.run_outcomes.specs.Band.{State, readsFirst, bandChecks, bandNumber, bandAccepted, bandOutcome, advanceNumber, advanceOutcome}
 use Rattle.run_outcomes.specs.Result.{resultChecks, resultNumber, resultOf, resultOutcome}
+use Rattle.run_outcomes.proofs.Rows.{Row, here, below, row-passed, first-joined, joined-none}
 
 -- ---- start
 
@@ -42,28 +43,28 @@ unfolding pictureChecks
 picture-fits n h e =
     let s = h .setup in
     let passed = row-passed (pictureChecks n h) tt e in
-    let pictures = met (pictured (s .image) && pictured (s .filter)) (passed 0) in
-    let set = met (eqb (length (h .first)) (setLength n s) && eqb (length (h .second)) (setLength n s)) (passed 5) in
-    let iters : T (itersFit s) = met (itersFit s) (passed 10) in
-    let full : T (fullFits s) = met (fullFits s) (passed 13) in
-    let height : T (heightFits s) = met (heightFits s) (passed 15) in
-    let count : T (countFits s) = met-given (fullFits s && heightFits s) (countFits s) (passed 16) (and-i (fullFits s) (heightFits s) full height) in
+    let pictures = met (pictured (s .image) && pictured (s .filter)) (passed (regionSides s) (search (here, below) depth 20)) in
+    let set = met (eqb (length (h .first)) (setLength n s) && eqb (length (h .second)) (setLength n s)) (passed (setLengths n h) (search (here, below) depth 20)) in
+    let iters : T (itersFit s) = met (itersFit s) (passed (itersInRange s) (search (here, below) depth 20)) in
+    let full : T (fullFits s) = met (fullFits s) (passed (fullInRange s) (search (here, below) depth 20)) in
+    let height : T (heightFits s) = met (heightFits s) (passed (heightInRange s) (search (here, below) depth 20)) in
+    let count : T (countFits s) = met-given (fullFits s && heightFits s) (countFits s) (passed (countInRange s) (search (here, below) depth 20)) (and-i (fullFits s) (heightFits s) full height) in
     record {
       setup = fits-setup s (record {
         image = and-l (pictured (s .image)) (pictured (s .filter)) pictures;
         filter = and-r (pictured (s .image)) (pictured (s .filter)) pictures;
-        contained = met (inside (s .image) (s .filter)) (passed 3);
-        blocks = λ on. met-given (itersFit s && epfOn s) (onBlocks (s .filter)) (passed 4) (and-i (itersFit s) (epfOn s) iters on);
+        contained = met (inside (s .image) (s .filter)) (passed (filterInside s) (search (here, below) depth 20));
+        blocks = λ on. met-given (itersFit s && epfOn s) (onBlocks (s .filter)) (passed (filterOnBlocks s) (search (here, below) depth 20)) (and-i (itersFit s) (epfOn s) iters on);
         iterations = leb→le (s .settings .epf .iters) 3 iters;
         full = full;
-        gabor = met (gaborFits (s .settings)) (passed 14);
+        gabor = met (gaborFits (s .settings)) (passed (gaborInRange s) (search (here, below) depth 20));
         height-least = leb→le 1 (s .«band_height») (and-l (leb 1 (s .«band_height»)) (leb (s .«band_height») 16384) height);
         height-most = leb→le (s .«band_height») 16384 (and-r (leb 1 (s .«band_height»)) (leb (s .«band_height») 16384) height);
         count = leb→le (bandCount s) maxBands count;
       });
       first = eqb→eq (length (h .first)) (setLength n s) (and-l (eqb (length (h .first)) (setLength n s)) (eqb (length (h .second)) (setLength n s)) set);
       second = eqb→eq (length (h .second)) (setLength n s) (and-r (eqb (length (h .first)) (setLength n s)) (eqb (length (h .second)) (setLength n s)) set);
-      sigmas = eqb→eq (length (h .sigmas)) (sigmaLength s) (met-given (itersFit s) (eqb (length (h .sigmas)) (sigmaLength s)) (passed 8) iters);
+      sigmas = eqb→eq (length (h .sigmas)) (sigmaLength s) (met-given (itersFit s) (eqb (length (h .sigmas)) (sigmaLength s)) (passed (sigmasLength h) (search (here, below) depth 20)) iters);
     }
 
 -- the block sigmas that start fills have the length of those that it was lent
@@ -82,9 +83,15 @@ pub leaves-length : (n : ℕ) (h : Handed) → length (startLeaves n h) ≡ leng
 unfolding startLeaves
 leaves-length n h = refl
 
+-- its number is the first of the picture's checks, or else of the tail's
+pub start-parts : (n : ℕ) (h : Handed) → startNumber n h ≡ orElse (firstOf (pictureChecks n h)) (firstOf (tailChecks n h))
+unfolding startChecks pictureChecks
+start-parts n h = first-joined (pictureChecks n h) (tailChecks n h) tt
+
 -- a start that is accepted: the picture would not be refused
 pub start-picture : (n : ℕ) (h : Handed) → startNumber n h ≡ 0 → firstOf (pictureChecks n h) ≡ 0
-start-picture n h e = e
+unfolding startChecks pictureChecks
+start-picture n h e = joined-none (pictureChecks n h) (tailChecks n h) tt e
 
 -- ---- outcomes: their numbers, and what accepted and refused calls leave
 
@@ -152,7 +159,10 @@ pub band-fits : (n : ℕ) (t : State) (k : ℕ) → bandNumber n t k ≡ 0 → B
 unfolding bandChecks
 band-fits n t k e =
     let passed = row-passed (bandChecks n t k) tt e in
-    record { run = run-fits (t .run) (met (runFits (t .run)) (passed 2)); band = band-open (t .run) k (passed 3) }
+    record {
+      run = run-fits (t .run) (met (runFits (t .run)) (passed (runInRange (t .run)) (search (here, below) depth 20)));
+      band = band-open (t .run) k (passed (bandOpen (t .run) k) (search (here, below) depth 20));
+    }
 
 -- what an accepted advance was lent
 pub record AdvanceFits (r : Run) : Type 0 where
@@ -162,7 +172,7 @@ pub record AdvanceFits (r : Run) : Type 0 where
 pub advance-fits : (r : Run) → advanceNumber r ≡ 0 → AdvanceFits r
 advance-fits r e =
     let passed = row-passed (overChecks r) tt e in
-    record { run = run-fits r (met (runFits r) (passed 0)); pass = pass-over r (passed 1) }
+    record { run = run-fits r (met (runFits r) (passed (runInRange r) (search (here, below) depth 20))); pass = pass-over r (passed (passDone r) (search (here, below) depth 20)) }
 
 and-none : (needs b : Bool) → T b → (needs && not b) ≡ false
 and-none true b t = rw (is-true b t)

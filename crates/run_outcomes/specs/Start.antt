@@ -1,6 +1,6 @@
--- Start: everything that it is handed, which number it gives, and what it leaves (document 01, "Runs", "Eleven numbers", "Block sigmas"). Definitions only.
+-- Start: everything that it is handed, which number it gives, and what it leaves (Specification 12.6, 12.7). Definitions only.
 use mathlib.Core.Bool.{Bool, cond, not, _&&_}
-use mathlib.Core.List.{List, [], _∷_}
+use mathlib.Core.List.{List, [], _∷_, _++_}
 use Prim.Native.Nat.{ℕ, _/_}
 use lib.Dec.{eqb}
 use lib.ListN.{length}
@@ -37,39 +37,84 @@ pub record Handed : Type 0 where
 abbrev pub blocksOf : Setup → Blocks
 blocksOf s = record { left = ahead (s .filter .left) / 8; top = ahead (s .filter .top) / 8; width = s .filter .width; height = s .filter .height }
 
+-- ---- the rows of start's table, by name; those of a frame with its group table and grids are `sigma_groups`'
+
+-- iterations in range, and the edge filter on
+abbrev pub runsEpf : Setup → Bool
+runsEpf s = itersFit s && epfOn s
+
+abbrev pub regionSides : Setup → Check
+regionSides s = always outOfMeasure (not (pictured (s .image) && pictured (s .filter)))
+
+abbrev pub filterInside : Setup → Check
+filterInside s = always notInside (not (inside (s .image) (s .filter)))
+
+abbrev pub filterOnBlocks : Setup → Check
+filterOnBlocks s = given (runsEpf s) notOnBlocks (not (onBlocks (s .filter)))
+
+-- lengths of both sets, and of the block sigmas
+abbrev pub setLengths : ℕ → Handed → Check
+setLengths n h = always wrongLength (not (eqb (length (h .first)) (setLength n (h .setup)) && eqb (length (h .second)) (setLength n (h .setup))))
+
+abbrev pub sigmasLength : Handed → Check
+sigmasLength h = given (itersFit (h .setup)) wrongLength (not (eqb (length (h .sigmas)) (sigmaLength (h .setup))))
+
+-- A group whose presence is out of range counts as not present.
+abbrev pub blocksHeld : Handed → Check
+blocksHeld h = given (runsEpf (h .setup) && tableRead (h .frame) (h .table)) blockNotHeld (someNotHeld (h .frame) (blocksOf (h .setup)) (h .table))
+
+abbrev pub itersInRange : Setup → Check
+itersInRange s = always outOfRange (not (itersFit s))
+
+abbrev pub fullInRange : Setup → Check
+fullInRange s = always outOfRange (not (fullFits s))
+
+abbrev pub gaborInRange : Setup → Check
+gaborInRange s = always outOfRange (not (gaborFits (s .settings)))
+
+abbrev pub heightInRange : Setup → Check
+heightInRange s = always outOfRange (not (heightFits s))
+
+abbrev pub countInRange : Setup → Check
+countInRange s = given (fullFits s && heightFits s) outOfRange (not (countFits s))
+
+-- a number, or the other where it is 0
+abbrev pub orElse : ℕ → ℕ → ℕ
+orElse a b = cond (eqb a 0) b a
+
 module _ (n : ℕ) (h : Handed) where
   abbrev setup : Setup
   setup = h .setup
 
-  -- iterations in range, and the edge filter on
-  abbrev runsEpf : Bool
-  runsEpf = itersFit setup && epfOn setup
-
-  -- Document 01's numbers 4 to 9, ascending: each check with the settings that it needs. A group whose presence is out of range counts as not present.
+  -- The numbers 4 to 9 of Specification 12.6, ascending: each check with the settings that it needs.
   unfoldable pub pictureChecks : List Check
   pictureChecks =
-      always outOfMeasure (not (pictured (setup .image) && pictured (setup .filter)))
+      regionSides setup
       ∷ frameSides (h .frame)
       ∷ gridSides (h .frame) (h .table)
-      ∷ always notInside (not (inside (setup .image) (setup .filter)))
-      ∷ given runsEpf notOnBlocks (not (onBlocks (setup .filter)))
-      ∷ always wrongLength (not (eqb (length (h .first)) (setLength n setup) && eqb (length (h .second)) (setLength n setup)))
+      ∷ filterInside setup
+      ∷ filterOnBlocks setup
+      ∷ setLengths n h
       ∷ tableLength (h .frame) (h .table)
       ∷ gridsLength (h .frame) (h .table) (h .grids)
-      ∷ given (itersFit setup) wrongLength (not (eqb (length (h .sigmas)) (sigmaLength setup)))
-      ∷ given (runsEpf && tableRead (h .frame) (h .table)) blockNotHeld (someNotHeld (h .frame) (blocksOf setup) (h .table))
-      ∷ always outOfRange (not (itersFit setup))
+      ∷ sigmasLength h
+      ∷ blocksHeld h
+      ∷ itersInRange setup
       ∷ frameSettings (h .frame)
       ∷ presences (h .frame) (h .table)
-      ∷ always outOfRange (not (fullFits setup))
-      ∷ always outOfRange (not (gaborFits (setup .settings)))
-      ∷ always outOfRange (not (heightFits setup))
-      ∷ given (fullFits setup && heightFits setup) outOfRange (not (countFits setup))
+      ∷ fullInRange setup
+      ∷ gaborInRange setup
+      ∷ heightInRange setup
+      ∷ countInRange setup
       ∷ []
 
-  -- what start checks: so far these alone
-  abbrev pub startChecks : List Check
-  startChecks = pictureChecks
+  -- what start checks where none of these applies, in this order: so far nothing
+  abbrev pub tailChecks : List Check
+  tailChecks = []
+
+  -- what start checks. `start-picture` is all that the theorem knows of it.
+  unfoldable pub startChecks : List Check
+  startChecks = pictureChecks ++ tailChecks
 
   abbrev pub startNumber : ℕ
   startNumber = firstOf startChecks

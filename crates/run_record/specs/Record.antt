@@ -82,14 +82,26 @@ pub data Reached (s : Setup) : Run → Type 0 where
 
 -- ---- the numbers that a record alone gives
 
+abbrev pub runInRange : Run → Check
+runInRange r = always outOfRange (not (runFits r))
+
+abbrev pub bandOpen : Run → ℕ → Check
+bandOpen r k = always bandNotOpen (notOpen r k)
+
+abbrev pub passDone : Run → Check
+passDone r = always passNotDone (notOver r)
+
+abbrev pub runFinished : Run → Check
+runFinished r = always passNotDone (not (finished r))
+
 -- for a band: 9, then 10
 abbrev pub openChecks : Run → ℕ → List Check
-openChecks r k = always outOfRange (not (runFits r)) ∷ always bandNotOpen (notOpen r k) ∷ []
+openChecks r k = runInRange r ∷ bandOpen r k ∷ []
 
 -- for an advance: 9, then 11
 abbrev pub overChecks : Run → List Check
-overChecks r = always outOfRange (not (runFits r)) ∷ always passNotDone (notOver r) ∷ []
+overChecks r = runInRange r ∷ passDone r ∷ []
 
 -- for the result: 9, then 11
 abbrev pub finishedChecks : Run → List Check
-finishedChecks r = always outOfRange (not (runFits r)) ∷ always passNotDone (not (finished r)) ∷ []
+finishedChecks r = runInRange r ∷ runFinished r ∷ []

@@ -1,4 +1,4 @@
--- Start's number is the lowest of its pieces', and so what the pieces answer is start's outcome. Assumes nothing.
+-- The picture's number is the lowest of its pieces', start's number is that or else the tail's, and so what the pieces answer is start's outcome. Assumes nothing.
 use mathlib.Core.Path.{_≡_, refl, sym, ap, subst, _∙_}
 use mathlib.Core.Bool.{Bool, true, false, cond, not, _&&_}
 use mathlib.Core.List.{List, [], _∷_}
@@ -36,10 +36,12 @@ use Rattle.run_record.specs.Record.{started}
 use Rattle.run_setup.proofs.Tests.{sized-by-area}
 use Rattle.run_outcomes.proofs.Tests.{blocks-same}
 use Rattle.run_outcomes.specs.Band.{setCheck}
-use Rattle.run_outcomes.specs.Start.{Handed, StartOutcome, blocksOf, pictureChecks, startNumber, startLeaves, sigmasFilled, noRun, startOutcome}
+use Rattle.run_outcomes.specs.Start.{Handed, StartOutcome, blocksOf, runsEpf, regionSides, filterInside, filterOnBlocks, setLengths, sigmasLength, blocksHeld, pictureChecks, startNumber, startLeaves, sigmasFilled, noRun, startOutcome}
+use Rattle.run_outcomes.proofs.Rows.{or-zero}
+use Rattle.run_outcomes.proofs.Laws.{start-parts}
 use Rattle.run_start.specs.Lowest.{lowest}
 use Rattle.run_start.proofs.LowestLaws.{Parted, none, left, right, first-lowest, lowest-left, lowest-none, ascending-from}
-use Rattle.run_start.specs.Pieces.{runsEpf, epfFlag, sigmasAsked, ownChecks, numberOf, toldChecks}
+use Rattle.run_start.specs.Pieces.{epfFlag, sigmasAsked, ownChecks, numberOf, toldChecks}
 
 -- ---- a region of a picture, as the pieces judge it
 
@@ -121,8 +123,8 @@ module _ (n : ℕ) (h : Handed) where
 
   abbrev ownRows : List Check
   ownRows =
-      given (runsEpf s) notOnBlocks (not (onBlocks (s .filter)))
-      ∷ always wrongLength (not (eqb (length (h .first)) (setLength n s) && eqb (length (h .second)) (setLength n s)))
+      filterOnBlocks s
+      ∷ setLengths n h
       ∷ toldChecks s
 
   abbrev groupRows : List Check
@@ -131,8 +133,8 @@ module _ (n : ℕ) (h : Handed) where
       ∷ gridSides f t
       ∷ tableLength f t
       ∷ gridsLength f t (h .grids)
-      ∷ given (itersFit s) wrongLength (not (eqb (length (h .sigmas)) (sigmaLength s)))
-      ∷ given (runsEpf s && tableRead f t) blockNotHeld (someNotHeld f (blocksOf s) t)
+      ∷ sigmasLength h
+      ∷ blocksHeld h
       ∷ frameSettings f
       ∷ presences f t
       ∷ []
@@ -140,16 +142,16 @@ module _ (n : ℕ) (h : Handed) where
   -- all but these: where the regions lie, then `ownRows`
   abbrev placedRows : List Check
   placedRows =
-      always outOfMeasure (not (pictured (s .image) && pictured (s .filter)))
-      ∷ always notInside (not (inside (s .image) (s .filter)))
+      regionSides s
+      ∷ filterInside s
       ∷ ownRows
 
   whole : Parted (pictureChecks n h) placedRows groupRows
   unfolding pictureChecks
-  whole = left (right (right (left (left (left (right (right (right (right (left (right (right (left (left (left (left none))))))))))))))))
+  whole = search (none, left, right) depth 30
 
   placed-own : Parted placedRows (placedChecks (s .image) (s .filter)) ownRows
-  placed-own = left (left (right (right (right (right (right (right (right none))))))))
+  placed-own = search (none, left, right) depth 30
 
   rows-lowest : firstOf (pictureChecks n h) ≡ lowest (lowest (firstOf (placedChecks (s .image) (s .filter))) (firstOf ownRows)) (firstOf groupRows)
   unfolding pictureChecks
@@ -166,16 +168,16 @@ module _ (n : ℕ) (h : Handed) where
   groups-number e =
       rw (blocks-good s e, flag-fits (runsEpf s), flag-set (runsEpf s), sigmas-row (itersFit s) (epfOn s) (length (h .sigmas)) _ _ (count-same s), held-row (tableRead f t) (runsEpf s) (someNotHeld f (blocksOf s) t))
 
-  -- ---- start's number is the lowest of the pieces'
+  -- ---- the picture's number is the lowest of the pieces'
 
   abbrev number : ℕ
   number = numberOf n s f t (h .grids) (length (h .first)) (length (h .second)) (length (h .sigmas))
 
-  number-same : startNumber n h ≡ number
+  picture-same : firstOf (pictureChecks n h) ≡ number
   unfolding numberOf pictureChecks
-  number-same = go (pictured (s .image) && pictured (s .filter)) refl
+  picture-same = go (pictured (s .image) && pictured (s .filter)) refl
     where
-      go : (p : Bool) → (pictured (s .image) && pictured (s .filter)) ≡ p → startNumber n h ≡ number
+      go : (p : Bool) → (pictured (s .image) && pictured (s .filter)) ≡ p → firstOf (pictureChecks n h) ≡ number
       go true e = rows-lowest ∙ rw (own-number (and-first (pictured (s .image)) (pictured (s .filter)) e), groups-number (and-second (pictured (s .image)) (pictured (s .filter)) e))
       go false e =
           let own = ownChecks n s (length (h .first)) (length (h .second)) in
@@ -186,7 +188,11 @@ module _ (n : ℕ) (h : Handed) where
             lowest-left outOfMeasure (firstOf groups) (omega arith) (ascending-from outOfMeasure groups refl),
           )
 
-  -- ---- start's outcome
+  -- ---- start's number, and its outcome
+
+  -- the tail has no row
+  number-same : startNumber n h ≡ number
+  number-same = start-parts n h ∙ or-zero (firstOf (pictureChecks n h)) ∙ picture-same
 
   module _ (k : ℕ) (e : k ≡ number) where
     number-is : startNumber n h ≡ k

@@ -29,9 +29,9 @@ ghost use Rattle.region.specs.Regions.{zeroRegion};
 ghost use Rattle.sigma_groups.specs.Outcome.{sigmaNumber};
 ghost use Rattle.region_placement.specs.Blocks.{onBlocks};
 ghost use Rattle.run_record.specs.Record.{started};
-ghost use Rattle.run_outcomes.specs.Start.{StartOutcome, blocksOf, noSetup, noRun, startOutcome};
+ghost use Rattle.run_outcomes.specs.Start.{StartOutcome, blocksOf, runsEpf, noSetup, noRun, startOutcome};
 ghost use Rattle.run_start.specs.Lowest.{lowest};
-ghost use Rattle.run_start.specs.Pieces.{runsEpf, epfFlag, sigmasAsked, ownChecks, numberOf};
+ghost use Rattle.run_start.specs.Pieces.{epfFlag, sigmasAsked, ownChecks, numberOf};
 
 const BLOCK_DIM: usize = 8;
 
@@ -130,8 +130,8 @@ fn groups_number(s: Setup, frame: Frame, table: &[u32], grids: &[f32], sigmas: u
     check(epf_flag(s), frame, blocks_of(s), table, grids, asked)
 }
 
-// The lowest of all numbers.
-fn start_number(
+// The lowest of the picture's numbers. A check that is not among them comes after: start has none yet.
+fn picture_number(
     s: Setup,
     frame: Frame,
     table: &[u32],
@@ -223,7 +223,7 @@ pub fn start(
 ) -> RunAnswer
     ensures { λ r. ⌜ _≡_ {A = StartOutcome} (record { answer = r; first = now (first .exit); sigmas = now (sigmas .exit) }) (startOutcome 3 (record { setup = setup; frame = frame; table = now (table .entry); grids = now (grids .entry); first = now (first .entry); second = now (second .entry); sigmas = now (sigmas .entry) })) ⌝ }
 {
-    let number = start_number(
+    let number = picture_number(
         setup,
         frame,
         table,

@@ -2,7 +2,7 @@
 use mathlib.Core.Path.{_≡_, sym, ap, _∙_}
 use mathlib.Core.Bool.{true, false, not}
 use borrow.Author.Needs.{needs}
-use Rattle.run_start.specs.Pieces.{runsEpf}
+use Rattle.run_outcomes.specs.Start.{runsEpf}
 use Rattle.run_start.proofs.off_blocks.Statement.{statement}
 use Rattle.run_start.proofs.off_blocks.Tie as tie
 

@@ -17,11 +17,11 @@ start-spec =
     (tie.spec
     (λ c κs. search needs)
     (λ c κs. search needs)
-    (λ c. refused 3 (handed (c .before .before .before .before .before .before .before .before)) _ (c .before .before .start-number .ensures) (c .before .if1 .taken) _ (c .no-run .ensures))
+    (λ c. refused 3 (handed (c .before .before .before .before .before .before .before .before)) _ (c .before .before .picture-number .ensures) (c .before .if1 .taken) _ (c .no-run .ensures))
     (λ c κs. search needs)
     (λ c κs. search needs)
     (λ c κs. search needs)
     (λ c κs. search needs)
     (λ c. search needs)
-    (λ c. accepted 3 (handed (c .before .before .before .before .before .before .before .before .before .before .before .before .before .before)) _ (c .before .before .before .before .before .before .before .before .start-number .ensures) (c .before .before .before .before .before .before .before .if1 .left) _ _
+    (λ c. accepted 3 (handed (c .before .before .before .before .before .before .before .before .before .before .before .before .before .before)) _ (c .before .before .before .before .before .before .before .before .picture-number .ensures) (c .before .before .before .before .before .before .before .if1 .left) _ _
     (c .before .before .before .block-sigmas .ensures ∙ same-sigmas (handed (c .before .before .before .before .before .before .before .before .before .before .before .before .before .before)) _ _ (c .before .before .before .before .before .before .epf-flag .ensures) (c .before .before .before .before .before .blocks-of .ensures)) _ (c .started .ensures)))
