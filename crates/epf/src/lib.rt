@@ -120,8 +120,9 @@ fn epf_band(
     filter_region(dst, src, l, n, s, sigmas, top, first, last);
 }
 
-// Rows `from` up to `to` of the result, which is the full planes (`preserve_outside` 1) or the filter region alone (0): reads `src` and writes
-// `dst`, sets of three planes. There is a sigma for each block of the filter region, row of blocks after row of blocks; any floats are taken.
+// Rows `from` up to `to` of the result, which is the full planes (`preserve_outside` 1) or the filter region alone
+// (0): reads `src` and writes `dst`, sets of three planes. There is a sigma for each block of the filter region, row
+// of blocks after row of blocks; any floats are taken.
 pub fn epf_pass(
     image: Region,
     filter: Region,

@@ -1,4 +1,4 @@
-// Distances between the samples of a tile and their neighbours, from windows of 14 rows of 64 columns a plane.
+// Distances between the samples of a tile and their neighbours, from one window of 14 rows of 64 columns per plane.
 // A neighbour's distances are those of the opposite neighbour that far before, so a step has a field for each pair.
 use rounding::difference;
 ghost use mathlib.Core.Path.{_≡_};
@@ -14,7 +14,8 @@ ghost use Rattle.epf_distances.specs.Fields.{distAt, fieldsFill, distanc
 
 const PLANES: usize = 3;
 
-// Positions of a window's row, of a plane's window and of three planes' windows; the place of a sample in its own window.
+// Positions of a window's row, of a plane's window and of three planes' windows; the place of a sample in its own
+// window.
 const STRIDE: usize = 64;
 
 const PLANE: usize = 896;

@@ -1,4 +1,5 @@
-// Step 2 on a rectangle with samples of the filter region on every side: from the planes themselves, since nothing is mirrored there.
+// Step 2 on a rectangle with samples of the filter region on every side: from the planes themselves, since nothing is
+// mirrored there.
 // The corner of a sample is the place one column left of it and one row above it.
 use epf_rects::Rect;
 use epf_rects::rect_fits;
@@ -175,7 +176,8 @@ pub fn lies_inside(l: Layout, rect: Rect) -> bool
     true
 }
 
-// The samples of such a rectangle in three planes, with the slopes of its columns; row 0 of it is row `top` of the image.
+// The samples of such a rectangle in three planes, with the slopes of its columns; row 0 of it is row `top` of the
+// image.
 // Nothing where the rectangle, the sets or the slopes do not fit.
 pub fn filter_inside(
     dst: &mut [f32],

@@ -1,5 +1,7 @@
-// Weighted sums of a tile of an edge-preserving step, 56 lanes of a row at a time: from fields of distances, slopes and windows.
-// A tile has at most three planes of eight rows of 64 columns. Each loop goes along a row, so that it becomes vector code.
+// Weighted sums of a tile of an edge-preserving step, 56 lanes of a row at a time: from fields of distances, slopes
+// and windows.
+// A tile has at most three planes of eight rows of 64 columns. Each loop goes along a row, so that it becomes vector
+// code.
 use epf_distances::FIELDS;
 use epf_distances::WINDOWS;
 use epf_distances::neighbour;

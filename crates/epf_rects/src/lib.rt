@@ -115,7 +115,8 @@ pub fn copy_rect(dst: &mut [f32], src: &[f32], l: Layout, n: usize, rect: Rect)
     store_planes(dst, l, n, rect, src, from, stride, l.image.height * stride);
 }
 
-// The first rows and columns of a tile to a rectangle of a set. Nothing where the rectangle, the set or the tile do not fit.
+// The first rows and columns of a tile to a rectangle of a set. Nothing where the rectangle, the set or the tile do
+// not fit.
 pub fn store_tile(dst: &mut [f32], tile: &[f32], l: Layout, n: usize, rect: Rect)
     ensures { λ _. ⌜ now (dst .exit) ≡ storedTile l n rect (now (tile .entry)) (now (dst .entry)) ⌝ }
 {

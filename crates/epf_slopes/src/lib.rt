@@ -1,4 +1,5 @@
-// The slopes of a tile's columns, from the sigmas of its blocks: those of rows at no block's border, then those of rows that lie at one.
+// The slopes of a tile's columns, from the sigmas of its blocks: those of rows at no block's border, then those of
+// rows that lie at one.
 use epf_step::at_border;
 use epf_step::multiplier;
 use epf_step::slope;
@@ -76,7 +77,8 @@ fn row_slopes(
     }
 }
 
-// The slopes of at most seven blocks, whose sigmas start at `first`, with `border_sad_mul` as `edge`. Nothing for more blocks or where sigmas are missing.
+// The slopes of at most seven blocks, whose sigmas start at `first`, with `border_sad_mul` as `edge`. Nothing for
+// more blocks or where sigmas are missing.
 pub fn tile_slopes(
     slopes: &mut [f32; SLOPES],
     sigmas: &[f32],

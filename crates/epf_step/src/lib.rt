@@ -50,7 +50,8 @@ pub fn at_border(p: usize) -> bool
     p % 8 == 7
 }
 
-// The multiplier of a sample, with `border_sad_mul` as `edge`: `row` counts as the image's top does, `col` from the filter region's left.
+// The multiplier of a sample, with `border_sad_mul` as `edge`: `row` counts as the image's top does, `col` from the
+// filter region's left.
 pub fn multiplier(scale: f32, edge: f32, row: usize, col: usize) -> f32
     ensures { λ r. ⌜ r ≡ multiplierOf scale edge row col ⌝ }
 {

@@ -109,7 +109,8 @@ fn strips(
     }
 }
 
-// Rows `from` up to `to` of the filter region, in n planes; row 0 of it is row `top` of the image. Sigmas stand row of blocks after row of blocks.
+// Rows `from` up to `to` of the filter region, in n planes; row 0 of it is row `top` of the image. Sigmas stand row
+// of blocks after row of blocks.
 // Nothing where sets, sigmas, step or rows do not fit.
 pub fn filter_region(
     dst: &mut [f32],

@@ -1,5 +1,7 @@
-// A window on a filter region: rows and columns around a place in each plane, mirrored at the filter region's edges, as planes of 14 rows of 64 columns.
-// This is the one place where a step mirrors: what needs no mirror, step 2 away from the region's edges, reads the planes themselves.
+// A window on a filter region: rows and columns around a place in each plane, mirrored at the filter region's edges,
+// as planes of 14 rows of 64 columns.
+// This is the one place where a step mirrors: what needs no mirror, step 2 away from the region's edges, reads the
+// planes themselves.
 mod row;
 
 use crate::row::load_row;
@@ -90,7 +92,8 @@ fn load_planes(
     }
 }
 
-// Rows `top` to top + rows and the first `cols` columns of a window on column x and row y of the filter region, in n planes.
+// Rows `top` to top + rows and the first `cols` columns of a window on column x and row y of the filter region, in n
+// planes.
 // Nothing where these do not fit.
 pub fn load(
     win: &mut [f32; WINDOWS],

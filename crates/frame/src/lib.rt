@@ -1,4 +1,5 @@
-// Sample sides, group dimension and shift, LF groups of a frame, and which group and inner cell a block has (Specification 7.1, 7.2).
+// Sample sides, group dimension and shift, LF groups of a frame, and which group and inner cell a block has
+// (Specification 7.1, 7.2).
 ghost use mathlib.Core.Path.{_≡_};
 ghost use Prim.Native.Nat.{_<_, _≤_};
 ghost use Rattle.refusals.specs.Checks.{firstOf};

@@ -17,8 +17,9 @@ ghost use Rattle.gabor.specs.Outcome.{gaborOutcome};
 
 const PLANES: usize = 3;
 
-// Rows `from` up to `to` of the result, which is the full planes (`preserve_outside` 1) or the filter region alone (0): reads `src` and writes
-// `dst`, sets of three planes. Weights are of the side neighbours and of the diagonal ones, a pair a channel; any floats are taken.
+// Rows `from` up to `to` of the result, which is the full planes (`preserve_outside` 1) or the filter region alone
+// (0): reads `src` and writes `dst`, sets of three planes. Weights are of the side neighbours and of the diagonal
+// ones, one pair per channel; any floats are taken.
 pub fn gabor_pass(
     image: Region,
     filter: Region,

@@ -15,7 +15,8 @@ ghost use Rattle.gabor_plane.specs.Plane.{regionRows, regionFits, planeO
 // The longest side of a region.
 const SIDE: usize = 16384;
 
-// Rows `from` to from + n of a region of w columns and h rows whose first row starts at index `at`, each next one a stride later.
+// Rows `from` to from + n of a region of w columns and h rows whose first row starts at index `at`, each next one a
+// stride later.
 fn gabor_rows(
     src: &[f32],
     dst: &mut [f32],
@@ -68,7 +69,8 @@ fn region_fits(at: usize, stride: usize, w: usize, h: usize, len: usize) -> bool
     at <= len - span
 }
 
-// Those rows, written where they are read from. Nothing where the region does not lie in both slices, which have one length, or has no such rows.
+// Those rows, written where they are read from. Nothing where the region does not lie in both slices, which have one
+// length, or has no such rows.
 pub fn gabor_plane(
     src: &[f32],
     dst: &mut [f32],

@@ -18,7 +18,7 @@ pub struct MirrorAnswer {
     pub place: usize,
 }
 
-// The place of an offset that is not negative. Runs of n samples go up and down by turns.
+// The place of an offset that is not negative. Runs of n samples go up and down alternately.
 fn place(ahead: usize, n: usize) -> usize
     ensures { λ r. ⌜ r ≡ mirror (pos ahead) n ⌝ }
 {

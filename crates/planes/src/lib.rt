@@ -1,4 +1,5 @@
-// Planes row after row without gaps, one after the other: where a filter region lies in them, and which sets and rows there are.
+// Planes row after row without gaps, one after the other: where a filter region lies in them, and which sets and rows
+// there are.
 ghost use mathlib.Core.Path.{_≡_};
 ghost use Prim.Native.Nat.{ℕ, _+_, _≤_, min};
 ghost use lib.Dec.{leb};

@@ -1,4 +1,5 @@
-// Regions made from regions (region.rs). Each function judges the regions that it is given, and the one that results, by the limits of Specification 4.1.
+// Regions made from regions (region.rs). Each function checks the regions that it is given, and its result,
+// against the limits of Specification 4.1.
 use refusals::ACCEPTED;
 use refusals::OUT_OF_MEASURE;
 use refusals::OUT_OF_RANGE;

@@ -1,4 +1,5 @@
-// The measures of one axis: an interval as a start and a length, if they are within Specification 4.1, and how far two places are apart.
+// The measures of one axis: an interval as a start and a length, if they are within Specification 4.1, and how far
+// two places are apart.
 use region_interval::Span;
 ghost use mathlib.Core.Path.{_≡_};
 ghost use mathlib.Core.Bool.{false};

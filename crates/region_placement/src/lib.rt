@@ -50,7 +50,8 @@ fn unplaced(number: u32) -> PlacedAnswer
     PlacedAnswer { number, x: 0, y: 0 }
 }
 
-// Where a filter region lies in an image region, for the passes: 4 where either is no region of a picture, 5 where it is not inside.
+// Where a filter region lies in an image region, for the passes: 4 where either is not a region that a picture
+// may have, 5 where it is not inside.
 pub fn placed(image: Region, filter: Region) -> PlacedAnswer
     ensures { λ r. ⌜ r ≡ placedOutcome image filter ⌝ }
 {

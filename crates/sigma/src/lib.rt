@@ -180,7 +180,8 @@ fn fill_rows(
     }
 }
 
-// The sigma of each block of the filter region, row of blocks after row, or the number that the inputs are refused with.
+// The sigma of each block of the filter region, row of blocks after row, or the number that the inputs are refused
+// with.
 pub fn block_sigmas(
     on: u32,
     frame: Frame,

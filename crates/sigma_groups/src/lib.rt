@@ -1,4 +1,5 @@
-// Whether the groups of a frame hold a filter region's blocks, and which number the inputs of block sigmas get (Specification 7.7, 7.9).
+// Whether the groups of a frame hold a filter region's blocks, and which number the inputs of block sigmas get
+// (Specification 7.7, 7.9).
 use frame::Frame;
 use frame::GroupSizes;
 use sigma_blocks::Blocks;
