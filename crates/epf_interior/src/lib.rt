@@ -6,7 +6,9 @@ use epf_rects::rect_fits;
 use epf_slopes::SLOPES;
 use epf_slopes::first_slope;
 use epf_step::weight;
+use limits::BLOCK;
 use planes::Layout;
+use planes::PLANES;
 use rounding::difference;
 ghost use mathlib.Core.Path.{_≡_};
 ghost use Prim.Native.Nat.{ℕ, _+_, _-_, _*_, _<_, _≤_};
@@ -14,10 +16,6 @@ ghost use lib.ListN.{length};
 ghost use Rattle.epf_rects.specs.Rects.{rectFilled, RectFits};
 ghost use Rattle.epf_interior.specs.Inside.{farAt, weightsOf, mixOf, laneIn, threeFill, liesInside, Inside, insideOf, insideFilled};
 ghost use Rattle.epf_interior.specs.Divisor.{ThreeScalesBounded};
-
-const PLANES: usize = 3;
-
-const BLOCK: usize = 8;
 
 // Columns that have slopes.
 const COLUMNS: usize = 64;

@@ -3,6 +3,7 @@
 use epf_step::at_border;
 use epf_step::multiplier;
 use epf_step::slope;
+use limits::BLOCK;
 ghost use mathlib.Core.Path.{_≡_};
 ghost use Prim.Native.Nat.{ℕ, _+_, _*_, _<_, _≤_};
 ghost use lib.ListN.{length};
@@ -11,9 +12,7 @@ ghost use Rattle.planes.specs.Fill.{fill};
 ghost use Rattle.epf_step.specs.Steps.{multiplier as multiplierOf};
 ghost use Rattle.epf_slopes.specs.Slopes.{slopeAt, firstSlope, slopesOf};
 
-// Columns of a block, and the most blocks of a tile.
-const BLOCK: usize = 8;
-
+// The most blocks of a tile.
 const BLOCKS: usize = 7;
 
 // Where the slopes of border rows start, and how many slopes there are.

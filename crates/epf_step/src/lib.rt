@@ -5,6 +5,9 @@ ghost use Rattle.planes.specs.Samples.{_⊘_};
 ghost use Rattle.epf_step.specs.Steps.{kernel, positive as positiveOf, falloff, weightBy, copied as copiedOf, border, multiplier as multiplierOf};
 ghost use Rattle.epf_step.specs.Bounds.{WeightBounded};
 
+// Steps are 0 to 2.
+pub const LAST_STEP: usize = 2;
+
 // How many neighbours a step has.
 pub fn kernel_len(step: usize) -> usize
     ensures { λ r. ⌜ r ≡ length (kernel step) ⌝ }

@@ -3,6 +3,7 @@ mod reads;
 mod rows;
 
 use gabor_kernel::global_weight;
+use limits::MAX_SIDE;
 use rows::region_row;
 ghost use mathlib.Core.Path.{_≡_};
 ghost use Prim.Native.Nat.{_+_, _*_, _≤_};
@@ -11,9 +12,6 @@ ghost use Rattle.planes.specs.Rect.{rowsFill};
 ghost use Rattle.gabor_kernel.specs.Gabor.{total};
 ghost use Rattle.gabor_plane.specs.Rows.{RegionFits};
 ghost use Rattle.gabor_plane.specs.Plane.{regionRows, regionFits, planeOutcome};
-
-// The longest side of a region.
-const SIDE: usize = 16384;
 
 // Rows `from` to from + n of a region of w columns and h rows whose first row starts at index `at`, each next one a
 // stride later.
@@ -56,10 +54,10 @@ fn region_fits(at: usize, stride: usize, w: usize, h: usize, len: usize) -> bool
     if stride < w {
         return false;
     }
-    if SIDE < stride {
+    if MAX_SIDE < stride {
         return false;
     }
-    if SIDE < h {
+    if MAX_SIDE < h {
         return false;
     }
     let span = (h - 1) * stride + w;

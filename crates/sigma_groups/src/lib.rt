@@ -3,6 +3,8 @@
 use frame::Frame;
 use frame::GroupSizes;
 use sigma_blocks::Blocks;
+use sigma_grids::ENTRY;
+use sigma_grids::PRESENT;
 ghost use mathlib.Core.Path.{_≡_};
 ghost use mathlib.Core.Bool.{not, _&&_};
 ghost use Prim.Native.Nat.{ℕ, _+_, _*_, _≤_};
@@ -14,10 +16,6 @@ ghost use Rattle.sigma_groups.specs.Held.{notHeld, someNotHeld};
 ghost use Rattle.sigma_blocks.specs.Measured.{Measured};
 ghost use Rattle.sigma_groups.specs.Outcome.{sigmaCount, sigmaNumber};
 ghost use Rattle.sigma_groups.specs.Fitting.{TableOf, Fitting};
-
-const PRESENT: u32 = 1;
-// Presence, grid width, grid height.
-const ENTRY: usize = 3;
 
 fn sigma_count(on: bool, blocks: Blocks) -> usize
     requires { ⌜ Measured blocks ⌝ }
