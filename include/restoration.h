@@ -219,7 +219,8 @@ typedef struct RestorationRunAnswer {
 // == The C boundary of regions
 
 // Whether a region has a side of 0.
-// Numbers: 0; 4 for a region out of measure: a side over 16,384, or left or top outside -1,048,576 to 1,048,576. A refusal answers false.
+// Numbers: 0; 4 for a region out of measure: a side over 16,384, or left or top outside -1,048,576 to 1,048,576. A
+// refusal answers false.
 RestorationBoolAnswer restoration_region_is_empty(RestorationRegion r);
 
 // The column past a region's last: left + width.
@@ -246,21 +247,24 @@ RestorationRegionAnswer restoration_region_intersection(RestorationRegion a, Res
 // Numbers: 0; 4 where the region or the padded one is out of measure. A refusal has the region 0, 0, 0, 0.
 RestorationRegionAnswer restoration_region_pad(RestorationRegion r, uint32_t size);
 
-// The cells of 2^factor by 2^factor samples that a region touches, as a region; the shift of a negative left or top rounds toward minus infinity.
-// Numbers: 0; 4 where the region, or with a factor in range the result, is out of measure; 9 for a factor over 16. The lowest that applies is given. A refusal
-// has the region 0, 0, 0, 0.
+// The cells of 2^factor by 2^factor samples that a region touches, as a region; the shift of a negative left or top
+// rounds toward minus infinity.
+// Numbers: 0; 4 where the region, or with a factor in range the result, is out of measure; 9 for a factor over 16.
+// The lowest that applies is given. A refusal has the region 0, 0, 0, 0.
 RestorationRegionAnswer restoration_region_downsample(RestorationRegion r, uint32_t factor);
 
 // The smallest region that contains this one and has its edges at multiples of `grid_dim`.
-// Numbers: 0; 4 where the region, or with an alignment in range the result, is out of measure; 9 for an alignment that is no power of two from 1 to 8,192. The
-// lowest that applies is given. A refusal has the region 0, 0, 0, 0.
+// Numbers: 0; 4 where the region, or with an alignment in range the result, is out of measure; 9 for an alignment
+// that is no power of two from 1 to 8,192. The lowest that applies is given. A refusal has the region 0, 0, 0, 0.
 RestorationRegionAnswer restoration_region_container_aligned(RestorationRegion r, uint32_t grid_dim);
 
 // == The C boundary of frames and block sigmas
 
-// The sample sides of a frame (its sides divided by the upsampling and then by 8 to the power of the LF level, each rounded up), its group dimension (128
-// shifted left by the group size shift) and group shift, and its groups per row, per column and in all.
-// Numbers: 0; 4 for a frame side outside 1 to 16,384; 9 for an upsampling that is none of 1, 2, 4 and 8, an LF level over 4 or a group size shift over 3.
+// The sample sides of a frame (its sides divided by the upsampling and then by 8 to the power of the LF level, each
+// rounded up), its group dimension (128 shifted left by the group size shift) and group shift, and its groups per
+// row, per column and in all.
+// Numbers: 0; 4 for a frame side outside 1 to 16,384; 9 for an upsampling that is none of 1, 2, 4 and 8, an LF level
+// over 4 or a group size shift over 3.
 // The lowest that applies is given. A refusal has 0 in every other field.
 RestorationFrameAnswer restoration_group_sizes(RestorationFrame f);
 
@@ -268,13 +272,15 @@ RestorationFrameAnswer restoration_group_sizes(RestorationFrame f);
 // Numbers: 0; 9 for a group size shift over 3. A refusal has 0 in every other field.
 RestorationSplitAnswer restoration_split_block(uint32_t block, uint32_t group_size_shift);
 
-// With the edge-preserving filter on (`on` 1), fills `sigmas` with the sigma of each block of 8 by 8 samples of a filter region, row of blocks after row: the
-// cell of its group's grid or, where that grid is missing, the sigma of the block above, the top block row starting from `sigma_for_modular`. With it off
-// (`on` 0) `sigmas` has length 0. `blocks` is the filter region, its left and top in blocks. `table` has three numbers for each group of the frame (whether
-// its grid is present, grid width, grid height); `grids` has the present grids one after another.
-// Numbers: 0; 4 for a side of the frame, the filter region's measures, or a present grid's side outside 1 to 1,024; 7 for a table, grids or sigmas of another
-// length; 8, with the filter on, for a block whose group is not in the frame or whose present grid does not hold it; 9 for the frame's settings, a presence
-// that is neither 0 nor 1, or `on` neither 0 nor 1. The lowest that applies is given; a check that needs a number faulty under 9 is passed over: the
+// With the edge-preserving filter on (`on` 1), fills `sigmas` with the sigma of each block of 8 by 8 samples of a
+// filter region, row of blocks after row: the cell of its group's grid or, where that grid is missing, the sigma of
+// the block above, the top block row starting from `sigma_for_modular`. With it off (`on` 0) `sigmas` has length 0.
+// `blocks` is the filter region, its left and top in blocks. `table` has three numbers for each group of the frame
+// (whether its grid is present, grid width, grid height); `grids` has the present grids one after another.
+// Numbers: 0; 4 for a side of the frame, the filter region's measures, or a present grid's side outside 1 to 1,024; 7
+// for a table, grids or sigmas of another length; 8, with the filter on, for a block whose group is not in the frame
+// or whose present grid does not hold it; 9 for the frame's settings, a presence that is neither 0 nor 1, or `on`
+// neither 0 nor 1. The lowest that applies is given; a check that needs a number faulty under 9 is passed over: the
 // sigmas' length and 8 need `on`. A refusal leaves `sigmas` as they were. `table` and `grids` are only read.
 uint32_t restoration_block_sigmas(
     uint32_t on,
@@ -287,57 +293,71 @@ uint32_t restoration_block_sigmas(
 
 // == The C boundary of the header
 
-// Reads 16 bits from bit place `at` on as an IEEE 754 half-precision number, exactly, subnormals and -0 included. Bit p is bit p mod 8 of byte p / 8,
-// the lowest first, and a field's first bit is its lowest. Answers the value and the next bit place.
-// Numbers: 0; 7 for more than 65,536 bytes; else 1 where the bits run out, 2 for exponent field 31. A refusal has 0 in every other field.
+// Reads 16 bits from bit place `at` on as an IEEE 754 half-precision number, exactly, subnormals and -0 included. Bit
+// p is bit p mod 8 of byte p / 8, the lowest first, and a field's first bit is its lowest. Answers the value and the
+// next bit place.
+// Numbers: 0; 7 for more than 65,536 bytes; else 1 where the bits run out, 2 for exponent field 31. A refusal has 0
+// in every other field.
 // `bytes` is only read.
 RestorationHalfAnswer restoration_read_half(const uint8_t *bytes, size_t bytes_len, size_t at);
 
-// Reads the Gabor-like filter's bundle from bit place `at` on: the enabled bit and, if it is set, the custom bit and, if that is set, three channels of two
-// weights each. Answers whether the filter is on, its weights (the header's own or the defaults) and the next bit place; a filter that is off has weights 0.
-// Numbers: 0; 7 for more than 65,536 bytes; else the first in bit order of 1 where the bits run out, 2 for a half with exponent field 31, 3 where a channel's
-// |1 + (w0 + w1) * 4| is under 2^-23. A refusal has 0 in every other field. `bytes` is only read.
+// Reads the Gabor-like filter's bundle from bit place `at` on: the enabled bit and, if it is set, the custom bit and,
+// if that is set, three channels of two weights each. Answers whether the filter is on, its weights (the header's own
+// or the defaults) and the next bit place; a filter that is off has weights 0.
+// Numbers: 0; 7 for more than 65,536 bytes; else the first in bit order of 1 where the bits run out, 2 for a half
+// with exponent field 31, 3 where a channel's |1 + (w0 + w1) * 4| is under 2^-23. A refusal has 0 in every other
+// field. `bytes` is only read.
 RestorationGaborAnswer restoration_read_gabor(const uint8_t *bytes, size_t bytes_len, size_t at);
 
-// Reads the edge-preserving filter's bundle of a frame encoded as VarDCT from bit place `at` on: 2 bits of iterations and, if they are not 0, a custom bit with
-// 8 sharpness halves, a custom bit with 3 channel scales and 32 ignored bits, a custom bit with the four sigma settings. Answers the settings (the header's
-// own or the defaults; `sigma_for_modular` is 1) and the next bit place; a filter that is off has 0 in its fields.
-// Numbers: 0; 7 for more than 65,536 bytes; else the first in bit order of 1 where the bits run out, 2 for a half with exponent field 31.
+// Reads the edge-preserving filter's bundle of a frame encoded as VarDCT from bit place `at` on: 2 bits of iterations
+// and, if they are not 0, a custom bit with 8 sharpness halves, a custom bit with 3 channel scales and 32 ignored
+// bits, a custom bit with the four sigma settings. Answers the settings (the header's own or the defaults;
+// `sigma_for_modular` is 1) and the next bit place; a filter that is off has 0 in its fields.
+// Numbers: 0; 7 for more than 65,536 bytes; else the first in bit order of 1 where the bits run out, 2 for a half
+// with exponent field 31.
 // A refusal has 0 in every other field. `bytes` is only read.
 RestorationEpfAnswer restoration_read_epf_vardct(const uint8_t *bytes, size_t bytes_len, size_t at);
 
-// Reads the edge-preserving filter's bundle of a frame encoded as Modular from bit place `at` on: 2 bits of iterations and, if they are not 0, a custom bit with
-// 3 channel scales and 32 ignored bits, a custom bit with three sigma settings (`quant_mul` keeps its default), and `sigma_for_modular`, a half. Answers the
-// settings (the header's own or the defaults) and the next bit place; a filter that is off has 0 in its fields.
-// Numbers: 0; 7 for more than 65,536 bytes; else the first in bit order of 1 where the bits run out, 2 for a half with exponent field 31.
+// Reads the edge-preserving filter's bundle of a frame encoded as Modular from bit place `at` on: 2 bits of
+// iterations and, if they are not 0, a custom bit with 3 channel scales and 32 ignored bits, a custom bit with three
+// sigma settings (`quant_mul` keeps its default), and `sigma_for_modular`, a half. Answers the settings (the header's
+// own or the defaults) and the next bit place; a filter that is off has 0 in its fields.
+// Numbers: 0; 7 for more than 65,536 bytes; else the first in bit order of 1 where the bits run out, 2 for a half
+// with exponent field 31.
 // A refusal has 0 in every other field. `bytes` is only read.
 RestorationEpfAnswer restoration_read_epf_modular(const uint8_t *bytes, size_t bytes_len, size_t at);
 
-// Reads both bundles of a frame encoded as VarDCT from bit place `at` on, the Gabor-like filter's and then the edge-preserving filter's, as
-// `restoration_read_gabor` and `restoration_read_epf_vardct` do. Answers both and the next bit place.
-// Numbers: 0; 7 for more than 65,536 bytes; else the first in bit order of 1, 2 and 3 as those functions give them. A refusal has 0 in every other field.
+// Reads both bundles of a frame encoded as VarDCT from bit place `at` on, the Gabor-like filter's and then the
+// edge-preserving filter's, as `restoration_read_gabor` and `restoration_read_epf_vardct` do. Answers both and the
+// next bit place.
+// Numbers: 0; 7 for more than 65,536 bytes; else the first in bit order of 1, 2 and 3 as those functions give them. A
+// refusal has 0 in every other field.
 // `bytes` is only read.
 RestorationAnswer restoration_read_filters_vardct(const uint8_t *bytes, size_t bytes_len, size_t at);
 
-// Reads both bundles of a frame encoded as Modular from bit place `at` on, the Gabor-like filter's and then the edge-preserving filter's, as
-// `restoration_read_gabor` and `restoration_read_epf_modular` do. Answers both and the next bit place.
-// Numbers: 0; 7 for more than 65,536 bytes; else the first in bit order of 1, 2 and 3 as those functions give them. A refusal has 0 in every other field.
+// Reads both bundles of a frame encoded as Modular from bit place `at` on, the Gabor-like filter's and then the
+// edge-preserving filter's, as `restoration_read_gabor` and `restoration_read_epf_modular` do. Answers both and the
+// next bit place.
+// Numbers: 0; 7 for more than 65,536 bytes; else the first in bit order of 1, 2 and 3 as those functions give them. A
+// refusal has 0 in every other field.
 // `bytes` is only read.
 RestorationAnswer restoration_read_filters_modular(const uint8_t *bytes, size_t bytes_len, size_t at);
 
 // == The C boundary of the mirror and of single passes
 
-// The place in a row of `len` samples that a filter reads for an offset beyond an edge: with m the offset modulo 2 * len, not negative, it is m if m < len and
-// else 2 * len - 1 - m.
+// The place in a row of `len` samples that a filter reads for an offset beyond an edge: with m the offset modulo
+// 2 * len, not negative, it is m if m < len and else 2 * len - 1 - m.
 // Numbers: 0; 9 for a length outside 1 to 16,384 or an offset outside -1,048,576 to 1,048,576. A refusal has place 0.
 RestorationMirrorAnswer restoration_mirror(ptrdiff_t offset, size_t len);
 
-// The Gabor-like filter over rows `from` up to `to` of its result, which is the full planes (`preserve_outside` 1) or the filter region alone (0). Reads `src`
-// and writes `dst`, sets of three planes one after another, each row after row without gaps: filtered in the filter region, copied outside it; samples of
-// `dst` that are not in these rows of the result stay. The settings' weights are any floats; whether they say that the filter is on is not read.
-// Numbers: 0; 4 for a region out of measure (sides 1 to 16,384, area to 16,777,216, left and top -1,048,576 to 1,048,576); 5 for a filter region that is not
-// inside the image region; 7 for a set that has not exactly 3 * width * height samples of the image region; 9 for `preserve_outside` neither 0 nor 1, `from`
-// after `to`, or `to` past the last row of the result. The lowest that applies is given. A refusal leaves `dst` as it was. `src` is only read.
+// The Gabor-like filter over rows `from` up to `to` of its result, which is the full planes (`preserve_outside` 1) or
+// the filter region alone (0). Reads `src` and writes `dst`, sets of three planes one after another, each row after
+// row without gaps: filtered in the filter region, copied outside it; samples of `dst` that are not in these rows of
+// the result stay. The settings' weights are any floats; `enabled` is ignored.
+// Numbers: 0; 4 for a region out of measure (sides 1 to 16,384, area to 16,777,216, left and top -1,048,576 to
+// 1,048,576); 5 for a filter region that is not inside the image region; 7 for a set whose length is not
+// 3 * width * height of the image region; 9 for `preserve_outside` neither 0 nor 1, `from` after `to`, or `to` past the
+// last row of the result. The lowest that applies is given. A refusal leaves `dst` as it was. `src` is only read.
 uint32_t restoration_gabor_pass(
     RestorationRegion image,
     RestorationRegion filter,
@@ -348,12 +368,14 @@ uint32_t restoration_gabor_pass(
     const float *src, size_t src_len,
     float *dst, size_t dst_len);
 
-// Step 0, 1 or 2 of the edge-preserving filter over rows `from` up to `to` of its result, which is the full planes (`preserve_outside` 1) or the filter region
-// alone (0). Reads `src` and writes `dst` as `restoration_gabor_pass` does. `sigmas` has one sigma for each block of 8 by 8 samples of the filter region, row of
-// blocks after row; sigmas, scales and multipliers are any floats.
-// Numbers: 0; 4 for a region out of measure; 5 for a filter region that is not inside the image region; 6 for a left or top of the filter region that is
-// negative or no multiple of 8; 7 for a set or sigmas of another length; 9 for a step over 2, `preserve_outside` neither 0 nor 1, `from` after `to`, or `to`
-// past the last row of the result. The lowest that applies is given. A refusal leaves `dst` as it was. `src` and `sigmas` are only read.
+// Step 0, 1 or 2 of the edge-preserving filter over rows `from` up to `to` of its result, which is the full planes
+// (`preserve_outside` 1) or the filter region alone (0). Reads `src` and writes `dst` as `restoration_gabor_pass`
+// does. `sigmas` has one sigma for each block of 8 by 8 samples of the filter region, row of blocks after row;
+// sigmas, scales and multipliers are any floats.
+// Numbers: 0; 4 for a region out of measure; 5 for a filter region that is not inside the image region; 6 for a left
+// or top of the filter region that is negative or no multiple of 8; 7 for a set or sigmas of another length; 9 for a
+// step over 2, `preserve_outside` neither 0 nor 1, `from` after `to`, or `to` past the last row of the result. The
+// lowest that applies is given. A refusal leaves `dst` as it was. `src` and `sigmas` are only read.
 uint32_t restoration_epf_pass(
     RestorationRegion image,
     RestorationRegion filter,
@@ -367,20 +389,25 @@ uint32_t restoration_epf_pass(
 
 // == The C boundary of runs
 
-// The margin of the settings: how many samples must lie between a sample and each cut edge of a rectangle so that the sample is the one that the larger
-// picture has. It is 1 where the Gabor-like filter is on, plus 0, 2, 3 or 6 for 0, 1, 2 or 3 iterations of the edge-preserving filter.
-// Numbers: 0; 9 where `gabor.enabled` is neither 0 nor 1 or `epf.iters` is over 3, and then the margin is 0. Nothing else of the settings is read.
+// The margin of the settings: how many samples must lie between a sample and each cut edge of a rectangle so that the
+// sample is the one that the larger picture has. It is 1 where the Gabor-like filter is on, plus 0, 2, 3 or 6 for 0,
+// 1, 2 or 3 iterations of the edge-preserving filter.
+// Numbers: 0; 9 where `gabor.enabled` is neither 0 nor 1 or `epf.iters` is over 3, and then the margin is 0. Nothing
+// else of the settings is read.
 RestorationMarginAnswer restoration_margin(RestorationSettings settings);
 
-// Starts a run: checks all that it is handed, fills the block sigmas and answers the run's record. `table` has three numbers for each group of the frame
-// (presence, grid width, grid height), `grids` the cells of the present grids one after another; `first` and `second` are three planes of the image region
-// each, and `sigmas` has one sigma for each block of 8 x 8 of the filter region, none where `epf.iters` is 0.
-// Numbers, the lowest that applies: 0; 4 where a side, an area, a left or a top is out of measure; 5 where the filter region is not inside the image region;
-// 6 where the edge filter is on and the filter region's left or top is negative or no multiple of 8; 7 where a slice has a wrong length; 8 where the edge
-// filter is on and a block's group is not in the frame, or its grid is present and does not hold the block; 9 where a setting is out of range: iterations over
-// 3, a frame setting, a presence, `preserve_outside` or `gabor.enabled` neither 0 nor 1, a band height outside 1 to 16,384, more than 256 bands. A check that
-// needs a setting faulty under 9 is passed over.
-// Accepted, `sigmas` is filled (where there are any) and `first` and `second` are as they were. Refused, the record is all zeros and every slice is as it was.
+// Starts a run: checks all that it is handed, fills the block sigmas and answers the run's record. `table` has three
+// numbers for each group of the frame (presence, grid width, grid height), `grids` the cells of the present grids one
+// after another; `first` and `second` are three planes of the image region each, and `sigmas` has one sigma for each
+// block of 8 x 8 of the filter region, none where `epf.iters` is 0.
+// Numbers, the lowest that applies: 0; 4 where a side, an area, a left or a top is out of measure; 5 where the filter
+// region is not inside the image region; 6 where the edge filter is on and the filter region's left or top is
+// negative or no multiple of 8; 7 where a slice has a wrong length; 8 where the edge filter is on and a block's group
+// is not in the frame, or its grid is present and does not hold the block; 9 where a setting is out of range:
+// iterations over 3, a frame setting, a presence, `preserve_outside` or `gabor.enabled` neither 0 nor 1, a band
+// height outside 1 to 16,384, more than 256 bands. A check that needs a setting faulty under 9 is passed over.
+// Accepted, `sigmas` is filled (where there are any) and `first` and `second` are as they were. Refused, the record
+// is all zeros and every slice is as it was.
 RestorationRunAnswer restoration_start(
     RestorationSetup setup,
     RestorationFrame frame,
@@ -390,13 +417,16 @@ RestorationRunAnswer restoration_start(
     const float *second, size_t second_len,
     float *sigmas, size_t sigmas_len);
 
-// Runs band `k` of the run's next pass: reads the set that the pass reads (the first in the first pass, exchanged by each advance) and writes the band's rows
-// of the result in the other set, filtered inside the filter region and copied outside it. It answers the record with the band marked done.
-// Numbers, the lowest that applies: 0; 7 where a set or the block sigmas have a wrong length for the record's setup, unless what the length is computed from is
-// out of range; 9 where the record is none that accepted calls give: a setup that start would refuse under 4, 5, 6 or 9, a pass past the last, a flag of `done`
-// over 1, or over 0 from the band count on or once the run is finished; 10 where `k` is not below the band count, the band is done or the run is finished.
-// Accepted, the set that is read, the block sigmas and the rest of the other set are as they were. Refused, the record is the one handed in and every slice is as
-// it was.
+// Runs band `k` of the run's next pass: reads the set that the pass reads (the first in the first pass, exchanged by
+// each advance) and writes the band's rows of the result in the other set, filtered inside the filter region and
+// copied outside it. It answers the record with the band marked done.
+// Numbers, the lowest that applies: 0; 7 where a set or the block sigmas have a wrong length for the record's setup,
+// unless what the length is computed from is out of range; 9 where the record is not one that accepted calls return: a
+// setup that start would refuse under 4, 5, 6 or 9, a pass past the last, a flag of `done` over 1, or over 0 from the
+// band count on or once the run is finished; 10 where `k` is not below the band count, the band is done or the run is
+// finished.
+// Accepted, the set that is read, the block sigmas and the rest of the other set are as they were. Refused, the
+// record is the one handed in and every slice is as it was.
 RestorationRunAnswer restoration_band(
     RestorationRun run,
     const float *sigmas, size_t sigmas_len,
@@ -404,15 +434,18 @@ RestorationRunAnswer restoration_band(
     float *second, size_t second_len,
     uint32_t k);
 
-// Goes on to the next pass once every band of this one is done: the sets are exchanged and no band is done. After the last pass the run is finished.
-// Numbers, the lowest that applies: 0; 9 where the record is none that accepted calls give (as for a band); 11 where a band is missing or the run is finished.
+// Goes on to the next pass once every band of this one is done: the sets are exchanged and no band is done. After the
+// last pass the run is finished.
+// Numbers, the lowest that applies: 0; 9 where the record is not one that accepted calls return (as for a band); 11
+// where a band is missing or the run is finished.
 // Refused, the record is the one handed in.
 RestorationRunAnswer restoration_advance(RestorationRun run);
 
-// Copies the result of a finished run into `out`, plane after plane, from the set that a next pass would read: the image region where `preserve_outside` is 1,
-// the filter region's part where it is 0. It answers the number.
-// Numbers, the lowest that applies: 0; 7 where a set or `out` has a wrong length for the record's setup, unless what the length is computed from is out of range;
-// 9 where the record is none that accepted calls give (as for a band); 11 where the run is not finished.
+// Copies the result of a finished run into `out`, plane after plane, from the set that a next pass would read: the
+// image region where `preserve_outside` is 1, the filter region's part where it is 0. It answers the number.
+// Numbers, the lowest that applies: 0; 7 where a set or `out` has a wrong length for the record's setup, unless what
+// the length is computed from is out of range; 9 where the record is not one that accepted calls return (as for a
+// band); 11 where the run is not finished.
 // Both sets are as they were. Refused, `out` is as it was too.
 uint32_t restoration_result(
     RestorationRun run,

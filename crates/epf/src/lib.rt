@@ -1,7 +1,10 @@
 // One edge-preserving step over rows of a filter region that lies anywhere in an image region.
+use epf_step::LAST_STEP;
 use epf_tiles::Step;
 use epf_tiles::strips::filter_region;
+use limits::BLOCK;
 use planes::Layout;
+use planes::PLANES;
 use planes::filter_row;
 use planes::rows_fit;
 use planes_layout::layout_of;
@@ -26,12 +29,6 @@ ghost use Rattle.epf_step.specs.Steps.{standardLimit};
 ghost use Rattle.epf_tiles.specs.Tile.{stepOver};
 ghost use Rattle.epf_tiles.specs.Region.{RegionFits};
 ghost use Rattle.epf.specs.Outcome.{stepChecks, epfOutcome};
-
-const PLANES: usize = 3;
-
-const BLOCK: usize = 8;
-
-const LAST_STEP: usize = 2;
 
 // 0.3 (Specification 11.4): sigma under this copies the sample. Bits 3E99999A.
 const COPYING_LIMIT: f32 = 0.3;
@@ -120,8 +117,9 @@ fn epf_band(
     filter_region(dst, src, l, n, s, sigmas, top, first, last);
 }
 
-// Rows `from` up to `to` of the result, which is the full planes (`preserve_outside` 1) or the filter region alone (0): reads `src` and writes
-// `dst`, sets of three planes. There is a sigma for each block of the filter region, row of blocks after row of blocks; any floats are taken.
+// Rows `from` up to `to` of the result, which is the full planes (`preserve_outside` 1) or the filter region alone
+// (0): reads `src` and writes `dst`, sets of three planes. There is a sigma for each block of the filter region, row
+// of blocks after row of blocks; any floats are taken.
 pub fn epf_pass(
     image: Region,
     filter: Region,

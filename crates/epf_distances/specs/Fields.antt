@@ -9,6 +9,7 @@ use Rattle.planes.specs.Fill.{fill}
 use Rattle.epf_step.specs.Steps.{Scaled, along, scaled}
 use Rattle.epf_distances.specs.Seen.{nearby, apartBy}
 use Rattle.epf_distances.specs.Taps.{half, shift}
+use Rattle.epf_sizes.specs.Sizes.{windowPlane, windowCentre}
 
 -- ---- a field
 
@@ -18,7 +19,7 @@ distAt step cs win by j = along (λ (d : Float) (c : Scaled). d ⊕ c .1 ⊗ nea
 
 -- where field h starts among its plane's positions, and how many it has in a tile of so many rows
 abbrev pub fieldFrom : ℕ → ℕ → ℕ
-fieldFrom step h = 196 - shift step h
+fieldFrom step h = windowCentre - shift step h
 
 abbrev pub fieldLen : ℕ → ℕ → ℕ → ℕ
 fieldLen step rows h = rows * 64 + 188 - fieldFrom step h
@@ -27,7 +28,7 @@ fieldLen step rows h = rows * 64 + 188 - fieldFrom step h
 unfoldable pub fieldsFill : ℕ → List Scaled → List Float → ℕ → List Float → ℕ → List Float
 fieldsFill step cs win rows e zero = e
 fieldsFill step cs win rows e (suc h) =
-    fill (fieldsFill step cs win rows e h) (h * 896 + fieldFrom step h) (fieldLen step rows h) (λ i. distAt step cs win (shift step h) (fieldFrom step h + i))
+    fill (fieldsFill step cs win rows e h) (h * windowPlane + fieldFrom step h) (fieldLen step rows h) (λ i. distAt step cs win (shift step h) (fieldFrom step h + i))
 
 -- the distances of a tile of 1 to 8 rows, from windows of at most three planes; nothing for other numbers
 unfoldable pub distancesOf : ℕ → ℕ → List Float → List Float → ℕ → List Float → List Float

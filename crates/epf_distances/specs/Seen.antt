@@ -5,10 +5,11 @@ use lib.ListN.{getD}
 use lib.Ieee.{Float, nan}
 use Rattle.rounding.specs.Magnitude.{magnitude}
 use Rattle.planes.specs.Samples.{_⊕_, _⊖_, b0}
+use Rattle.epf_sizes.specs.Sizes.{windowPlane}
 
 -- |difference| of two places of channel c's window
 abbrev pub gap : List Float → ℕ → ℕ → ℕ → Float
-gap win c a b = magnitude (getD win (c * 896 + a) nan ⊖ getD win (c * 896 + b) nan)
+gap win c a b = magnitude (getD win (c * windowPlane + a) nan ⊖ getD win (c * windowPlane + b) nan)
 
 -- ---- the differences that step's distance sums at a position, in its order
 

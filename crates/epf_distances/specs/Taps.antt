@@ -7,6 +7,7 @@ use lib.ListN.{getD}
 use lib.IntN.{pos}
 use Rattle.epf_step.specs.Steps.{Offset, kernel}
 use Rattle.epf_distances.specs.declared.Tap.{Tap}
+use Rattle.epf_sizes.specs.Sizes.{windowPlane, windowCentre}
 
 -- how many fields a step has
 abbrev pub half : ℕ → ℕ
@@ -32,7 +33,7 @@ isAhead (suc s) q = eqb (q % 2) 1
 unfoldable pub tapOf : ℕ → ℕ → Tap
 tapOf step q =
     let h = fieldOf step q in
-    record { place = cond (isAhead step q) (196 + shift step h) (196 - shift step h); start = h * 896 + cond (isAhead step q) 196 (196 - shift step h) }
+    record { place = cond (isAhead step q) (windowCentre + shift step h) (windowCentre - shift step h); start = h * windowPlane + cond (isAhead step q) windowCentre (windowCentre - shift step h) }
 
 -- the offset of neighbour q
 abbrev pub neighbour : ℕ → ℕ → Offset

@@ -1,5 +1,12 @@
-// Distances between the samples of a tile and their neighbours, from windows of 14 rows of 64 columns a plane.
+// Distances between the samples of a tile and their neighbours, from one window of 14 rows of 64 columns per plane.
 // A neighbour's distances are those of the opposite neighbour that far before, so a step has a field for each pair.
+use epf_sizes::CENTRE;
+use epf_sizes::FIELDS;
+use epf_sizes::STRIDE;
+use epf_sizes::TILE_ROWS;
+use epf_sizes::WINDOW_PLANE;
+use epf_sizes::WINDOWS;
+use planes::PLANES;
 use rounding::difference;
 ghost use mathlib.Core.Path.{_≡_};
 ghost use Prim.Native.Nat.{ℕ, _+_, _-_, _*_, _<_, _≤_};
@@ -7,32 +14,17 @@ ghost use lib.ListN.{length, getD};
 ghost use lib.Ieee.{nan};
 ghost use Rattle.planes.specs.Samples.{_⊕_, _⊗_, b0};
 ghost use Rattle.planes.specs.Fill.{fill};
+ghost use Rattle.epf_sizes.specs.Sizes.{windowPlane, windowCentre, fieldsLength};
 ghost use Rattle.epf_step.specs.Steps.{scaled};
 ghost use Rattle.epf_distances.specs.Seen.{nearby as nearbyOf, apartBy};
 ghost use Rattle.epf_distances.specs.Taps.{half as halfOf, shift as shiftOf, fieldOf, tapOf};
 ghost use Rattle.epf_distances.specs.Fields.{distAt, fieldsFill, distancesOf};
 
-const PLANES: usize = 3;
-
-// Positions of a window's row, of a plane's window and of three planes' windows; the place of a sample in its own window.
-const STRIDE: usize = 64;
-
-const PLANE: usize = 896;
-
-pub const WINDOWS: usize = 2688;
-
-const CENTRE: usize = 196;
-
 // Past the last of 56 lanes of a tile of no rows: CENTRE + 56 - STRIDE.
 const PAST: usize = 188;
 
-// The most fields of a step, one for each pair of opposite neighbours, and their positions: a plane's for each.
+// The most fields of a step, one per pair of opposite neighbours.
 const PAIRS: usize = 6;
-
-pub const FIELDS: usize = 5376;
-
-// The most rows of a tile.
-const ROWS: usize = 8;
 
 // A neighbour's place in the window of a sample, and where its distances start among the fields.
 pub struct Tap {
@@ -78,22 +70,22 @@ fn shift(step: usize, h: usize) -> usize
 
 fn ahead(step: usize, h: usize) -> Tap
     requires { ⌜ h < 6 ⌝ }
-    ensures { λ r. ⌜ r ≡ record { place = 196 + shiftOf step h; start = h * 896 + 196 } ⌝ }
+    ensures { λ r. ⌜ r ≡ record { place = windowCentre + shiftOf step h; start = h * windowPlane + windowCentre } ⌝ }
 {
     Tap {
         place: CENTRE + shift(step, h),
-        start: h * PLANE + CENTRE,
+        start: h * WINDOW_PLANE + CENTRE,
     }
 }
 
 fn behind(step: usize, h: usize) -> Tap
     requires { ⌜ h < 6 ⌝ }
-    ensures { λ r. ⌜ r ≡ record { place = 196 - shiftOf step h; start = h * 896 + (196 - shiftOf step h) } ⌝ }
+    ensures { λ r. ⌜ r ≡ record { place = windowCentre - shiftOf step h; start = h * windowPlane + (windowCentre - shiftOf step h) } ⌝ }
 {
     let place = CENTRE - shift(step, h);
     Tap {
         place,
-        start: h * PLANE + place,
+        start: h * WINDOW_PLANE + place,
     }
 }
 
@@ -132,17 +124,17 @@ pub fn neighbour(step: usize, q: usize) -> Tap
 
 // |differences| between the places from position `from` on and those k after them, in plane c.
 fn differences(
-    d: &mut [f32; PLANE],
+    d: &mut [f32; WINDOW_PLANE],
     win: &[f32; WINDOWS],
     c: usize,
     k: usize,
     from: usize,
     n: usize,
 )
-    requires { ⌜ (c < 3) × (from + n + k ≤ 896) ⌝ }
+    requires { ⌜ (c < 3) × (from + n + k ≤ windowPlane) ⌝ }
     ensures { λ _. ⌜ now (d .exit) ≡ fill (now (d .entry)) from n (λ (i : ℕ). apartBy (now (win .entry)) c k (from + i)) ⌝ }
 {
-    let base = c * PLANE;
+    let base = c * WINDOW_PLANE;
     let mut i = 0;
     while i < n {
         let p = from + i;
@@ -152,8 +144,8 @@ fn differences(
 }
 
 // The differences that a distance of step 0 or 1 sums at position j, in its order.
-fn nearby(step: usize, d: &[f32; PLANE], j: usize) -> f32
-    requires { ⌜ (step < 2) × (64 ≤ j) × (j + 64 < 896) ⌝ }
+fn nearby(step: usize, d: &[f32; WINDOW_PLANE], j: usize) -> f32
+    requires { ⌜ (step < 2) × (64 ≤ j) × (j + 64 < windowPlane) ⌝ }
     ensures { λ r. ⌜ r ≡ nearbyOf step (λ (p : ℕ). getD (now (d .entry)) p nan) j ⌝ }
 {
     if step == 0 {
@@ -166,13 +158,13 @@ fn nearby(step: usize, d: &[f32; PLANE], j: usize) -> f32
 fn add_nearby(
     fields: &mut [f32; FIELDS],
     at: usize,
-    d: &[f32; PLANE],
+    d: &[f32; WINDOW_PLANE],
     scale: f32,
     step: usize,
     from: usize,
     n: usize,
 )
-    requires { ⌜ (step < 2) × (64 ≤ from) × (from + n + 64 ≤ 896) × (at + n ≤ 5376) ⌝ }
+    requires { ⌜ (step < 2) × (64 ≤ from) × (from + n + 64 ≤ windowPlane) × (at + n ≤ fieldsLength) ⌝ }
     ensures { λ _. ⌜ now (fields .exit) ≡ fill (now (fields .entry)) at n (λ (i : ℕ). getD (now (fields .entry)) (at + i) nan ⊕ scale ⊗ nearbyOf step (λ (p : ℕ). getD (now (d .entry)) p nan) (from + i)) ⌝ }
 {
     let mut i = 0;
@@ -193,10 +185,10 @@ fn add_single(
     from: usize,
     n: usize,
 )
-    requires { ⌜ (c < 3) × (from + n + k ≤ 896) × (at + n ≤ 5376) ⌝ }
+    requires { ⌜ (c < 3) × (from + n + k ≤ windowPlane) × (at + n ≤ fieldsLength) ⌝ }
     ensures { λ _. ⌜ now (fields .exit) ≡ fill (now (fields .entry)) at n (λ (i : ℕ). getD (now (fields .entry)) (at + i) nan ⊕ scale ⊗ nearbyOf 2 (apartBy (now (win .entry)) c k) (from + i)) ⌝ }
 {
-    let base = c * PLANE;
+    let base = c * WINDOW_PLANE;
     let mut i = 0;
     while i < n {
         let p = from + i;
@@ -210,7 +202,7 @@ fn add_single(
 fn add_channel(
     fields: &mut [f32; FIELDS],
     at: usize,
-    d: &mut [f32; PLANE],
+    d: &mut [f32; WINDOW_PLANE],
     win: &[f32; WINDOWS],
     c: usize,
     step: usize,
@@ -219,8 +211,8 @@ fn add_channel(
     from: usize,
     n: usize,
 )
-    requires { ⌜ (length (now d) ≡ 896) × (c < 3) × (64 ≤ from) × (from + n + 64 + k ≤ 896) × (at + n ≤ 5376) ⌝ }
-    ensures { λ _. ⌜ (now (fields .exit) ≡ fill (now (fields .entry)) at n (λ (i : ℕ). getD (now (fields .entry)) (at + i) nan ⊕ scale ⊗ nearbyOf step (apartBy (now (win .entry)) c k) (from + i))) × (length (now (d .exit)) ≡ 896) ⌝ }
+    requires { ⌜ (length (now d) ≡ windowPlane) × (c < 3) × (64 ≤ from) × (from + n + 64 + k ≤ windowPlane) × (at + n ≤ fieldsLength) ⌝ }
+    ensures { λ _. ⌜ (now (fields .exit) ≡ fill (now (fields .entry)) at n (λ (i : ℕ). getD (now (fields .entry)) (at + i) nan ⊕ scale ⊗ nearbyOf step (apartBy (now (win .entry)) c k) (from + i))) × (length (now (d .exit)) ≡ windowPlane) ⌝ }
 {
     if 1 < step {
         add_single(fields, at, win, c, k, scale, from, n);
@@ -231,7 +223,7 @@ fn add_channel(
 }
 
 fn clear(fields: &mut [f32; FIELDS], at: usize, n: usize)
-    requires { ⌜ at + n ≤ 5376 ⌝ }
+    requires { ⌜ at + n ≤ fieldsLength ⌝ }
     ensures { λ _. ⌜ now (fields .exit) ≡ fill (now (fields .entry)) at n (λ (i : ℕ). b0) ⌝ }
 {
     let mut i = 0;
@@ -245,7 +237,7 @@ fn clear(fields: &mut [f32; FIELDS], at: usize, n: usize)
 fn field(
     fields: &mut [f32; FIELDS],
     at: usize,
-    d: &mut [f32; PLANE],
+    d: &mut [f32; WINDOW_PLANE],
     win: &[f32; WINDOWS],
     step: usize,
     k: usize,
@@ -254,8 +246,8 @@ fn field(
     from: usize,
     n: usize,
 )
-    requires { ⌜ (length (now d) ≡ 896) × (planes ≤ 3) × (64 ≤ from) × (from + n + 64 + k ≤ 896) × (at + n ≤ 5376) ⌝ }
-    ensures { λ _. ⌜ (now (fields .exit) ≡ fill (now (fields .entry)) at n (λ (i : ℕ). distAt step (scaled planes (now (scales .entry))) (now (win .entry)) k (from + i))) × (length (now (d .exit)) ≡ 896) ⌝ }
+    requires { ⌜ (length (now d) ≡ windowPlane) × (planes ≤ 3) × (64 ≤ from) × (from + n + 64 + k ≤ windowPlane) × (at + n ≤ fieldsLength) ⌝ }
+    ensures { λ _. ⌜ (now (fields .exit) ≡ fill (now (fields .entry)) at n (λ (i : ℕ). distAt step (scaled planes (now (scales .entry))) (now (win .entry)) k (from + i))) × (length (now (d .exit)) ≡ windowPlane) ⌝ }
 {
     clear(fields, at, n);
     let mut c = 0;
@@ -276,7 +268,7 @@ fn fill_fields(
     requires { ⌜ (planes ≤ 3) × (1 ≤ rows) × (rows ≤ 8) ⌝ }
     ensures { λ _. ⌜ now (fields .exit) ≡ fieldsFill step (scaled planes (now (scales .entry))) (now (win .entry)) rows (now (fields .entry)) (halfOf step) ⌝ }
 {
-    let mut d = [0.0; PLANE];
+    let mut d = [0.0; WINDOW_PLANE];
     let count = half(step);
     let mut h = 0;
     while h < count {
@@ -284,7 +276,7 @@ fn fill_fields(
         let from = CENTRE - k;
         field(
             fields,
-            h * PLANE + from,
+            h * WINDOW_PLANE + from,
             &mut d,
             win,
             step,
@@ -315,7 +307,7 @@ pub fn distances(
     if rows < 1 {
         return;
     }
-    if ROWS < rows {
+    if TILE_ROWS < rows {
         return;
     }
     fill_fields(fields, win, step, scales, planes, rows)

@@ -1,11 +1,14 @@
-// Step 2 on a rectangle with samples of the filter region on every side: from the planes themselves, since nothing is mirrored there.
+// Step 2 on a rectangle with samples of the filter region on every side: from the planes themselves, since nothing is
+// mirrored there.
 // The corner of a sample is the place one column left of it and one row above it.
 use epf_rects::Rect;
 use epf_rects::rect_fits;
 use epf_slopes::SLOPES;
 use epf_slopes::first_slope;
 use epf_step::weight;
+use limits::BLOCK;
 use planes::Layout;
+use planes::PLANES;
 use rounding::difference;
 ghost use mathlib.Core.Path.{_≡_};
 ghost use Prim.Native.Nat.{ℕ, _+_, _-_, _*_, _<_, _≤_};
@@ -13,10 +16,6 @@ ghost use lib.ListN.{length};
 ghost use Rattle.epf_rects.specs.Rects.{rectFilled, RectFits};
 ghost use Rattle.epf_interior.specs.Inside.{farAt, weightsOf, mixOf, laneIn, threeFill, liesInside, Inside, insideOf, insideFilled};
 ghost use Rattle.epf_interior.specs.Divisor.{ThreeScalesBounded};
-
-const PLANES: usize = 3;
-
-const BLOCK: usize = 8;
 
 // Columns that have slopes.
 const COLUMNS: usize = 64;
@@ -175,7 +174,8 @@ pub fn lies_inside(l: Layout, rect: Rect) -> bool
     true
 }
 
-// The samples of such a rectangle in three planes, with the slopes of its columns; row 0 of it is row `top` of the image.
+// The samples of such a rectangle in three planes, with the slopes of its columns; row 0 of it is row `top` of the
+// image.
 // Nothing where the rectangle, the sets or the slopes do not fit.
 pub fn filter_inside(
     dst: &mut [f32],

@@ -11,6 +11,7 @@ use Rattle.planes.specs.Rect.{planesFill}
 use Rattle.epf_step.specs.Steps.{kernel, weightBy}
 use Rattle.epf_slopes.specs.Slopes.{firstSlope}
 use Rattle.epf_distances.specs.Taps.{tapOf}
+use Rattle.epf_sizes.specs.Sizes.{windowPlane, windowCentre, weightsLength, tileLength}
 
 -- ---- sums over the first q neighbours
 
@@ -32,7 +33,7 @@ weightOf step e slopes first r i q = weightBy (getD slopes (first + i) nan) (get
 
 -- the sample at place k of channel c
 abbrev pub sampleOf : List Float → ℕ → ℕ → ℕ → ℕ → Float
-sampleOf win c r k i = getD win (c * 896 + r * 64 + k + i) nan
+sampleOf win c r k i = getD win (c * windowPlane + r * 64 + k + i) nan
 
 -- the sample of neighbour q
 unfoldable pub neighbourOf : ℕ → List Float → ℕ → ℕ → ℕ → ℕ → Float
@@ -41,22 +42,22 @@ neighbourOf step win c r i q = sampleOf win c r (tapOf step q .place) i
 -- the sample and its weighted neighbours, divided by 1 plus the weights
 unfoldable pub laneOf : ℕ → List Float → List Float → List Float → ℕ → ℕ → ℕ → ℕ → Float
 laneOf step e slopes win first c i r =
-    samplesTo (weightOf step e slopes first r i) (neighbourOf step win c r i) (sampleOf win c r 196 i) (length (kernel step))
+    samplesTo (weightOf step e slopes first r i) (neighbourOf step win c r i) (sampleOf win c r windowCentre i) (length (kernel step))
     ⊘ weightsTo (weightOf step e slopes first r i) (length (kernel step))
 
 -- what a tile's lanes leave: 56 columns of each row of each plane. Row 0 is row `top` of the image.
 unfoldable pub lanesOf : ℕ → List Float → List Float → List Float → ℕ → ℕ → ℕ → List Float → List Float
 lanesOf step e slopes win planes top rows out =
-    cond (eqb (length out) 1536 && (leb planes 3 && leb rows 8)) (planesFill 64 8 0 56 0 rows (λ c i r. laneOf step e slopes win (firstSlope (top + r)) c i r) out planes) out
+    cond (eqb (length out) tileLength && (leb planes 3 && leb rows 8)) (planesFill 64 8 0 56 0 rows (λ c i r. laneOf step e slopes win (firstSlope (top + r)) c i r) out planes) out
 
 -- ---- weights: q neighbours are weighed
 
 pub record Weighed (f : ℕ → ℕ → Float) (t sum : List Float) (q : ℕ) : Type 0 where
-  pub long : length t ≡ 768
+  pub long : length t ≡ weightsLength
   pub wide : length sum ≡ 64
   pub each : (p i : ℕ) → p < q → i < 56 → getD t (p * 64 + i) nan ≡ f i p
   pub total : (i : ℕ) → i < 56 → getD sum i nan ≡ weightsTo (f i) q
 
 -- a lane's sum over stored weights
 unfoldable pub storedTo : ℕ → List Float → List Float → ℕ → ℕ → ℕ → ℕ → Float
-storedTo step t win c r q i = samplesTo (λ p. getD t (p * 64 + i) nan) (neighbourOf step win c r i) (sampleOf win c r 196 i) q
+storedTo step t win c r q i = samplesTo (λ p. getD t (p * 64 + i) nan) (neighbourOf step win c r i) (sampleOf win c r windowCentre i) q

@@ -1,12 +1,24 @@
-// Weighted sums of a tile of an edge-preserving step, 56 lanes of a row at a time: from fields of distances, slopes and windows.
-// A tile has at most three planes of eight rows of 64 columns. Each loop goes along a row, so that it becomes vector code.
-use epf_distances::FIELDS;
-use epf_distances::WINDOWS;
+// Weighted sums of a tile of an edge-preserving step, 56 lanes of a row at a time: from fields of distances, slopes
+// and windows.
+// A tile has at most three planes of eight rows of 64 columns. Each loop goes along a row, so that it becomes vector
+// code.
 use epf_distances::neighbour;
+use epf_sizes::CENTRE;
+use epf_sizes::FIELDS;
+use epf_sizes::LANES;
+use epf_sizes::STRIDE;
+use epf_sizes::TILE;
+use epf_sizes::TILE_PLANE;
+use epf_sizes::TILE_ROWS;
+use epf_sizes::WEIGHTS;
+use epf_sizes::WINDOW_PLANE;
+use epf_sizes::WINDOWS;
 use epf_slopes::SLOPES;
 use epf_slopes::first_slope;
 use epf_step::kernel_len;
 use epf_step::weight;
+use limits::BLOCK;
+use planes::PLANES;
 ghost use mathlib.Core.Path.{_≡_};
 ghost use Prim.Native.Nat.{ℕ, _+_, _-_, _*_, _%_, _<_, _≤_};
 ghost use lib.ListN.{length, getD};
@@ -14,34 +26,12 @@ ghost use lib.Ieee.{nan};
 ghost use Rattle.planes.specs.Samples.{_⊕_, _⊗_, _⊘_, b1};
 ghost use Rattle.planes.specs.Fill.{fill};
 ghost use Rattle.planes.specs.Rect.{planesFill};
+ghost use Rattle.epf_sizes.specs.Sizes.{fieldsLength, windowsLength, weightsLength, tileLength};
 ghost use Rattle.epf_step.specs.Steps.{kernel, weightBy};
 ghost use Rattle.epf_distances.specs.Taps.{tapOf};
 ghost use Rattle.epf_slopes.specs.Slopes.{firstSlope};
 ghost use Rattle.epf_lanes.specs.Lanes.{weightOf, storedTo, laneOf, lanesOf, Weighed};
 ghost use Rattle.epf_lanes.specs.Divisors.{DivisorsBounded};
-
-// Lanes that are computed, columns of a tile's row and samples of a tile's plane.
-const LANES: usize = 56;
-
-const STRIDE: usize = 64;
-
-const TILE_PLANE: usize = 512;
-
-// Samples of a plane's window, and the place of a sample in its own window.
-const PLANE: usize = 896;
-
-const CENTRE: usize = 196;
-
-const PLANES: usize = 3;
-
-pub const TILE: usize = 1536;
-
-const ROWS: usize = 8;
-
-const BLOCK: usize = 8;
-
-// The weights of a row: a stride for each of at most twelve neighbours.
-const WEIGHTS: usize = 768;
 
 fn ones(sum: &mut [f32; STRIDE])
     ensures { λ _. ⌜ now (sum .exit) ≡ fill (now (sum .entry)) 0 56 (λ (i : ℕ). b1) ⌝ }
@@ -63,7 +53,7 @@ fn weigh(
     slopes: &[f32; SLOPES],
     first: usize,
 )
-    requires { ⌜ (at + 56 ≤ 768) × (from + 56 ≤ 5376) × (first + 56 ≤ 128) ⌝ }
+    requires { ⌜ (at + 56 ≤ weightsLength) × (from + 56 ≤ fieldsLength) × (first + 56 ≤ 128) ⌝ }
     ensures { λ _. ⌜ (now (stored .exit) ≡ fill (now (stored .entry)) at 56 (λ (i : ℕ). weightBy (getD (now (slopes .entry)) (first + i) nan) (getD (now (fields .entry)) (from + i) nan))) × (now (sum .exit) ≡ fill (now (sum .entry)) 0 56 (λ (i : ℕ). getD (now (sum .entry)) (0 + i) nan ⊕ weightBy (getD (now (slopes .entry)) (first + i) nan) (getD (now (fields .entry)) (from + i) nan))) ⌝ }
 {
     let mut i = 0;
@@ -85,7 +75,7 @@ fn weigh_all(
     r: usize,
     first: usize,
 )
-    requires { ⌜ (length (now stored) ≡ 768) × (length (now sum) ≡ 64) × (r < 8) × (first ≤ 64) ⌝ }
+    requires { ⌜ (length (now stored) ≡ weightsLength) × (length (now sum) ≡ 64) × (r < 8) × (first ≤ 64) ⌝ }
     ensures { λ _. ⌜ Weighed (λ (i : ℕ) (q : ℕ). weightOf step (now (fields .entry)) (now (slopes .entry)) first r i q) (now (stored .exit)) (now (sum .exit)) (length (kernel step)) × DivisorsBounded step (now (fields .entry)) (now (slopes .entry)) first r (now (sum .exit)) ⌝ }
 {
     ones(sum);
@@ -108,7 +98,7 @@ fn weigh_all(
 
 // The samples themselves.
 fn centre(out: &mut [f32], at: usize, win: &[f32; WINDOWS], from: usize)
-    requires { ⌜ (at + 56 ≤ length (now out)) × (from + 56 ≤ 2688) ⌝ }
+    requires { ⌜ (at + 56 ≤ length (now out)) × (from + 56 ≤ windowsLength) ⌝ }
     ensures { λ _. ⌜ now (out .exit) ≡ fill (now (out .entry)) at 56 (λ (i : ℕ). getD (now (win .entry)) (from + i) nan) ⌝ }
 {
     let mut i = 0;
@@ -129,7 +119,7 @@ fn with_four(
     k2: usize,
     k3: usize,
 ) -> f32
-    requires { ⌜ (a + 192 < 768) × (k0 < 2688) × (k1 < 2688) × (k2 < 2688) × (k3 < 2688) ⌝ }
+    requires { ⌜ (a + 192 < weightsLength) × (k0 < windowsLength) × (k1 < windowsLength) × (k2 < windowsLength) × (k3 < windowsLength) ⌝ }
     ensures { λ r. ⌜ r ≡ x ⊕ getD (now (stored .entry)) a nan ⊗ getD (now (win .entry)) k0 nan ⊕ getD (now (stored .entry)) (a + 64) nan ⊗ getD (now (win .entry)) k1 nan ⊕ getD (now (stored .entry)) (a + 128) nan ⊗ getD (now (win .entry)) k2 nan ⊕ getD (now (stored .entry)) (a + 192) nan ⊗ getD (now (win .entry)) k3 nan ⌝ }
 {
     let half = x + stored[a] * win[k0] + stored[a + STRIDE] * win[k1];
@@ -148,7 +138,7 @@ fn add_four(
     k2: usize,
     k3: usize,
 )
-    requires { ⌜ (at + 56 ≤ length (now out)) × (a + 248 ≤ 768) × (k0 + 56 ≤ 2688) × (k1 + 56 ≤ 2688) × (k2 + 56 ≤ 2688) × (k3 + 56 ≤ 2688) ⌝ }
+    requires { ⌜ (at + 56 ≤ length (now out)) × (a + 248 ≤ weightsLength) × (k0 + 56 ≤ windowsLength) × (k1 + 56 ≤ windowsLength) × (k2 + 56 ≤ windowsLength) × (k3 + 56 ≤ windowsLength) ⌝ }
     ensures { λ _. ⌜ now (out .exit) ≡ fill (now (out .entry)) at 56 (λ (i : ℕ). getD (now (out .entry)) (at + i) nan ⊕ getD (now (stored .entry)) (a + i) nan ⊗ getD (now (win .entry)) (k0 + i) nan ⊕ getD (now (stored .entry)) (a + i + 64) nan ⊗ getD (now (win .entry)) (k1 + i) nan ⊕ getD (now (stored .entry)) (a + i + 128) nan ⊗ getD (now (win .entry)) (k2 + i) nan ⊕ getD (now (stored .entry)) (a + i + 192) nan ⊗ getD (now (win .entry)) (k3 + i) nan) ⌝ }
 {
     let mut i = 0;
@@ -199,7 +189,7 @@ fn blend(
     requires { ⌜ (at + 56 ≤ length (now out)) × (c < 3) × (r < 8) ⌝ }
     ensures { λ _. ⌜ now (out .exit) ≡ fill (now (out .entry)) at 56 (storedTo step (now (stored .entry)) (now (win .entry)) c r (length (kernel step))) ⌝ }
 {
-    let base = c * PLANE + r * STRIDE;
+    let base = c * WINDOW_PLANE + r * STRIDE;
     centre(out, at, win, base + CENTRE);
     let n = kernel_len(step);
     let mut q = 0;
@@ -223,7 +213,7 @@ fn blend_planes(
     planes: usize,
     r: usize,
 )
-    requires { ⌜ (length (now out) ≡ 1536) × (planes ≤ 3) × (r < 8) ⌝ }
+    requires { ⌜ (length (now out) ≡ tileLength) × (planes ≤ 3) × (r < 8) ⌝ }
     ensures { λ _. ⌜ now (out .exit) ≡ planesFill 64 8 0 56 r 1 (λ (c : ℕ) (i : ℕ) (j : ℕ). storedTo step (now (stored .entry)) (now (win .entry)) c r (length (kernel step)) i ⊘ getD (now (sum .entry)) i nan) (now (out .entry)) planes ⌝ }
 {
     let mut c = 0;
@@ -248,8 +238,8 @@ fn filter_row(
     r: usize,
     first: usize,
 )
-    requires { ⌜ (length (now out) ≡ 1536) × (length (now stored) ≡ 768) × (length (now sum) ≡ 64) × (planes ≤ 3) × (r < 8) × (first ≤ 64) ⌝ }
-    ensures { λ _. ⌜ (now (out .exit) ≡ planesFill 64 8 0 56 r 1 (λ (c : ℕ) (i : ℕ) (j : ℕ). laneOf step (now (fields .entry)) (now (slopes .entry)) (now (win .entry)) first c i r) (now (out .entry)) planes) × (length (now (stored .exit)) ≡ 768) × (length (now (sum .exit)) ≡ 64) ⌝ }
+    requires { ⌜ (length (now out) ≡ tileLength) × (length (now stored) ≡ weightsLength) × (length (now sum) ≡ 64) × (planes ≤ 3) × (r < 8) × (first ≤ 64) ⌝ }
+    ensures { λ _. ⌜ (now (out .exit) ≡ planesFill 64 8 0 56 r 1 (λ (c : ℕ) (i : ℕ) (j : ℕ). laneOf step (now (fields .entry)) (now (slopes .entry)) (now (win .entry)) first c i r) (now (out .entry)) planes) × (length (now (stored .exit)) ≡ weightsLength) × (length (now (sum .exit)) ≡ 64) ⌝ }
 {
     weigh_all(stored, sum, fields, slopes, step, r, first);
     blend_planes(out, stored, sum, win, step, planes, r);
@@ -266,7 +256,7 @@ fn filter_rows(
     top: usize,
     rows: usize,
 )
-    requires { ⌜ (length (now out) ≡ 1536) × (planes ≤ 3) × (rows ≤ 8) ⌝ }
+    requires { ⌜ (length (now out) ≡ tileLength) × (planes ≤ 3) × (rows ≤ 8) ⌝ }
     ensures { λ _. ⌜ now (out .exit) ≡ planesFill 64 8 0 56 0 rows (λ (c : ℕ) (i : ℕ) (r : ℕ). laneOf step (now (fields .entry)) (now (slopes .entry)) (now (win .entry)) (firstSlope (top + r)) c i r) (now (out .entry)) planes ⌝ }
 {
     let mut stored = [0.0; WEIGHTS];
@@ -310,7 +300,7 @@ pub fn filter_tile(
     if PLANES < planes {
         return;
     }
-    if ROWS < rows {
+    if TILE_ROWS < rows {
         return;
     }
     filter_rows(out, fields, slopes, win, step, planes, top, rows)

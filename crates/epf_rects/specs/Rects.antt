@@ -12,6 +12,7 @@ use Rattle.planes.specs.Rect.{planesFill}
 use Rattle.planes.specs.Band.{inner, setFits}
 use Rattle.planes.specs.Fits.{LayoutFits}
 use Rattle.epf_rects.specs.declared.Rect.{Rect}
+use Rattle.epf_sizes.specs.Sizes.{tileLength, tilePlane}
 
 -- ---- the definitions
 
@@ -34,7 +35,7 @@ copiedRect l n q src d = cond (rectFits l n q (length d) && eqb (length src) (le
 -- what storing a tile of three planes of 8 rows of 64 columns leaves, and nothing where it, the rectangle or the set do not fit
 unfoldable pub storedTile : Layout → ℕ → Rect → List Float → List Float → List Float
 storedTile l n q tile d =
-    cond (rectFits l n q (length d) && (eqb (length tile) 1536 && (leb (q .rows) 8 && leb (q .cols) 64))) (rectFilled l n q (taken tile 0 64 512) d) d
+    cond (rectFits l n q (length d) && (eqb (length tile) tileLength && (leb (q .rows) 8 && leb (q .cols) 64))) (rectFilled l n q (taken tile 0 64 tilePlane) d) d
 
 -- ---- what the loops ask
 

@@ -1,4 +1,8 @@
 // Rectangles of a filter region, stored from another list. These functions know no formula.
+use epf_sizes::STRIDE;
+use epf_sizes::TILE;
+use epf_sizes::TILE_PLANE;
+use epf_sizes::TILE_ROWS;
 use planes::Layout;
 use planes::copy_run;
 use planes::set_fits;
@@ -9,15 +13,6 @@ ghost use lib.ListN.{length, getD};
 ghost use lib.Ieee.{nan};
 ghost use Rattle.planes.specs.Rect.{rowsFill};
 ghost use Rattle.epf_rects.specs.Rects.{taken, Lies, rectFilled, rectFits, RectFits, copiedRect, storedTile};
-
-// Rows and columns of a tile's plane, and the samples of its planes.
-const TILE_ROWS: usize = 8;
-
-const TILE_STRIDE: usize = 64;
-
-const TILE_PLANE: usize = 512;
-
-const TILE: usize = 1536;
 
 // Columns x to x + cols and rows y to y + rows of the filter region.
 pub struct Rect {
@@ -115,7 +110,8 @@ pub fn copy_rect(dst: &mut [f32], src: &[f32], l: Layout, n: usize, rect: Rect)
     store_planes(dst, l, n, rect, src, from, stride, l.image.height * stride);
 }
 
-// The first rows and columns of a tile to a rectangle of a set. Nothing where the rectangle, the set or the tile do not fit.
+// The first rows and columns of a tile to a rectangle of a set. Nothing where the rectangle, the set or the tile do
+// not fit.
 pub fn store_tile(dst: &mut [f32], tile: &[f32], l: Layout, n: usize, rect: Rect)
     ensures { λ _. ⌜ now (dst .exit) ≡ storedTile l n rect (now (tile .entry)) (now (dst .entry)) ⌝ }
 {
@@ -128,8 +124,8 @@ pub fn store_tile(dst: &mut [f32], tile: &[f32], l: Layout, n: usize, rect: Rect
     if TILE_ROWS < rect.rows {
         return;
     }
-    if TILE_STRIDE < rect.cols {
+    if STRIDE < rect.cols {
         return;
     }
-    store_planes(dst, l, n, rect, tile, 0, TILE_STRIDE, TILE_PLANE);
+    store_planes(dst, l, n, rect, tile, 0, STRIDE, TILE_PLANE);
 }

@@ -1,7 +1,9 @@
-// The slopes of a tile's columns, from the sigmas of its blocks: those of rows at no block's border, then those of rows that lie at one.
+// The slopes of a tile's columns, from the sigmas of its blocks: those of rows at no block's border, then those of
+// rows that lie at one.
 use epf_step::at_border;
 use epf_step::multiplier;
 use epf_step::slope;
+use limits::BLOCK;
 ghost use mathlib.Core.Path.{_≡_};
 ghost use Prim.Native.Nat.{ℕ, _+_, _*_, _<_, _≤_};
 ghost use lib.ListN.{length};
@@ -10,9 +12,7 @@ ghost use Rattle.planes.specs.Fill.{fill};
 ghost use Rattle.epf_step.specs.Steps.{multiplier as multiplierOf};
 ghost use Rattle.epf_slopes.specs.Slopes.{slopeAt, firstSlope, slopesOf};
 
-// Columns of a block, and the most blocks of a tile.
-const BLOCK: usize = 8;
-
+// The most blocks of a tile.
 const BLOCKS: usize = 7;
 
 // Where the slopes of border rows start, and how many slopes there are.
@@ -76,7 +76,8 @@ fn row_slopes(
     }
 }
 
-// The slopes of at most seven blocks, whose sigmas start at `first`, with `border_sad_mul` as `edge`. Nothing for more blocks or where sigmas are missing.
+// The slopes of at most seven blocks, whose sigmas start at `first`, with `border_sad_mul` as `edge`. Nothing for
+// more blocks or where sigmas are missing.
 pub fn tile_slopes(
     slopes: &mut [f32; SLOPES],
     sigmas: &[f32],

@@ -1,5 +1,5 @@
 -- The rule behind the lists of offsets (ISO/IEC 18181-1, edge-preserving filter; Specification 11.10): which offsets a step has, each exactly once.
--- The lists, `kernel` and `dists`, have them in the Rust's order. proofs/Offsets.antt proves the statements.
+-- The lists, `kernel` and `dists`, have them in the original's order. proofs/Offsets.antt proves the statements.
 use mathlib.Core.Path.{_≡_}
 use mathlib.Core.Bool.{Bool, false, cond, _&&_}
 use mathlib.Core.List.{List, [], _∷_}

@@ -15,7 +15,7 @@ use Rattle.planes.specs.Picture.{Picture, Around, around}
 abbrev pub Offset : Type 0
 Offset = ℤ × ℤ
 
--- `epf_kernel_offsets`: the neighbours that a step weighs, in the Rust's order
+-- `epf_kernel_offsets`: the neighbours that a step weighs, in the original's order
 unfoldable pub kernel : ℕ → List Offset
 kernel zero =
     (pos 0, negsuc 1) ∷ (negsuc 0, negsuc 0) ∷ (pos 0, negsuc 0) ∷ (pos 1, negsuc 0)

@@ -5,6 +5,9 @@ ghost use Rattle.planes.specs.Samples.{_⊘_};
 ghost use Rattle.epf_step.specs.Steps.{kernel, positive as positiveOf, falloff, weightBy, copied as copiedOf, border, multiplier as multiplierOf};
 ghost use Rattle.epf_step.specs.Bounds.{WeightBounded};
 
+// Steps are 0 to 2.
+pub const LAST_STEP: usize = 2;
+
 // How many neighbours a step has.
 pub fn kernel_len(step: usize) -> usize
     ensures { λ r. ⌜ r ≡ length (kernel step) ⌝ }
@@ -50,7 +53,8 @@ pub fn at_border(p: usize) -> bool
     p % 8 == 7
 }
 
-// The multiplier of a sample, with `border_sad_mul` as `edge`: `row` counts as the image's top does, `col` from the filter region's left.
+// The multiplier of a sample, with `border_sad_mul` as `edge`: `row` counts as the image's top does, `col` from the
+// filter region's left.
 pub fn multiplier(scale: f32, edge: f32, row: usize, col: usize) -> f32
     ensures { λ r. ⌜ r ≡ multiplierOf scale edge row col ⌝ }
 {

@@ -16,6 +16,7 @@ use Rattle.epf_slopes.specs.Slopes.{Sloped}
 use Rattle.epf_step.specs.Steps.{scaled, copied, EpfPass, epfPass}
 use Rattle.epf_tiles.specs.declared.Step.{Step}
 use Rattle.epf_tiles.specs.Blocks.{blockColumns, sigmaOf}
+use Rattle.epf_sizes.specs.Sizes.{fieldsLength, windowsLength, tileLength}
 
 -- ---- the step over the filter region
 
@@ -60,10 +61,10 @@ module _ (l : Layout) (n : ℕ) (limit : Float) (sigmas src : List Float) (first
 
 -- the arrays that a tile is computed in
 pub record Scratch (win fields slopes lanes : List Float) : Type 0 where
-  pub windows : length win ≡ 2688
-  pub far : length fields ≡ 5376
+  pub windows : length win ≡ windowsLength
+  pub far : length fields ≡ fieldsLength
   pub steep : length slopes ≡ 128
-  pub tile : length lanes ≡ 1536
+  pub tile : length lanes ≡ tileLength
 
 -- the tile's rectangle holds some picture, which is the step's wherever the sigma does not say copy
 pub record Filtered (l : Layout) (n : ℕ) (s : Step) (top : ℕ) (sigmas src : List Float) (q : Rect) (d a : List Float) : Type 0 where

@@ -2,7 +2,8 @@
 pub mod strips;
 mod tile;
 
-// The settings of a step: a scale for each channel, the step's own multiplier as `scale`, the border multiplier as `edge`, and the copying limit.
+// The settings of a step: a scale for each channel, the step's own multiplier as `scale`, the border multiplier as
+// `edge`, and the copying limit.
 pub struct Step {
     pub step: usize,
     pub scales: [f32; 3],

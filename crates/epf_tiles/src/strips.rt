@@ -2,11 +2,14 @@
 use crate::Step;
 use crate::tile::blocks_of;
 use crate::tile::tile;
-use epf_distances::FIELDS;
-use epf_distances::WINDOWS;
-use epf_lanes::TILE;
 use epf_rects::Rect;
+use epf_sizes::FIELDS;
+use epf_sizes::LANES;
+use epf_sizes::TILE;
+use epf_sizes::WINDOWS;
 use epf_slopes::SLOPES;
+use epf_step::LAST_STEP;
+use limits::BLOCK;
 use planes::Layout;
 use planes::at_most;
 use planes::set_fits;
@@ -16,13 +19,6 @@ ghost use lib.ListN.{length};
 ghost use Rattle.planes.specs.Rect.{planesFill};
 ghost use Rattle.epf_tiles.specs.Tile.{Scratch, stepOver};
 ghost use Rattle.epf_tiles.specs.Region.{RegionFits, StripFits, regionOf};
-
-// Columns of a tile, and rows and columns of a block.
-const COLUMNS: usize = 56;
-
-const BLOCK: usize = 8;
-
-const LAST_STEP: usize = 2;
 
 // A top of a region, which is an i32, is less; below it rows are counted without a carry.
 const MAX_TOP: usize = 4_294_967_296;
@@ -48,7 +44,7 @@ fn strip(
 {
     let mut x = 0;
     while x < l.width {
-        let cols = at_most(l.width - x, COLUMNS);
+        let cols = at_most(l.width - x, LANES);
         let rect = Rect { x, y, rows, cols };
         tile(
             dst,
@@ -109,7 +105,8 @@ fn strips(
     }
 }
 
-// Rows `from` up to `to` of the filter region, in n planes; row 0 of it is row `top` of the image. Sigmas stand row of blocks after row of blocks.
+// Rows `from` up to `to` of the filter region, in n planes; row 0 of it is row `top` of the image. Sigmas stand row
+// of blocks after row of blocks.
 // Nothing where sets, sigmas, step or rows do not fit.
 pub fn filter_region(
     dst: &mut [f32],

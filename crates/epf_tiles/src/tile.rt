@@ -1,7 +1,5 @@
 // One tile: its lanes where a block is filtered, its samples where one is copied.
 use crate::Step;
-use epf_distances::FIELDS;
-use epf_distances::WINDOWS;
 use epf_distances::distances;
 use epf_interior::filter_inside;
 use epf_interior::lies_inside;
@@ -9,11 +7,16 @@ use epf_lanes::filter_tile;
 use epf_rects::Rect;
 use epf_rects::copy_rect;
 use epf_rects::store_tile;
+use epf_sizes::FIELDS;
+use epf_sizes::WINDOWS;
 use epf_slopes::SLOPES;
 use epf_slopes::tile_slopes;
+use epf_step::LAST_STEP;
 use epf_step::copied;
 use epf_window::load;
+use limits::BLOCK;
 use planes::Layout;
+use planes::PLANES;
 use planes::at_most;
 ghost use mathlib.Core.Path.{_≡_};
 ghost use mathlib.Core.Bool.{cond, true};
@@ -25,13 +28,6 @@ ghost use Rattle.epf_rects.specs.Rects.{rectFilled, RectFits};
 ghost use Rattle.frame.specs.Sizes.{blocksAlong};
 ghost use Rattle.epf_step.specs.Steps.{copied as copiedOf};
 ghost use Rattle.epf_tiles.specs.Tile.{sigmaStart, TileFits, Scratch, Filtered, FilteredBy, Restored, stepOver};
-
-const BLOCK: usize = 8;
-
-// The step that the planes themselves serve, and the planes that it takes.
-const LAST_STEP: usize = 2;
-
-const PLANES: usize = 3;
 
 // How many blocks begin in so many columns or rows.
 pub(crate) fn blocks_of(n: usize) -> usize
@@ -174,6 +170,7 @@ fn filter(
 {
     tile_slopes(slopes, sigmas, first, blocks_of(rect.cols), s.scale, s.edge);
     let scales = s.scales;
+    // Inside the filter region the last step needs no window.
     if s.step == LAST_STEP {
         if n == PLANES {
             if lies_inside(l, rect) {

@@ -13,6 +13,7 @@ use Rattle.planes.specs.Picture.{Picture}
 use Rattle.planes.specs.Rect.{planesFill}
 use Rattle.planes.specs.Band.{inner, setFits}
 use Rattle.planes.specs.Fits.{LayoutFits}
+use Rattle.epf_sizes.specs.Sizes.{windowsLength}
 
 -- ---- the samples
 
@@ -55,7 +56,7 @@ pub record RowFits (at row x w cols len : ℕ) : Type 0 where
   pub room : row + w ≤ len
   pub wide : w ≤ 16384
   pub col : x < w
-  pub target : at + cols ≤ 2688
+  pub target : at + cols ≤ windowsLength
   pub least : 4 ≤ cols
 
 -- a region in a list, and rows of a window's plane
@@ -65,6 +66,6 @@ pub record PlaneFits (at start stride w h x y rows cols len : ℕ) : Type 0 wher
   pub high : h ≤ 16384
   pub col : x < w
   pub row : y < h
-  pub target : at + rows * 64 ≤ 2688
+  pub target : at + rows * 64 ≤ windowsLength
   pub least : 4 ≤ cols
   pub most : cols ≤ 64

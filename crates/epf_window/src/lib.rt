@@ -1,8 +1,13 @@
-// A window on a filter region: rows and columns around a place in each plane, mirrored at the filter region's edges, as planes of 14 rows of 64 columns.
-// This is the one place where a step mirrors: what needs no mirror, step 2 away from the region's edges, reads the planes themselves.
+// A window on a filter region: rows and columns around a place in each plane, mirrored at the filter region's edges,
+// as planes of 14 rows of 64 columns.
+// This is the one place where a step mirrors: what needs no mirror, step 2 away from the region's edges, reads the
+// planes themselves.
 mod row;
 
 use crate::row::load_row;
+use epf_sizes::STRIDE;
+use epf_sizes::WINDOW_ROWS;
+use epf_sizes::WINDOWS;
 use mirror::mirrored;
 use planes::Layout;
 use planes::set_fits;
@@ -16,14 +21,6 @@ ghost use Rattle.epf_window.specs.Window.{planeSample, windowSample, loa
 const LEFT: usize = 4;
 
 const ABOVE: usize = 3;
-
-// Its sides.
-const COLUMNS: usize = 64;
-
-const ROWS: usize = 14;
-
-// The samples of three planes' windows.
-const WINDOWS: usize = 2688;
 
 // Rows `top` to top + rows of a window's plane, from a region of w columns and h rows that starts at `start`.
 fn load_plane(
@@ -47,7 +44,7 @@ fn load_plane(
     let mut i = 0;
     while i < rows {
         let k = mirrored(y + (top + i), ABOVE, h);
-        load_row(win, at + i * COLUMNS, src, start + k * stride, x, w, cols);
+        load_row(win, at + i * STRIDE, src, start + k * stride, x, w, cols);
         i += 1;
     }
 }
@@ -70,7 +67,7 @@ fn load_planes(
     let stride = l.image.width;
     let mut c = 0;
     while c < n {
-        let at = (c * ROWS + top) * COLUMNS;
+        let at = (c * WINDOW_ROWS + top) * STRIDE;
         let start = (c * l.image.height + l.top) * stride + l.left;
         load_plane(
             win,
@@ -90,7 +87,8 @@ fn load_planes(
     }
 }
 
-// Rows `top` to top + rows and the first `cols` columns of a window on column x and row y of the filter region, in n planes.
+// Rows `top` to top + rows and the first `cols` columns of a window on column x and row y of the filter region, in n
+// planes.
 // Nothing where these do not fit.
 pub fn load(
     win: &mut [f32; WINDOWS],
@@ -114,16 +112,16 @@ pub fn load(
     if l.height <= y {
         return;
     }
-    if ROWS < top {
+    if WINDOW_ROWS < top {
         return;
     }
-    if ROWS - top < rows {
+    if WINDOW_ROWS - top < rows {
         return;
     }
     if cols < LEFT {
         return;
     }
-    if COLUMNS < cols {
+    if STRIDE < cols {
         return;
     }
     load_planes(win, src, l, n, x, y, top, rows, cols)

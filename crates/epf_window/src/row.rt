@@ -1,6 +1,6 @@
 // A row of a window, from the row of a plane that it shows.
 use crate::LEFT;
-use crate::WINDOWS;
+use epf_sizes::WINDOWS;
 use mirror::mirrored;
 use planes::at_most;
 use planes::copy_run;
@@ -9,6 +9,7 @@ ghost use Prim.Native.Nat.{ℕ, _+_, _-_, _<_, _≤_};
 ghost use lib.ListN.{length, getD};
 ghost use lib.Ieee.{nan};
 ghost use Rattle.planes.specs.Fill.{fill};
+ghost use Rattle.epf_sizes.specs.Sizes.{windowsLength};
 ghost use Rattle.epf_window.specs.Window.{rowSample, RowFits};
 
 // A row that a step reads: the plane, where the row starts in it, and how many samples it has.
@@ -38,7 +39,7 @@ fn copy_mirrored(
     w: usize,
     n: usize,
 )
-    requires { ⌜ (at + n ≤ 2688) × (row + w ≤ length (now src)) × (0 < w) × (x ≤ 65536) ⌝ }
+    requires { ⌜ (at + n ≤ windowsLength) × (row + w ≤ length (now src)) × (0 < w) × (x ≤ 65536) ⌝ }
     ensures { λ _. ⌜ now (win .exit) ≡ fill (now (win .entry)) at n (rowSample (now (src .entry)) row x w) ⌝ }
 {
     let mut j = 0;

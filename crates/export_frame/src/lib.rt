@@ -7,9 +7,11 @@ ghost use mathlib.Core.Path.{_≡_};
 ghost use Rattle.frame.specs.Outcome.{frameOutcome, splitOutcome};
 ghost use Rattle.sigma.specs.Outcome.{SigmasOutcome, sigmasOutcome};
 
-// The sample sides of a frame (its sides divided by the upsampling and then by 8 to the power of the LF level, each rounded up), its group dimension (128
-// shifted left by the group size shift) and group shift, and its groups per row, per column and in all.
-// Numbers: 0; 4 for a frame side outside 1 to 16,384; 9 for an upsampling that is none of 1, 2, 4 and 8, an LF level over 4 or a group size shift over 3.
+// The sample sides of a frame (its sides divided by the upsampling and then by 8 to the power of the LF level, each
+// rounded up), its group dimension (128 shifted left by the group size shift) and group shift, and its groups per
+// row, per column and in all.
+// Numbers: 0; 4 for a frame side outside 1 to 16,384; 9 for an upsampling that is none of 1, 2, 4 and 8, an LF level
+// over 4 or a group size shift over 3.
 // The lowest that applies is given. A refusal has 0 in every other field.
 #[no_mangle]
 pub extern "C" fn restoration_group_sizes(f: Frame) -> FrameAnswer
@@ -27,13 +29,15 @@ pub extern "C" fn restoration_split_block(block: u32, group_size_shift: u32) -> 
     frame::split_block(block, group_size_shift)
 }
 
-// With the edge-preserving filter on (`on` 1), fills `sigmas` with the sigma of each block of 8 by 8 samples of a filter region, row of blocks after row: the
-// cell of its group's grid or, where that grid is missing, the sigma of the block above, the top block row starting from `sigma_for_modular`. With it off
-// (`on` 0) `sigmas` has length 0. `blocks` is the filter region, its left and top in blocks. `table` has three numbers for each group of the frame (whether
-// its grid is present, grid width, grid height); `grids` has the present grids one after another.
-// Numbers: 0; 4 for a side of the frame, the filter region's measures, or a present grid's side outside 1 to 1,024; 7 for a table, grids or sigmas of another
-// length; 8, with the filter on, for a block whose group is not in the frame or whose present grid does not hold it; 9 for the frame's settings, a presence
-// that is neither 0 nor 1, or `on` neither 0 nor 1. The lowest that applies is given; a check that needs a number faulty under 9 is passed over: the
+// With the edge-preserving filter on (`on` 1), fills `sigmas` with the sigma of each block of 8 by 8 samples of a
+// filter region, row of blocks after row: the cell of its group's grid or, where that grid is missing, the sigma of
+// the block above, the top block row starting from `sigma_for_modular`. With it off (`on` 0) `sigmas` has length 0.
+// `blocks` is the filter region, its left and top in blocks. `table` has three numbers for each group of the frame
+// (whether its grid is present, grid width, grid height); `grids` has the present grids one after another.
+// Numbers: 0; 4 for a side of the frame, the filter region's measures, or a present grid's side outside 1 to 1,024; 7
+// for a table, grids or sigmas of another length; 8, with the filter on, for a block whose group is not in the frame
+// or whose present grid does not hold it; 9 for the frame's settings, a presence that is neither 0 nor 1, or `on`
+// neither 0 nor 1. The lowest that applies is given; a check that needs a number faulty under 9 is passed over: the
 // sigmas' length and 8 need `on`. A refusal leaves `sigmas` as they were. `table` and `grids` are only read.
 #[no_mangle]
 pub extern "C" fn restoration_block_sigmas(

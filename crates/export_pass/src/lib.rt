@@ -9,8 +9,8 @@ ghost use Rattle.gabor.specs.Outcome.{gaborOutcome};
 ghost use Rattle.planes_layout.specs.Outcome.{PassOutcome};
 ghost use Rattle.mirror.specs.Outcome.{mirrorOutcome};
 
-// The place in a row of `len` samples that a filter reads for an offset beyond an edge: with m the offset modulo 2 * len, not negative, it is m if m < len and
-// else 2 * len - 1 - m.
+// The place in a row of `len` samples that a filter reads for an offset beyond an edge: with m the offset modulo
+// 2 * len, not negative, it is m if m < len and else 2 * len - 1 - m.
 // Numbers: 0; 9 for a length outside 1 to 16,384 or an offset outside -1,048,576 to 1,048,576. A refusal has place 0.
 #[no_mangle]
 pub extern "C" fn restoration_mirror(offset: isize, len: usize) -> MirrorAnswer
@@ -19,12 +19,14 @@ pub extern "C" fn restoration_mirror(offset: isize, len: usize) -> MirrorAnswer
     mirror::mirror(offset, len)
 }
 
-// The Gabor-like filter over rows `from` up to `to` of its result, which is the full planes (`preserve_outside` 1) or the filter region alone (0). Reads `src`
-// and writes `dst`, sets of three planes one after another, each row after row without gaps: filtered in the filter region, copied outside it; samples of
-// `dst` that are not in these rows of the result stay. The settings' weights are any floats; whether they say that the filter is on is not read.
-// Numbers: 0; 4 for a region out of measure (sides 1 to 16,384, area to 16,777,216, left and top -1,048,576 to 1,048,576); 5 for a filter region that is not
-// inside the image region; 7 for a set that has not exactly 3 * width * height samples of the image region; 9 for `preserve_outside` neither 0 nor 1, `from`
-// after `to`, or `to` past the last row of the result. The lowest that applies is given. A refusal leaves `dst` as it was. `src` is only read.
+// The Gabor-like filter over rows `from` up to `to` of its result, which is the full planes (`preserve_outside` 1) or
+// the filter region alone (0). Reads `src` and writes `dst`, sets of three planes one after another, each row after
+// row without gaps: filtered in the filter region, copied outside it; samples of `dst` that are not in these rows of
+// the result stay. The settings' weights are any floats; `enabled` is ignored.
+// Numbers: 0; 4 for a region out of measure (sides 1 to 16,384, area to 16,777,216, left and top -1,048,576 to
+// 1,048,576); 5 for a filter region that is not inside the image region; 7 for a set whose length is not
+// 3 * width * height of the image region; 9 for `preserve_outside` neither 0 nor 1, `from` after `to`, or `to` past the
+// last row of the result. The lowest that applies is given. A refusal leaves `dst` as it was. `src` is only read.
 #[no_mangle]
 pub extern "C" fn restoration_gabor_pass(
     image: Region,
@@ -42,12 +44,14 @@ pub extern "C" fn restoration_gabor_pass(
     gabor::gabor_pass(image, filter, preserve_outside, weights, from, to, src, dst)
 }
 
-// Step 0, 1 or 2 of the edge-preserving filter over rows `from` up to `to` of its result, which is the full planes (`preserve_outside` 1) or the filter region
-// alone (0). Reads `src` and writes `dst` as `restoration_gabor_pass` does. `sigmas` has one sigma for each block of 8 by 8 samples of the filter region, row of
-// blocks after row; sigmas, scales and multipliers are any floats.
-// Numbers: 0; 4 for a region out of measure; 5 for a filter region that is not inside the image region; 6 for a left or top of the filter region that is
-// negative or no multiple of 8; 7 for a set or sigmas of another length; 9 for a step over 2, `preserve_outside` neither 0 nor 1, `from` after `to`, or `to`
-// past the last row of the result. The lowest that applies is given. A refusal leaves `dst` as it was. `src` and `sigmas` are only read.
+// Step 0, 1 or 2 of the edge-preserving filter over rows `from` up to `to` of its result, which is the full planes
+// (`preserve_outside` 1) or the filter region alone (0). Reads `src` and writes `dst` as `restoration_gabor_pass`
+// does. `sigmas` has one sigma for each block of 8 by 8 samples of the filter region, row of blocks after row;
+// sigmas, scales and multipliers are any floats.
+// Numbers: 0; 4 for a region out of measure; 5 for a filter region that is not inside the image region; 6 for a left
+// or top of the filter region that is negative or no multiple of 8; 7 for a set or sigmas of another length; 9 for a
+// step over 2, `preserve_outside` neither 0 nor 1, `from` after `to`, or `to` past the last row of the result. The
+// lowest that applies is given. A refusal leaves `dst` as it was. `src` and `sigmas` are only read.
 #[no_mangle]
 pub extern "C" fn restoration_epf_pass(
     image: Region,

@@ -8,7 +8,8 @@ ghost use Rattle.region.specs.Answers.{isEmptyOutcome, rightOutcome, bottomOutc
 ghost use Rattle.region_arithmetic.specs.Answers.{translateOutcome, intersectionOutcome, padOutcome, downsampleOutcome, alignedOutcome};
 
 // Whether a region has a side of 0.
-// Numbers: 0; 4 for a region out of measure: a side over 16,384, or left or top outside -1,048,576 to 1,048,576. A refusal answers false.
+// Numbers: 0; 4 for a region out of measure: a side over 16,384, or left or top outside -1,048,576 to 1,048,576. A
+// refusal answers false.
 #[no_mangle]
 pub extern "C" fn restoration_region_is_empty(r: Region) -> BoolAnswer
     ensures { λ a. ⌜ a ≡ isEmptyOutcome r ⌝ }
@@ -70,9 +71,10 @@ pub extern "C" fn restoration_region_pad(r: Region, size: u32) -> RegionAnswer
     region_arithmetic::pad(r, size)
 }
 
-// The cells of 2^factor by 2^factor samples that a region touches, as a region; the shift of a negative left or top rounds toward minus infinity.
-// Numbers: 0; 4 where the region, or with a factor in range the result, is out of measure; 9 for a factor over 16. The lowest that applies is given. A refusal
-// has the region 0, 0, 0, 0.
+// The cells of 2^factor by 2^factor samples that a region touches, as a region; the shift of a negative left or top
+// rounds toward minus infinity.
+// Numbers: 0; 4 where the region, or with a factor in range the result, is out of measure; 9 for a factor over 16.
+// The lowest that applies is given. A refusal has the region 0, 0, 0, 0.
 #[no_mangle]
 pub extern "C" fn restoration_region_downsample(r: Region, factor: u32) -> RegionAnswer
     ensures { λ a. ⌜ a ≡ downsampleOutcome r factor ⌝ }
@@ -81,8 +83,8 @@ pub extern "C" fn restoration_region_downsample(r: Region, factor: u32) -> Regio
 }
 
 // The smallest region that contains this one and has its edges at multiples of `grid_dim`.
-// Numbers: 0; 4 where the region, or with an alignment in range the result, is out of measure; 9 for an alignment that is no power of two from 1 to 8,192. The
-// lowest that applies is given. A refusal has the region 0, 0, 0, 0.
+// Numbers: 0; 4 where the region, or with an alignment in range the result, is out of measure; 9 for an alignment
+// that is no power of two from 1 to 8,192. The lowest that applies is given. A refusal has the region 0, 0, 0, 0.
 #[no_mangle]
 pub extern "C" fn restoration_region_container_aligned(r: Region, grid_dim: u32) -> RegionAnswer
     ensures { λ a. ⌜ a ≡ alignedOutcome r «grid_dim» ⌝ }

@@ -1,4 +1,7 @@
-// Sample sides, group dimension and shift, LF groups of a frame, and which group and inner cell a block has (Specification 7.1, 7.2).
+// Sample sides, group dimension and shift, LF groups of a frame, and which group and inner cell a block has
+// (Specification 7.1, 7.2).
+use limits::BLOCK_U32;
+use limits::MAX_SIDE_U32;
 ghost use mathlib.Core.Path.{_≡_};
 ghost use Prim.Native.Nat.{_<_, _≤_};
 ghost use Rattle.refusals.specs.Checks.{firstOf};
@@ -6,13 +9,9 @@ ghost use Rattle.frame.specs.Sizes.{dividedUp, sampleSide, groupDim, gro
 ghost use Rattle.frame.specs.Outcome.{frameChecks, frameOutcome, splitOutcome, badSide, badSides, badUpsampling, badSettings, noSizes};
 ghost use Rattle.frame.specs.Sound.{Sound};
 
-const MAX_SIDE: u32 = 16_384;
-
 const MAX_LF_LEVEL: u32 = 4;
 
 const MAX_GROUP_SIZE_SHIFT: u32 = 3;
-
-const BLOCK_DIM: u32 = 8;
 
 // The numbers of a frame header that its sizes depend on.
 #[repr(C)]
@@ -78,7 +77,7 @@ fn groups_along(side: u32, shift: u32) -> u32
     requires { ⌜ (side ≤ 16384) × (shift ≤ 3) ⌝ }
     ensures { λ r. ⌜ r ≡ groupsAlong side shift ⌝ }
 {
-    div_ceil(side, BLOCK_DIM * group_dim(shift))
+    div_ceil(side, BLOCK_U32 * group_dim(shift))
 }
 
 fn bad_side(side: u32) -> bool
@@ -87,7 +86,7 @@ fn bad_side(side: u32) -> bool
     if side < 1 {
         return true;
     }
-    MAX_SIDE < side
+    MAX_SIDE_U32 < side
 }
 
 fn bad_upsampling(upsampling: u32) -> bool

@@ -2,6 +2,7 @@
 mod pass;
 
 use pass::gabor_band;
+use planes::PLANES;
 use planes::rows_fit;
 use planes::set_fits;
 use planes_layout::layout_of;
@@ -15,10 +16,9 @@ ghost use mathlib.Core.Path.{_≡_};
 ghost use Rattle.planes_layout.specs.Outcome.{PassOutcome};
 ghost use Rattle.gabor.specs.Outcome.{gaborOutcome};
 
-const PLANES: usize = 3;
-
-// Rows `from` up to `to` of the result, which is the full planes (`preserve_outside` 1) or the filter region alone (0): reads `src` and writes
-// `dst`, sets of three planes. Weights are of the side neighbours and of the diagonal ones, a pair a channel; any floats are taken.
+// Rows `from` up to `to` of the result, which is the full planes (`preserve_outside` 1) or the filter region alone
+// (0): reads `src` and writes `dst`, sets of three planes. Weights are of the side neighbours and of the diagonal
+// ones, one pair per channel; any floats are taken.
 pub fn gabor_pass(
     image: Region,
     filter: Region,

@@ -1,6 +1,8 @@
 // One sample of the Gabor-like filter from the samples that it reads. Numbers in names say how many are read.
-// In a group of three, 0 is to the left, 1 here and 2 to the right; t is of the row above, c of the row itself, b of the row below.
-// w0 weighs the side neighbours and w1 the diagonal ones; every sum is multiplied by g, the reciprocal of the kernel's sum.
+// In a group of three, 0 is to the left, 1 here and 2 to the right; t is of the row above, c of the row itself, b of
+// the row below.
+// w0 weighs the side neighbours and w1 the diagonal ones; every sum is multiplied by g, the reciprocal of the
+// kernel's sum.
 ghost use mathlib.Core.Path.{_≡_};
 ghost use lib.Ieee.{nan};
 ghost use lib.IntN.{ℤ};

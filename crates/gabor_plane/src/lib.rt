@@ -3,6 +3,7 @@ mod reads;
 mod rows;
 
 use gabor_kernel::global_weight;
+use limits::MAX_SIDE;
 use rows::region_row;
 ghost use mathlib.Core.Path.{_≡_};
 ghost use Prim.Native.Nat.{_+_, _*_, _≤_};
@@ -12,10 +13,8 @@ ghost use Rattle.gabor_kernel.specs.Gabor.{total};
 ghost use Rattle.gabor_plane.specs.Rows.{RegionFits};
 ghost use Rattle.gabor_plane.specs.Plane.{regionRows, regionFits, planeOutcome};
 
-// The longest side of a region.
-const SIDE: usize = 16384;
-
-// Rows `from` to from + n of a region of w columns and h rows whose first row starts at index `at`, each next one a stride later.
+// Rows `from` to from + n of a region of w columns and h rows whose first row starts at index `at`, each next one a
+// stride later.
 fn gabor_rows(
     src: &[f32],
     dst: &mut [f32],
@@ -55,10 +54,10 @@ fn region_fits(at: usize, stride: usize, w: usize, h: usize, len: usize) -> bool
     if stride < w {
         return false;
     }
-    if SIDE < stride {
+    if MAX_SIDE < stride {
         return false;
     }
-    if SIDE < h {
+    if MAX_SIDE < h {
         return false;
     }
     let span = (h - 1) * stride + w;
@@ -68,7 +67,8 @@ fn region_fits(at: usize, stride: usize, w: usize, h: usize, len: usize) -> bool
     at <= len - span
 }
 
-// Those rows, written where they are read from. Nothing where the region does not lie in both slices, which have one length, or has no such rows.
+// Those rows, written where they are read from. Nothing where the region does not lie in both slices, which have one
+// length, or has no such rows.
 pub fn gabor_plane(
     src: &[f32],
     dst: &mut [f32],

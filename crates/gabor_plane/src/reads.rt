@@ -1,5 +1,6 @@
 // Samples of the Gabor-like filter from a read-only slice: indices and no formula.
-// t, c and b are the starts of the row above, the row itself and the row below; l, m and r the columns to the left, here and to the right.
+// t, c and b are the starts of the row above, the row itself and the row below; l, m and r the columns to the left,
+// here and to the right.
 use gabor_kernel::edge2;
 use gabor_kernel::edge4;
 use gabor_kernel::edge6;

@@ -143,7 +143,8 @@ fn gabor_row_solo(
     dst[o + (w - 1)] = solo_end(src, c, w - 2, w - 1, w0, w1, g);
 }
 
-// Row y of a region of w columns and h rows whose first row starts at index `at`, each next one a stride later: this one at o, in both slices.
+// Row y of a region of w columns and h rows whose first row starts at index `at`, each next one a stride later: this
+// one at o, in both slices.
 pub(crate) fn region_row(
     src: &[f32],
     dst: &mut [f32],

@@ -1,4 +1,5 @@
-// Both filter bundles of a frame header in sequence, as `RestorationFilter` has them (without `all_default` and extensions).
+// Both filter bundles of a frame header in sequence, as `RestorationFilter` has them (without `all_default` and
+// extensions).
 ghost use mathlib.Core.Path.{_≡_};
 ghost use Rattle.header_bits.specs.Outcome.{refused};
 ghost use Rattle.header.specs.Restoration.{restorationAt, restorationAnswer};

@@ -29,7 +29,8 @@ fn of_fields(sign: u32, exponent: u32, digits: u32) -> f32
     f32::from_bits(sign * 2147483648 + exponent * 8388608 + digits)
 }
 
-// A finite half as a binary32, exactly. A subnormal half is normal in binary32: its highest digit moves up to the leading place.
+// A finite half as a binary32, exactly. A subnormal half is normal in binary32: its highest digit moves up to the
+// leading place.
 fn widen(half: u32) -> f32
     requires { ⌜ (half < 65536) × (exponentOf half < 31) ⌝ }
     ensures { λ r. ⌜ r ≡ halfOf half ⌝ }

@@ -158,7 +158,7 @@ periods : (n k h m : ℕ) → k ≡ m + h * (2 * n) → m < 2 * n → mirror (po
 unfolding mirror modℤ
 periods n k h m e l = rw (e, add-mul-mod-self-right m h (2 * n), mod-eq-of-lt l)
 
--- Runs of n places go up and down by turns: in an even run the place is k modulo n,
+-- Runs of n places go up and down alternately: in an even run the place is k modulo n,
 pub mirror-even : (n k : ℕ) → 0 < n → k / n % 2 ≡ 0 → mirror (pos k) n ≡ k % n
 mirror-even n k p e =
     let l : k % n < n = mod-lt k p in

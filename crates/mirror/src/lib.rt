@@ -1,12 +1,11 @@
 // The place of an offset in a row of samples, mirrored at both edges (Specification 8.1).
+use limits::MAX_SIDE;
 ghost use mathlib.Core.Path.{_≡_};
 ghost use lib.Signed.{mag};
 ghost use lib.IntN.{pos, subℕ};
 ghost use Rattle.refusals.specs.Numbers.{outOfRange};
 ghost use Rattle.mirror.specs.Mirror.{mirror};
 ghost use Rattle.mirror.specs.Outcome.{mirrorAnswered, mirrorOutcome};
-
-const MAX_LENGTH: usize = 16_384;
 
 const MIN_OFFSET: isize = -1_048_576;
 
@@ -18,7 +17,7 @@ pub struct MirrorAnswer {
     pub place: usize,
 }
 
-// The place of an offset that is not negative. Runs of n samples go up and down by turns.
+// The place of an offset that is not negative. Runs of n samples go up and down alternately.
 fn place(ahead: usize, n: usize) -> usize
     ensures { λ r. ⌜ r ≡ mirror (pos ahead) n ⌝ }
 {
@@ -69,7 +68,7 @@ pub fn mirror(offset: isize, len: usize) -> MirrorAnswer
     if len < 1 {
         return refused();
     }
-    if MAX_LENGTH < len {
+    if MAX_SIDE < len {
         return refused();
     }
     if offset < MIN_OFFSET {

@@ -1,4 +1,6 @@
-// Planes row after row without gaps, one after the other: where a filter region lies in them, and which sets and rows there are.
+// Planes row after row without gaps, one after the other: where a filter region lies in them, and which sets and rows
+// there are.
+use limits::MAX_SIDE;
 ghost use mathlib.Core.Path.{_≡_};
 ghost use Prim.Native.Nat.{ℕ, _+_, _≤_, min};
 ghost use lib.Dec.{leb};
@@ -8,10 +10,8 @@ ghost use Rattle.planes.specs.Fill.{fill};
 ghost use Rattle.planes.specs.Copy.{copiedRun};
 ghost use Rattle.planes.specs.Band.{layoutFits, setFits, rowsFit, filterRow};
 
-// The longest side of an image region, and the most planes of a set.
-const SIDE: usize = 16384;
-
-const PLANES: usize = 3;
+// The most planes of a set.
+pub const PLANES: usize = 3;
 
 // The sides of a region, in samples.
 pub struct Size {
@@ -54,10 +54,10 @@ fn inside(at: usize, n: usize, end: usize) -> bool
 pub fn layout_fits(l: Layout) -> bool
     ensures { λ r. ⌜ r ≡ layoutFits l ⌝ }
 {
-    if SIDE < l.image.width {
+    if MAX_SIDE < l.image.width {
         return false;
     }
-    if SIDE < l.image.height {
+    if MAX_SIDE < l.image.height {
         return false;
     }
     if !inside(l.left, l.width, l.image.width) {

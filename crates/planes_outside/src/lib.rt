@@ -71,7 +71,8 @@ fn fills_image(l: Layout) -> bool
     l.height == l.image.height
 }
 
-// Rows `from` to `to` of the result: copies what lies outside the filter region. Nothing where sets, layout or rows do not fit.
+// Rows `from` to `to` of the result: copies what lies outside the filter region. Nothing where sets, layout or rows
+// do not fit.
 pub fn copy_outside(src: &[f32], dst: &mut [f32], l: Layout, n: usize, from: usize, to: usize)
     ensures { λ _. ⌜ now (dst .exit) ≡ copiedOutside l n from to (now (src .entry)) (now (dst .entry)) ⌝ }
 {

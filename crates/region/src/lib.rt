@@ -1,4 +1,5 @@
-// Region, and what it tells of itself (region.rs). Each method judges the regions that it is given by the limits of Specification 4.1.
+// Region and the questions that it answers (region.rs). Each method checks the regions that it is given against the
+// limits of Specification 4.1.
 use refusals::ACCEPTED;
 use refusals::OUT_OF_MEASURE;
 use region_interval::Span;

@@ -1,9 +1,11 @@
-// Regions made from regions (region.rs). Each function judges the regions that it is given, and the one that results, by the limits of Specification 4.1.
+// Regions made from regions (region.rs). Each function checks the regions that it is given, and its result,
+// against the limits of Specification 4.1.
 use refusals::ACCEPTED;
 use refusals::OUT_OF_MEASURE;
 use refusals::OUT_OF_RANGE;
 use region::Region;
 use region::measured;
+use region_interval::LARGEST_EXPONENT;
 use region_interval::Span;
 ghost use mathlib.Core.Path.{_≡_};
 ghost use lib.Dec.{T};
@@ -21,8 +23,6 @@ pub struct RegionAnswer {
 }
 
 const LARGEST_FACTOR: u32 = 16;
-// 2^13 is the largest alignment, 8,192.
-const LARGEST_EXPONENT: u32 = 13;
 
 fn refused(number: u32) -> RegionAnswer
     ensures { λ r. ⌜ r ≡ record { number = number; region = zeroRegion } ⌝ }

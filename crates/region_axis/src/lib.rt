@@ -1,4 +1,6 @@
-// The measures of one axis: an interval as a start and a length, if they are within Specification 4.1, and how far two places are apart.
+// The measures of one axis: an interval as a start and a length, if they are within Specification 4.1, and how far
+// two places are apart.
+use limits::MAX_SIDE_U64;
 use region_interval::Span;
 ghost use mathlib.Core.Path.{_≡_};
 ghost use mathlib.Core.Bool.{false};
@@ -13,8 +15,6 @@ pub struct Axis {
     pub start: i32,
     pub len: u32,
 }
-
-const LARGEST_SIDE: u64 = 16_384;
 
 const LOWEST_PLACE: i64 = -1_048_576;
 
@@ -69,7 +69,7 @@ fn judged(start: i64, end: i64) -> Axis
         return out_of_measure();
     }
     let len = distance(start, end);
-    if LARGEST_SIDE < len {
+    if MAX_SIDE_U64 < len {
         return out_of_measure();
     }
     Axis {

@@ -12,7 +12,7 @@ pub struct Span {
 }
 
 // Alignments are 2^0 to 2^13.
-const LARGEST_EXPONENT: u32 = 13;
+pub const LARGEST_EXPONENT: u32 = 13;
 
 fn wide(x: i32) -> i64
     ensures { λ r. ⌜ (r ≡ x) × (mag r < 0x8000_0000) ⌝ }

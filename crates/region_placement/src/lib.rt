@@ -1,4 +1,6 @@
 // Where a filter region lies in an image region, and whether it starts at multiples of 8.
+use limits::BLOCK;
+use limits::MAX_AREA_U64;
 use refusals::ACCEPTED;
 use refusals::NOT_INSIDE;
 use refusals::OUT_OF_MEASURE;
@@ -18,10 +20,6 @@ pub struct PlacedAnswer {
     pub y: u32,
 }
 
-const LARGEST_AREA: u64 = 16_777_216;
-
-const BLOCK: usize = 8;
-
 fn area_fits(width: u32, height: u32) -> bool
     ensures { λ b. ⌜ b ≡ areaFits width height ⌝ }
 {
@@ -31,7 +29,7 @@ fn area_fits(width: u32, height: u32) -> bool
     if height < 1 {
         return false;
     }
-    (width as u64) * (height as u64) <= LARGEST_AREA
+    (width as u64) * (height as u64) <= MAX_AREA_U64
 }
 
 // A region that an image or a filter may have.
@@ -50,7 +48,8 @@ fn unplaced(number: u32) -> PlacedAnswer
     PlacedAnswer { number, x: 0, y: 0 }
 }
 
-// Where a filter region lies in an image region, for the passes: 4 where either is no region of a picture, 5 where it is not inside.
+// Where a filter region lies in an image region, for the passes: 4 where either is not a region that a picture
+// may have, 5 where it is not inside.
 pub fn placed(image: Region, filter: Region) -> PlacedAnswer
     ensures { λ r. ⌜ r ≡ placedOutcome image filter ⌝ }
 {

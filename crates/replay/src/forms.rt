@@ -1,5 +1,5 @@
-// The numbers of a row at their types. A row's form is a letter for each number: i an i32, u a u32, s an isize, z a usize, b a bool, y a byte,
-// f the bits of an f32.
+// The numbers of a row at their types. A row's form is a letter for each number: i an i32, u a u32, s an isize, z a
+// usize, b a bool, y a byte, f the bits of an f32.
 
 fn least(kind: u8) -> i64 {
     match kind {

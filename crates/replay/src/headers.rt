@@ -1,5 +1,5 @@
-// Headers: the count of the bytes and each byte, the bit place, for an edge filter whether the encoding is Modular, the number, the result,
-// the next bit place.
+// Headers: the count of the bytes and each byte, the bit place, for an edge filter whether the encoding is Modular,
+// the number, the result, the next bit place.
 use crate::forms::bool_at;
 use crate::forms::has_float;
 use crate::forms::has_form;

@@ -1,4 +1,5 @@
-// A list has a row a line: a name, then numbers, with single spaces between. Empty lines and lines that begin with # are no rows.
+// A list has one row per line: a name, then numbers, with single spaces between. Empty lines and lines that begin
+// with # are no rows.
 use crate::subjects::Subject;
 use replay_text::Number;
 ghost use Prim.Native.Nat.{_≤_};

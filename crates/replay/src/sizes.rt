@@ -1,4 +1,5 @@
-// Mirror: offset, length, number, place. Group sizes: the frame's numbers, number, sizes. Split of a block: block, group size shift, number, group, inner.
+// Mirror: offset, length, number, place. Group sizes: the frame's numbers, number, sizes. Split of a block: block,
+// group size shift, number, group, inner.
 use crate::forms::has_form;
 use crate::forms::isize_at;
 use crate::forms::u32_at;

@@ -83,7 +83,8 @@ fn spelled(word: &[u8], from: usize, base: u64, negative: bool) -> Number
     value(size, negative)
 }
 
-// The number that a word is: decimal digits, perhaps after a minus sign; or x and eight hexadecimal digits, the bits of a float.
+// The number that a word is: decimal digits, perhaps after a minus sign; or x and eight hexadecimal digits, the bits
+// of a float.
 pub fn number_of(word: &[u8]) -> Number
     ensures { λ r. ⌜ r ≡ numberOf (now (word .entry)) ⌝ }
 {

@@ -15,7 +15,7 @@ pub record SigmasOutcome : Type 0 where
   pub number : ℕ
   pub sigmas : List Float
 
--- accepted, with the edge filter on, the sigmas are the filter region's; else they are as lent
+-- accepted, with the edge filter on, the sigmas are the filter region's; else they are as passed in
 abbrev pub leftIn : ℕ → Bool → List Float → List Float → List Float
 leftIn number on defined lent = cond (eqb number 0 && on) defined lent
 

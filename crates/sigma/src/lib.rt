@@ -3,6 +3,8 @@ use frame::Frame;
 use frame::GroupSizes;
 use planes::copy_run;
 use sigma_blocks::Blocks;
+use sigma_grids::ENTRY;
+use sigma_grids::PRESENT;
 ghost use mathlib.Core.Path.{_≡_};
 ghost use Prim.Native.Nat.{ℕ, _+_, _*_, _<_, _≤_};
 ghost use lib.ListN.{length};
@@ -13,10 +15,6 @@ ghost use Rattle.sigma_blocks.specs.Measures.{blocksAcross, blocksDown};
 ghost use Rattle.sigma.specs.Sigma.{missing, sigmaIn, blockSigmas};
 ghost use Rattle.sigma.specs.Outcome.{SigmasOutcome, sigmasOutcome};
 ghost use Rattle.sigma.specs.Runs.{aboveIn, rowSigma, RunFits, RunOf, RowFits, AllFits};
-
-const PRESENT: u32 = 1;
-// Presence, grid width, grid height.
-const ENTRY: usize = 3;
 
 // What a missing grid gives, from `sigma_for_modular` and the sigma of the block above.
 fn missing(_modular: f32, above: f32) -> f32
@@ -180,7 +178,8 @@ fn fill_rows(
     }
 }
 
-// The sigma of each block of the filter region, row of blocks after row, or the number that the inputs are refused with.
+// The sigma of each block of the filter region, row of blocks after row, or the number that the inputs are refused
+// with.
 pub fn block_sigmas(
     on: u32,
     frame: Frame,

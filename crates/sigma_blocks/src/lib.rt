@@ -1,17 +1,15 @@
 // A filter region in blocks of 8 by 8 samples.
+use limits::BLOCK_U32;
+use limits::MAX_AREA_U32;
+use limits::MAX_SIDE_U32;
 ghost use mathlib.Core.Path.{_≡_};
 ghost use mathlib.Core.Bool.{_||_};
 ghost use lib.Dec.{ltb};
 ghost use Rattle.frame.specs.Sizes.{dividedUp};
 ghost use Rattle.sigma_blocks.specs.Measures.{badBlocks};
 
-const MAX_SIDE: u32 = 16_384;
-
-const MAX_AREA: u32 = 16_777_216;
 // Left and top reach to 1,048,576 samples.
 const MAX_BLOCK: u32 = 131_072;
-
-const BLOCK_DIM: u32 = 8;
 
 // A filter region whose left and top are multiples of 8: these in blocks, its sides in samples.
 #[repr(C)]
@@ -35,13 +33,13 @@ fn outside(side: u32, max: u32) -> bool
 pub fn bad_blocks(blocks: Blocks) -> bool
     ensures { λ r. ⌜ r ≡ badBlocks blocks ⌝ }
 {
-    if outside(blocks.width, MAX_SIDE) {
+    if outside(blocks.width, MAX_SIDE_U32) {
         return true;
     }
-    if outside(blocks.height, MAX_SIDE) {
+    if outside(blocks.height, MAX_SIDE_U32) {
         return true;
     }
-    if MAX_AREA < blocks.width * blocks.height {
+    if MAX_AREA_U32 < blocks.width * blocks.height {
         return true;
     }
     if MAX_BLOCK < blocks.left {
@@ -54,5 +52,5 @@ pub fn bad_blocks(blocks: Blocks) -> bool
 pub fn blocks_along(side: u32) -> u32
     ensures { λ r. ⌜ r ≡ dividedUp side 8 ⌝ }
 {
-    side / BLOCK_DIM + (side % BLOCK_DIM + (BLOCK_DIM - 1)) / BLOCK_DIM
+    side / BLOCK_U32 + (side % BLOCK_U32 + (BLOCK_U32 - 1)) / BLOCK_U32
 }

@@ -8,9 +8,11 @@ ghost use Rattle.sigma_grids.specs.Start.{startOutcome};
 
 const MAX_GRID_SIDE: u32 = 1_024;
 
-const PRESENT: u32 = 1;
-// Presence, grid width, grid height.
-const ENTRY: usize = 3;
+// A group's entry in the table: presence, grid width, grid height.
+pub const ENTRY: usize = 3;
+
+pub const PRESENT: u32 = 1;
+
 // 256 groups: 16 by 16 of 1,024 samples each way.
 const MAX_TABLE: usize = 768;
 

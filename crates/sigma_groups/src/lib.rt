@@ -1,7 +1,10 @@
-// Whether the groups of a frame hold a filter region's blocks, and which number the inputs of block sigmas get (Specification 7.7, 7.9).
+// Whether the groups of a frame hold a filter region's blocks, and which number the inputs of block sigmas get
+// (Specification 7.7, 7.9).
 use frame::Frame;
 use frame::GroupSizes;
 use sigma_blocks::Blocks;
+use sigma_grids::ENTRY;
+use sigma_grids::PRESENT;
 ghost use mathlib.Core.Path.{_≡_};
 ghost use mathlib.Core.Bool.{not, _&&_};
 ghost use Prim.Native.Nat.{ℕ, _+_, _*_, _≤_};
@@ -13,10 +16,6 @@ ghost use Rattle.sigma_groups.specs.Held.{notHeld, someNotHeld};
 ghost use Rattle.sigma_blocks.specs.Measured.{Measured};
 ghost use Rattle.sigma_groups.specs.Outcome.{sigmaCount, sigmaNumber};
 ghost use Rattle.sigma_groups.specs.Fitting.{TableOf, Fitting};
-
-const PRESENT: u32 = 1;
-// Presence, grid width, grid height.
-const ENTRY: usize = 3;
 
 fn sigma_count(on: bool, blocks: Blocks) -> usize
     requires { ⌜ Measured blocks ⌝ }

@@ -17,7 +17,7 @@ use Rattle.sigma.proofs.Runs.{all-fits}
 use Rattle.sigma.proofs.block_sigmas.Statement.{statement}
 use Rattle.sigma.proofs.block_sigmas.Tie as tie
 
--- a refusal leaves the sigmas as lent,
+-- a refusal leaves the sigmas as passed in,
 as-refused : (r number : ℕ) (on : Bool) (defined lent : List Float) → r ≡ number → (r ≡ 0 → ⊥) → _≡_ {A = SigmasOutcome} (record { number = r; sigmas = lent }) (record { number = number; sigmas = leftIn number on defined lent })
 as-refused r number on defined lent e z = rw (e, ne-eqb number 0 (λ q. z (e ∙ q)))
 
