@@ -2,11 +2,15 @@
 
 The first line says `# NAME, ..: the mutant in words`. Then come either lines `# input: `, Rattle statements that end in a bool, true of the crate as it is
 and false of the mutant, or, where no program can tell (an edit of a definition or a statement), a line `# differs: ` with the input in words.
+A mutant that a fault of its own stops on the input says so in a line `# stops`, and one that does not end in a line `# endless`.
 """
 import re
 from pathlib import Path
 
 ROOT = Path(__file__).resolve().parent.parent
+
+# How a mutant differs on its input.
+OTHER, STOPS, ENDLESS = "another answer", "stopped by a fault", "without an end"
 
 
 def crates():
@@ -15,7 +19,7 @@ def crates():
 
 
 class Edit:
-    """What its first line names, the mutant in words, its input, and what it replaces: file, old text, new text."""
+    """What its first line names, the mutant in words, its input, how it ends there, and what it replaces: file, old text, new text."""
 
     def __init__(self, path):
         lines = path.read_text().split("\n")
@@ -24,6 +28,7 @@ class Edit:
         self.names = title.group(1).split(", ") if title else []
         self.words = title.group(2) if title else ""
         self.input = [line[len("# input: ") :] for line in lines if line.startswith("# input: ")]
+        self.end = STOPS if "# stops" in lines else ENDLESS if "# endless" in lines else OTHER
         self.differs = any(line.startswith("# differs: ") for line in lines)
         self.replaced, file, old = [], "", ""
         for line in lines:

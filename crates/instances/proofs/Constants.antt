@@ -33,6 +33,7 @@ constants = record {
   gaborDefaults = refl;
   epfDefaults = refl;
   quantMulModular = refl;
+  scalesRead = refl;
   limitIs = refl;
   copiedUnder = refl;
   filteredAt = refl;

@@ -11,17 +11,22 @@ use Rattle.region_arithmetic.specs.Answers.{regionAnswer}
 use Rattle.frame.specs.Sizes.{sizesOf}
 use Rattle.frame.specs.Outcome.{badSides, badSettings}
 use Rattle.sigma_blocks.specs.Measures.{badBlocks}
-use Rattle.sigma_grids.specs.Table.{badGrid, cells, gridStart, someBelow}
+use Rattle.sigma_grids.specs.Table.{badGrid, cells, gridStart, lacks, someBelow}
 use Rattle.sigma_grids.specs.Start.{noEntries}
-use Rattle.planes_layout.specs.Outcome.{layoutOf}
-use Rattle.run_passes.specs.Plan.{steps, plan}
+use Rattle.sigma_groups.specs.Held.{notHeld, someNotHeld}
+use Rattle.sigma_groups.specs.Outcome.{tableFits, gridsFit}
+use Rattle.planes_layout.specs.Outcome.{layoutOf, passOutcome}
+use Rattle.epf.specs.Outcome.{stepChecks, epfChecks, epfOutcome}
+use Rattle.run_passes.specs.Plan.{steps, plan, stepMargin, marginChecks, marginOutcome}
 use Rattle.run_setup.specs.Setup.{bandCount, sized, numbersFit, setupFits}
 use Rattle.run_record.specs.Record.{isDone, started, bandMissing, strayDone, runFits}
-use Rattle.run_outcomes.specs.Band.{advanceOutcome}
+use Rattle.run_outcomes.specs.Start.{pictureChecks, startOutcome}
+use Rattle.run_outcomes.specs.Band.{bandChecks, bandOutcome, advanceOutcome}
+use Rattle.run_outcomes.specs.Result.{resultChecks, resultOutcome}
 use Rattle.instances.specs.Limits.{Limits}
 
 pub limits : Limits
-unfolding u mirror powerBelow place side regionOf inside measured pictured shrunkBy alignedTo regionAnswer sizesOf badSides badSettings badBlocks badGrid cells gridStart someBelow noEntries layoutOf steps plan bandCount sized numbersFit setupFits isDone started bandMissing strayDone runFits advanceOutcome
+unfolding u mirror powerBelow place side regionOf inside measured pictured shrunkBy alignedTo regionAnswer sizesOf badSides badSettings badBlocks badGrid cells gridStart lacks someBelow noEntries notHeld someNotHeld tableFits gridsFit layoutOf passOutcome stepChecks epfChecks epfOutcome steps plan stepMargin marginChecks marginOutcome bandCount sized numbersFit setupFits isDone started bandMissing strayDone runFits pictureChecks startOutcome bandChecks bandOutcome advanceOutcome resultChecks resultOutcome
 limits = record {
   regionSide = (refl, refl);
   regionRight = (refl, refl);
@@ -54,4 +59,29 @@ limits = record {
   bandHeight = (refl, refl);
   bandLeast = (refl, refl);
   bandMost = (refl, refl);
+  setsWide = (refl, refl);
+  setsHigh = (refl, refl);
+  setsArea = (refl, refl);
+  sigmasWide = (refl, refl);
+  sigmasHigh = (refl, refl);
+  sliceWide = (refl, refl);
+  sliceHigh = (refl, refl);
+  startInside = (refl, refl);
+  startOnBlocks = (refl, refl);
+  startHeld = (refl, refl);
+  startFull = (refl, refl);
+  startGabor = (refl, refl);
+  startPresence = (refl, refl);
+  stepMost = (refl, refl);
+  stepInside = (refl, refl);
+  stepOnBlocks = (refl, refl);
+  stepFull = (refl, refl);
+  sigmasHeld = (refl, refl);
+  sigmasOn = (refl, refl);
+  sigmasPresence = (refl, refl);
+  margins = (refl, refl, refl, refl);
+  marginsGabor = (refl, refl, refl, refl);
+  marginIterations = (refl, refl);
+  marginGabor = (refl, refl);
+  levels = (refl, refl, refl);
 }

@@ -39,6 +39,10 @@ sigmaDefaults = epfSigma (near 46 100) (near 9 10) (near 13 2) (near 2 3)
 abbrev pub modularHeader : List ℕ
 modularHeader = bytesOf 9 (9 + 16 * (0x3c00 * (1 + 2 ^ 16 + 2 ^ 32 + 2 ^ 48)))
 
+-- VarDct, one iteration, custom channel scales: 85 bits, the three halves being 1.0, the 32 ignored bits 1 and the last bit 0
+abbrev pub scalesHeader : List ℕ
+scalesHeader = bytesOf 11 (9 + 16 * (0x3c00 * (1 + 2 ^ 16 + 2 ^ 32)) + 2 ^ 52 * 0xffff_ffff)
+
 -- ---- the copying limit
 
 -- step 1 over 2 × 24 samples, 2^-24 in column 0 and 0 in column 1, each block having this sigma
@@ -63,6 +67,8 @@ pub record Constants : Type 0 where
   pub epfDefaults : epfAt VarDct (1 ∷ []) 0 ≡ accepted (epfWith 1 sevenths scales sigmaDefaults b1) 5
   -- Modular: quant_mul is 0.46 where the other sigma settings are read
   pub quantMulModular : epfAt Modular modularHeader 0 ≡ accepted (epfWith 1 sevenths scales (epfSigma (near 46 100) b1 b1 b1) b1) 68
+  -- VarDct: 32 bits are ignored after custom channel scales
+  pub scalesRead : epfAt VarDct scalesHeader 0 ≡ accepted (epfWith 1 sevenths (b1 ∷ b1 ∷ b1 ∷ []) sigmaDefaults b1) 85
   -- the limit is the binary32 nearest to 0.3: sigma 3E999999 copies, 3E99999A filters
   pub limitIs : near 3 10 ≡ bits 0x3e99_999a
   pub copiedUnder : column1 (bits 0x3e99_9999) ≡ b0 ∷ b0 ∷ b0 ∷ b0 ∷ []

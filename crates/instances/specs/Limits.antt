@@ -5,7 +5,8 @@ use mathlib.Core.Bool.{true, false}
 use mathlib.Core.List.{List, [], _∷_}
 use Prim.Native.Nat.{ℕ}
 use lib.IntN.{ℤ, pos, negsuc}
-use lib.ListN.{length}
+use lib.ListN.{length, replicate}
+use lib.Ieee.{Float}
 use Rattle.header_bits.specs.Outcome.{accepted, refused}
 use Rattle.header_bits.specs.Bits.{field, u}
 use Rattle.region.specs.declared.Region.{Region}
@@ -15,10 +16,17 @@ use Rattle.region_placement.specs.Placed.{placedOutcome}
 use Rattle.mirror.specs.Outcome.{mirrorOutcome}
 use Rattle.frame.specs.Outcome.{frameOutcome, splitOutcome}
 use Rattle.sigma_blocks.specs.Measures.{badBlocks}
-use Rattle.sigma_grids.specs.Start.{startOutcome}
+use Rattle.sigma_grids.specs.Start.{startOutcome as gridStartOutcome}
+use Rattle.sigma.specs.Outcome.{sigmasOutcome}
+use Rattle.planes.specs.Samples.{b0, b1}
+use Rattle.epf.specs.Outcome.{epfOutcome}
+use Rattle.run_passes.specs.declared.MarginAnswer.{MarginAnswer}
+use Rattle.run_passes.specs.Plan.{marginOutcome}
 use Rattle.run_setup.specs.declared.Setup.{Setup}
 use Rattle.run_record.specs.Record.{started}
-use Rattle.run_outcomes.specs.Band.{advanceOutcome}
+use Rattle.run_outcomes.specs.Start.{startOutcome}
+use Rattle.run_outcomes.specs.Band.{bandOutcome, advanceOutcome}
+use Rattle.run_outcomes.specs.Result.{resultOutcome}
 use Rattle.instances.specs.Instances.{begun}
 
 -- a value that is accepted and one that gets number k
@@ -36,29 +44,95 @@ sideNumber side = isEmptyOutcome (square (pos 0) side) .number
 abbrev pub cornerNumber : ℤ → ℕ
 cornerNumber corner = isEmptyOutcome (square corner 1) .number
 
+-- columns and rows from 0, 0 on
+abbrev pub sides : ℕ → ℕ → Region
+sides w h = record { left = pos 0; top = pos 0; width = w; height = h }
+
 -- an image of so many columns and rows that is its own filter region
 abbrev pub pictureNumber : ℕ × ℕ → ℕ
-pictureNumber s = let r : Region = record { left = pos 0; top = pos 0; width = s .0; height = s .1 } in placedOutcome r r .number
+pictureNumber s = placedOutcome (sides (s .0) (s .1)) (sides (s .0) (s .1)) .number
 
 abbrev pub frameNumber : ℕ → ℕ → ℕ → ℕ → ℕ
 frameNumber side upsampling level shift =
     frameOutcome (record { width = side; height = side; upsampling = upsampling; «lf_level» = level; «group_size_shift» = shift }) .number
 
--- a record of w × h samples as start gives it, with so many iterations and bands of so many rows: 9, or 11 since no band is done
-abbrev pub recordNumber : ℕ → ℕ → ℕ → ℕ → ℕ
-recordNumber w h iters height =
+-- what start is told: image and filter region, the result's flag and Gabor's, the iterations and the band height
+abbrev pub told : Region → Region → ℕ → ℕ → ℕ → ℕ → Setup
+told image filter full gabor iters height =
     let s = begun .run .setup in
-    let r : Region = record { left = pos 0; top = pos 0; width = w; height = h } in
-    advanceOutcome (started (record {
-      image = r;
-      filter = r;
-      «preserve_outside» = s .«preserve_outside»;
+    record {
+      image = image;
+      filter = filter;
+      «preserve_outside» = full;
       settings = record {
-        gabor = s .settings .gabor;
+        gabor = record { enabled = gabor; weights = s .settings .gabor .weights };
         epf = record { iters = iters; «channel_scale» = s .settings .epf .«channel_scale»; sigma = s .settings .epf .sigma; «sigma_for_modular» = s .settings .epf .«sigma_for_modular» };
       };
       «band_height» = height;
-    })) .number
+    }
+
+-- a record of w × h samples as start gives it, with so many iterations and bands of so many rows: 9, or 11 since no band is done
+abbrev pub recordNumber : ℕ → ℕ → ℕ → ℕ → ℕ
+recordNumber w h iters height = advanceOutcome (started (told (sides w h) (sides w h) 1 0 iters height)) .number
+
+-- ---- lengths that a record passed in decides: 7 where its sides are in range, else 9
+
+-- three planes of one sample
+abbrev pub single : List Float
+single = b0 ∷ b0 ∷ b0 ∷ []
+
+-- a band with an image of w × h samples, both sets empty
+abbrev pub setsNumber : ℕ → ℕ → ℕ
+setsNumber w h = bandOutcome 3 (record { run = started (told (sides w h) (sides 1 1) 1 0 0 1); sigmas = []; first = []; second = [] }) 0 .number
+
+-- a band with a filter region of w × h samples, no block sigmas
+abbrev pub noSigmasNumber : ℕ → ℕ → ℕ
+noSigmasNumber w h = bandOutcome 3 (record { run = started (told (sides 1 1) (sides w h) 1 0 1 1); sigmas = []; first = single; second = single }) 0 .number
+
+-- the result of a filter region of w × h samples, the slice empty
+abbrev pub sliceNumber : ℕ → ℕ → ℕ
+sliceNumber w h = resultOutcome 3 (started (told (sides 1 1) (sides w h) 0 0 0 1)) single single [] .number
+
+-- ---- an image of 16 × 8 samples, a filter region of 8 × 8 in it, and one group with a grid of one cell
+
+abbrev pub eightFrom : ℕ → Region
+eightFrom left = record { left = pos left; top = pos 0; width = 8; height = 8 }
+
+abbrev pub planesOf : List Float
+planesOf = replicate 384 b0
+
+-- start, by the filter region's left, both flags and the group's presence
+abbrev pub startNumber : ℕ → ℕ → ℕ → ℕ → ℕ
+startNumber left full gabor presence =
+    startOutcome 3 (record {
+      setup = told (sides 16 8) (eightFrom left) full gabor 1 8;
+      frame = record { width = 16; height = 8; upsampling = 1; «lf_level» = 0; «group_size_shift» = 0 };
+      table = presence ∷ 1 ∷ 1 ∷ [];
+      grids = b1 ∷ [];
+      first = planesOf;
+      second = planesOf;
+      sigmas = b0 ∷ [];
+    }) .answer .number
+
+-- a step, by its index, the filter region's left and the result's flag
+abbrev pub stepNumber : ℕ → ℕ → ℕ → ℕ
+stepNumber step left full =
+    epfOutcome (sides 16 8) (eightFrom left) full (record { step = step; «channel_scale» = single; multiplier = b1; «border_sad_mul» = b1 }) (b1 ∷ []) 0 8 planesOf planesOf .number
+
+-- block sigmas, by the block's column, whether the edge filter is on, and the group's presence
+abbrev pub sigmasNumber : ℕ → ℕ → ℕ → ℕ
+sigmasNumber left on presence =
+    sigmasOutcome on (record { width = 16; height = 8; upsampling = 1; «lf_level» = 0; «group_size_shift» = 0 }) (record { left = left; top = 0; width = 8; height = 8 }) (presence ∷ 1 ∷ 1 ∷ []) (b1 ∷ []) b1 (b0 ∷ [])
+    .number
+
+-- ---- the margin, by Gabor's flag and the iterations
+
+abbrev pub marginOf : ℕ → ℕ → MarginAnswer
+marginOf gabor iters = marginOutcome (told (sides 1 1) (sides 1 1) 1 gabor iters 1 .settings)
+
+-- columns of the samples that a frame 1,000 wide has at an LF level
+abbrev pub columnsAt : ℕ → ℕ
+columnsAt level = frameOutcome (record { width = 1000; height = 1; upsampling = 1; «lf_level» = level; «group_size_shift» = 0 }) .sizes .«sample_width»
 
 -- ---- the table
 
@@ -90,8 +164,8 @@ pub record Limits : Type 0 where
   pub groupShift : Limit (λ n. frameNumber 1 1 0 n) 3 4 9
   pub splitShift : Limit (λ n. splitOutcome 0 n .number) 3 4 9
   -- grids: sides 1 to 1,024
-  pub gridSide : Limit (λ n. startOutcome (1 ∷ n ∷ n ∷ []) 1 .number) 1024 1025 4
-  pub gridLeast : Limit (λ n. startOutcome (1 ∷ n ∷ n ∷ []) 1 .number) 1 0 4
+  pub gridSide : Limit (λ n. gridStartOutcome (1 ∷ n ∷ n ∷ []) 1 .number) 1024 1025 4
+  pub gridLeast : Limit (λ n. gridStartOutcome (1 ∷ n ∷ n ∷ []) 1 .number) 1 0 4
   -- block sigmas: 16,384, 16,777,216 and 1,048,576 once more, the last in blocks
   pub blockSide : (badBlocks (record { left = 0; top = 0; width = 16384; height = 1 }) ≡ false) × (badBlocks (record { left = 0; top = 0; width = 16385; height = 1 }) ≡ true)
   pub blockArea : (badBlocks (record { left = 0; top = 0; width = 4096; height = 4096 }) ≡ false) × (badBlocks (record { left = 0; top = 0; width = 1549; height = 10831 }) ≡ true)
@@ -103,3 +177,34 @@ pub record Limits : Type 0 where
   pub bandHeight : (recordNumber 1 1 1 16384 ≡ 11) × (recordNumber 1 1 1 16385 ≡ 9)
   pub bandLeast : (recordNumber 1 1 1 1 ≡ 11) × (recordNumber 1 1 1 0 ≡ 9)
   pub bandMost : (recordNumber 1 256 1 1 ≡ 11) × (recordNumber 1 257 1 1 ≡ 9)
+  -- lengths: a side of 16,384 and one more, of the image for the sets, of the filter region for the block sigmas and the result's slice
+  pub setsWide : (setsNumber 16384 1 ≡ 7) × (setsNumber 16385 1 ≡ 9)
+  pub setsHigh : (setsNumber 1 16384 ≡ 7) × (setsNumber 1 16385 ≡ 9)
+  pub setsArea : (setsNumber 4096 4096 ≡ 7) × (setsNumber 1549 10831 ≡ 9)
+  pub sigmasWide : (noSigmasNumber 16384 1 ≡ 7) × (noSigmasNumber 16385 1 ≡ 9)
+  pub sigmasHigh : (noSigmasNumber 1 16384 ≡ 7) × (noSigmasNumber 1 16385 ≡ 9)
+  pub sliceWide : (sliceNumber 16384 1 ≡ 7) × (sliceNumber 16385 1 ≡ 9)
+  pub sliceHigh : (sliceNumber 1 16384 ≡ 7) × (sliceNumber 1 16385 ≡ 9)
+  -- start: 5 outside the image, 6 off the blocks, 8 for a block that the grid lacks, 9 for a flag or a presence of 2
+  pub startInside : Limit (λ l. startNumber l 1 0 1) 0 16 5
+  pub startOnBlocks : Limit (λ l. startNumber l 1 0 1) 0 4 6
+  pub startHeld : Limit (λ l. startNumber l 1 0 1) 0 8 8
+  pub startFull : Limit (λ f. startNumber 0 f 0 1) 1 2 9
+  pub startGabor : Limit (λ g. startNumber 0 1 g 1) 1 2 9
+  pub startPresence : Limit (λ p. startNumber 0 1 0 p) 1 2 9
+  -- a step: indices to 2; 5, 6 and 9 as for start
+  pub stepMost : Limit (λ k. stepNumber k 0 1) 2 3 9
+  pub stepInside : Limit (λ l. stepNumber 0 l 1) 8 16 5
+  pub stepOnBlocks : Limit (λ l. stepNumber 0 l 1) 8 4 6
+  pub stepFull : Limit (λ f. stepNumber 0 0 f) 1 2 9
+  -- block sigmas: 8 and 9 as for start
+  pub sigmasHeld : Limit (λ l. sigmasNumber l 1 1) 0 1 8
+  pub sigmasOn : Limit (λ on. sigmasNumber 0 on 1) 1 2 9
+  pub sigmasPresence : Limit (λ p. sigmasNumber 0 1 p) 1 2 9
+  -- margins: 0, 2, 3 or 6 for 0 to 3 iterations, 1 more with the Gabor-like filter
+  pub margins : (marginOf 0 0 .margin ≡ 0) × (marginOf 0 1 .margin ≡ 2) × (marginOf 0 2 .margin ≡ 3) × (marginOf 0 3 .margin ≡ 6)
+  pub marginsGabor : (marginOf 1 0 .margin ≡ 1) × (marginOf 1 1 .margin ≡ 3) × (marginOf 1 2 .margin ≡ 4) × (marginOf 1 3 .margin ≡ 7)
+  pub marginIterations : Limit (λ i. marginOf 0 i .number) 3 4 9
+  pub marginGabor : Limit (λ g. marginOf g 0 .number) 1 2 9
+  -- an LF level divides sides by 8: 1,000, 125 and 16 samples
+  pub levels : (columnsAt 0 ≡ 1000) × (columnsAt 1 ≡ 125) × (columnsAt 2 ≡ 16)
