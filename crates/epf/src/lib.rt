@@ -83,7 +83,13 @@ fn judged(
 }
 
 fn step_of(s: EpfStep) -> Step
-    ensures { λ r. ⌜ r ≡ record { step = s .step; scales = s .«channel_scale»; scale = s .multiplier; edge = s .«border_sad_mul»; limit = standardLimit } ⌝ }
+    ensures { λ r. ⌜ r ≡ record {
+      step = s .step;
+      scales = s .«channel_scale»;
+      scale = s .multiplier;
+      edge = s .«border_sad_mul»;
+      limit = standardLimit;
+    } ⌝ }
 {
     let scales = s.channel_scale;
     Step {
@@ -109,7 +115,8 @@ fn epf_band(
 )
     requires { ⌜ BandFits l n from to (now src) (now dst) ⌝ }
     requires { ⌜ RegionFits l n s top (length (now dst)) (length (now sigmas)) ⌝ }
-    ensures { λ _. ⌜ now (dst .exit) ≡ passed n l from to (stepOver n l s top (now (sigmas .entry)) (now (src .entry))) (now (src .entry)) (now (dst .entry)) ⌝ }
+    ensures { λ _. ⌜ now (dst .exit) ≡ passed n l from to (stepOver n l s top (now (sigmas .entry)) (now (src .entry)))
+        (now (src .entry)) (now (dst .entry)) ⌝ }
 {
     copy_outside(src, dst, l, n, from, to);
     let first = filter_row(l, from);
@@ -131,7 +138,9 @@ pub fn epf_pass(
     src: &[f32],
     dst: &mut [f32],
 ) -> u32
-    ensures { λ r. ⌜ _≡_ {A = PassOutcome} (record { number = r; target = now (dst .exit) }) (epfOutcome image filter «preserve_outside» s (now (sigmas .entry)) from to (now (src .entry)) (now (dst .entry))) ⌝ }
+    ensures { λ r. ⌜ _≡_ {A = PassOutcome} (record { number = r; target = now (dst .exit) })
+        (epfOutcome image filter «preserve_outside» s (now (sigmas .entry)) from to (now (src .entry))
+        (now (dst .entry))) ⌝ }
 {
     let answer = layout_of(image, filter, flag_set(preserve_outside));
     let placed = answer.number;

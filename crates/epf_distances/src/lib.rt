@@ -80,7 +80,10 @@ fn ahead(step: usize, h: usize) -> Tap
 
 fn behind(step: usize, h: usize) -> Tap
     requires { ⌜ h < 6 ⌝ }
-    ensures { λ r. ⌜ r ≡ record { place = windowCentre - shiftOf step h; start = h * windowPlane + (windowCentre - shiftOf step h) } ⌝ }
+    ensures { λ r. ⌜ r ≡ record {
+      place = windowCentre - shiftOf step h;
+      start = h * windowPlane + (windowCentre - shiftOf step h);
+    } ⌝ }
 {
     let place = CENTRE - shift(step, h);
     Tap {
@@ -132,7 +135,8 @@ fn differences(
     n: usize,
 )
     requires { ⌜ (c < 3) × (from + n + k ≤ windowPlane) ⌝ }
-    ensures { λ _. ⌜ now (d .exit) ≡ fill (now (d .entry)) from n (λ (i : ℕ). apartBy (now (win .entry)) c k (from + i)) ⌝ }
+    ensures { λ _. ⌜ now (d .exit) ≡ fill (now (d .entry)) from n
+        (λ (i : ℕ). apartBy (now (win .entry)) c k (from + i)) ⌝ }
 {
     let base = c * WINDOW_PLANE;
     let mut i = 0;
@@ -165,7 +169,9 @@ fn add_nearby(
     n: usize,
 )
     requires { ⌜ (step < 2) × (64 ≤ from) × (from + n + 64 ≤ windowPlane) × (at + n ≤ fieldsLength) ⌝ }
-    ensures { λ _. ⌜ now (fields .exit) ≡ fill (now (fields .entry)) at n (λ (i : ℕ). getD (now (fields .entry)) (at + i) nan ⊕ scale ⊗ nearbyOf step (λ (p : ℕ). getD (now (d .entry)) p nan) (from + i)) ⌝ }
+    ensures { λ _. ⌜ now (fields .exit) ≡ fill (now (fields .entry)) at n
+        (λ (i : ℕ). getD (now (fields .entry)) (at + i) nan ⊕ scale ⊗ nearbyOf step
+        (λ (p : ℕ). getD (now (d .entry)) p nan) (from + i)) ⌝ }
 {
     let mut i = 0;
     while i < n {
@@ -186,7 +192,9 @@ fn add_single(
     n: usize,
 )
     requires { ⌜ (c < 3) × (from + n + k ≤ windowPlane) × (at + n ≤ fieldsLength) ⌝ }
-    ensures { λ _. ⌜ now (fields .exit) ≡ fill (now (fields .entry)) at n (λ (i : ℕ). getD (now (fields .entry)) (at + i) nan ⊕ scale ⊗ nearbyOf 2 (apartBy (now (win .entry)) c k) (from + i)) ⌝ }
+    ensures { λ _. ⌜ now (fields .exit) ≡ fill (now (fields .entry)) at n
+        (λ (i : ℕ). getD (now (fields .entry)) (at + i) nan ⊕ scale ⊗ nearbyOf 2 (apartBy (now (win .entry)) c k)
+        (from + i)) ⌝ }
 {
     let base = c * WINDOW_PLANE;
     let mut i = 0;
@@ -211,8 +219,11 @@ fn add_channel(
     from: usize,
     n: usize,
 )
-    requires { ⌜ (length (now d) ≡ windowPlane) × (c < 3) × (64 ≤ from) × (from + n + 64 + k ≤ windowPlane) × (at + n ≤ fieldsLength) ⌝ }
-    ensures { λ _. ⌜ (now (fields .exit) ≡ fill (now (fields .entry)) at n (λ (i : ℕ). getD (now (fields .entry)) (at + i) nan ⊕ scale ⊗ nearbyOf step (apartBy (now (win .entry)) c k) (from + i))) × (length (now (d .exit)) ≡ windowPlane) ⌝ }
+    requires { ⌜ (length (now d) ≡ windowPlane) × (c < 3) × (64 ≤ from) × (from + n + 64 + k ≤ windowPlane)
+        × (at + n ≤ fieldsLength) ⌝ }
+    ensures { λ _. ⌜ (now (fields .exit) ≡ fill (now (fields .entry)) at n
+        (λ (i : ℕ). getD (now (fields .entry)) (at + i) nan ⊕ scale ⊗ nearbyOf step (apartBy (now (win .entry)) c k)
+        (from + i))) × (length (now (d .exit)) ≡ windowPlane) ⌝ }
 {
     if 1 < step {
         add_single(fields, at, win, c, k, scale, from, n);
@@ -246,8 +257,11 @@ fn field(
     from: usize,
     n: usize,
 )
-    requires { ⌜ (length (now d) ≡ windowPlane) × (planes ≤ 3) × (64 ≤ from) × (from + n + 64 + k ≤ windowPlane) × (at + n ≤ fieldsLength) ⌝ }
-    ensures { λ _. ⌜ (now (fields .exit) ≡ fill (now (fields .entry)) at n (λ (i : ℕ). distAt step (scaled planes (now (scales .entry))) (now (win .entry)) k (from + i))) × (length (now (d .exit)) ≡ windowPlane) ⌝ }
+    requires { ⌜ (length (now d) ≡ windowPlane) × (planes ≤ 3) × (64 ≤ from) × (from + n + 64 + k ≤ windowPlane)
+        × (at + n ≤ fieldsLength) ⌝ }
+    ensures { λ _. ⌜ (now (fields .exit) ≡ fill (now (fields .entry)) at n
+        (λ (i : ℕ). distAt step (scaled planes (now (scales .entry))) (now (win .entry)) k (from + i)))
+        × (length (now (d .exit)) ≡ windowPlane) ⌝ }
 {
     clear(fields, at, n);
     let mut c = 0;
@@ -266,7 +280,8 @@ fn fill_fields(
     rows: usize,
 )
     requires { ⌜ (planes ≤ 3) × (1 ≤ rows) × (rows ≤ 8) ⌝ }
-    ensures { λ _. ⌜ now (fields .exit) ≡ fieldsFill step (scaled planes (now (scales .entry))) (now (win .entry)) rows (now (fields .entry)) (halfOf step) ⌝ }
+    ensures { λ _. ⌜ now (fields .exit) ≡ fieldsFill step (scaled planes (now (scales .entry))) (now (win .entry)) rows
+        (now (fields .entry)) (halfOf step) ⌝ }
 {
     let mut d = [0.0; WINDOW_PLANE];
     let count = half(step);
@@ -299,7 +314,8 @@ pub fn distances(
     planes: usize,
     rows: usize,
 )
-    ensures { λ _. ⌜ now (fields .exit) ≡ distancesOf step planes (now (scales .entry)) (now (win .entry)) rows (now (fields .entry)) ⌝ }
+    ensures { λ _. ⌜ now (fields .exit) ≡ distancesOf step planes (now (scales .entry)) (now (win .entry)) rows
+        (now (fields .entry)) ⌝ }
 {
     if PLANES < planes {
         return;

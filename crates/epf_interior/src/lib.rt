@@ -14,7 +14,8 @@ ghost use mathlib.Core.Path.{_≡_};
 ghost use Prim.Native.Nat.{ℕ, _+_, _-_, _*_, _<_, _≤_};
 ghost use lib.ListN.{length};
 ghost use Rattle.epf_rects.specs.Rects.{rectFilled, RectFits};
-ghost use Rattle.epf_interior.specs.Inside.{farAt, weightsOf, mixOf, laneIn, threeFill, liesInside, Inside, insideOf, insideFilled};
+ghost use Rattle.epf_interior.specs.Inside.{farAt, weightsOf, mixOf, laneIn, threeFill, liesInside, Inside};
+ghost use Rattle.epf_interior.specs.Inside.{insideOf, insideFilled};
 ghost use Rattle.epf_interior.specs.Divisor.{ThreeScalesBounded};
 
 // Columns that have slopes.
@@ -50,7 +51,8 @@ fn weights_at(
     slope: f32,
 ) -> Weights
     requires { ⌜ (0 < stride) × (corner + 2 * stride + 1 + 2 * plane < length (now src)) ⌝ }
-    ensures { λ r. ⌜ (r ≡ weightsOf (now (src .entry)) stride plane (now (scales .entry)) corner slope) × ThreeScalesBounded (now (scales .entry)) slope (r .sum) ⌝ }
+    ensures { λ r. ⌜ (r ≡ weightsOf (now (src .entry)) stride plane (now (scales .entry)) corner slope)
+        × ThreeScalesBounded (now (scales .entry)) slope (r .sum) ⌝ }
 {
     let p = corner + stride + 1;
     let up = weight(distance(src, plane, scales, corner + 1, p), slope);
@@ -94,8 +96,10 @@ fn row(
     corner: usize,
     n: usize,
 )
-    requires { ⌜ (0 < stride) × (n ≤ plane) × (first + n ≤ 128) × (length (now src) ≡ length (now dst)) × (corner + n + 2 * stride + 1 + 2 * plane ≤ length (now src)) ⌝ }
-    ensures { λ _. ⌜ now (dst .exit) ≡ threeFill (now (dst .entry)) (corner + stride + 1) plane n (laneIn (now (src .entry)) stride plane (now (scales .entry)) (now (slopes .entry)) first corner) ⌝ }
+    requires { ⌜ (0 < stride) × (n ≤ plane) × (first + n ≤ 128) × (length (now src) ≡ length (now dst))
+        × (corner + n + 2 * stride + 1 + 2 * plane ≤ length (now src)) ⌝ }
+    ensures { λ _. ⌜ now (dst .exit) ≡ threeFill (now (dst .entry)) (corner + stride + 1) plane n
+        (laneIn (now (src .entry)) stride plane (now (scales .entry)) (now (slopes .entry)) first corner) ⌝ }
 {
     let at = corner + stride + 1;
     let mut i = 0;
@@ -122,8 +126,10 @@ fn rows_of(
     top: usize,
     rect: Rect,
 )
-    requires { ⌜ Inside l rect × RectFits l 3 rect (length (now dst)) × (length (now src) ≡ length (now dst)) × (rect .cols ≤ 64) ⌝ }
-    ensures { λ _. ⌜ now (dst .exit) ≡ rectFilled l 3 rect (insideOf l (now (src .entry)) (now (scales .entry)) (now (slopes .entry)) top rect) (now (dst .entry)) ⌝ }
+    requires { ⌜ Inside l rect × RectFits l 3 rect (length (now dst)) × (length (now src) ≡ length (now dst))
+        × (rect .cols ≤ 64) ⌝ }
+    ensures { λ _. ⌜ now (dst .exit) ≡ rectFilled l 3 rect (insideOf l (now (src .entry)) (now (scales .entry))
+        (now (slopes .entry)) top rect) (now (dst .entry)) ⌝ }
 {
     let stride = l.image.width;
     let plane = l.image.height * stride;
@@ -186,7 +192,8 @@ pub fn filter_inside(
     top: usize,
     rect: Rect,
 )
-    ensures { λ _. ⌜ now (dst .exit) ≡ insideFilled l (now (scales .entry)) (now (slopes .entry)) top rect (now (src .entry)) (now (dst .entry)) ⌝ }
+    ensures { λ _. ⌜ now (dst .exit) ≡ insideFilled l (now (scales .entry)) (now (slopes .entry)) top rect
+        (now (src .entry)) (now (dst .entry)) ⌝ }
 {
     if !rect_fits(l, PLANES, rect, dst.len()) {
         return;

@@ -54,7 +54,10 @@ fn weigh(
     first: usize,
 )
     requires { ⌜ (at + 56 ≤ weightsLength) × (from + 56 ≤ fieldsLength) × (first + 56 ≤ 128) ⌝ }
-    ensures { λ _. ⌜ (now (stored .exit) ≡ fill (now (stored .entry)) at 56 (λ (i : ℕ). weightBy (getD (now (slopes .entry)) (first + i) nan) (getD (now (fields .entry)) (from + i) nan))) × (now (sum .exit) ≡ fill (now (sum .entry)) 0 56 (λ (i : ℕ). getD (now (sum .entry)) (0 + i) nan ⊕ weightBy (getD (now (slopes .entry)) (first + i) nan) (getD (now (fields .entry)) (from + i) nan))) ⌝ }
+    ensures { λ _. ⌜ (now (stored .exit) ≡ fill (now (stored .entry)) at 56
+        (λ (i : ℕ). weightBy (getD (now (slopes .entry)) (first + i) nan) (getD (now (fields .entry)) (from + i) nan)))
+        × (now (sum .exit) ≡ fill (now (sum .entry)) 0 56 (λ (i : ℕ). getD (now (sum .entry)) (0 + i) nan
+        ⊕ weightBy (getD (now (slopes .entry)) (first + i) nan) (getD (now (fields .entry)) (from + i) nan))) ⌝ }
 {
     let mut i = 0;
     while i < LANES {
@@ -76,7 +79,9 @@ fn weigh_all(
     first: usize,
 )
     requires { ⌜ (length (now stored) ≡ weightsLength) × (length (now sum) ≡ 64) × (r < 8) × (first ≤ 64) ⌝ }
-    ensures { λ _. ⌜ Weighed (λ (i : ℕ) (q : ℕ). weightOf step (now (fields .entry)) (now (slopes .entry)) first r i q) (now (stored .exit)) (now (sum .exit)) (length (kernel step)) × DivisorsBounded step (now (fields .entry)) (now (slopes .entry)) first r (now (sum .exit)) ⌝ }
+    ensures { λ _. ⌜ Weighed (λ (i : ℕ) (q : ℕ). weightOf step (now (fields .entry)) (now (slopes .entry)) first r i q)
+        (now (stored .exit)) (now (sum .exit)) (length (kernel step))
+        × DivisorsBounded step (now (fields .entry)) (now (slopes .entry)) first r (now (sum .exit)) ⌝ }
 {
     ones(sum);
     let n = kernel_len(step);
@@ -99,7 +104,8 @@ fn weigh_all(
 // The samples themselves.
 fn centre(out: &mut [f32], at: usize, win: &[f32; WINDOWS], from: usize)
     requires { ⌜ (at + 56 ≤ length (now out)) × (from + 56 ≤ windowsLength) ⌝ }
-    ensures { λ _. ⌜ now (out .exit) ≡ fill (now (out .entry)) at 56 (λ (i : ℕ). getD (now (win .entry)) (from + i) nan) ⌝ }
+    ensures { λ _. ⌜ now (out .exit) ≡ fill (now (out .entry)) at 56
+        (λ (i : ℕ). getD (now (win .entry)) (from + i) nan) ⌝ }
 {
     let mut i = 0;
     while i < LANES {
@@ -119,8 +125,12 @@ fn with_four(
     k2: usize,
     k3: usize,
 ) -> f32
-    requires { ⌜ (a + 192 < weightsLength) × (k0 < windowsLength) × (k1 < windowsLength) × (k2 < windowsLength) × (k3 < windowsLength) ⌝ }
-    ensures { λ r. ⌜ r ≡ x ⊕ getD (now (stored .entry)) a nan ⊗ getD (now (win .entry)) k0 nan ⊕ getD (now (stored .entry)) (a + 64) nan ⊗ getD (now (win .entry)) k1 nan ⊕ getD (now (stored .entry)) (a + 128) nan ⊗ getD (now (win .entry)) k2 nan ⊕ getD (now (stored .entry)) (a + 192) nan ⊗ getD (now (win .entry)) k3 nan ⌝ }
+    requires { ⌜ (a + 192 < weightsLength) × (k0 < windowsLength) × (k1 < windowsLength) × (k2 < windowsLength)
+        × (k3 < windowsLength) ⌝ }
+    ensures { λ r. ⌜ r ≡ x ⊕ getD (now (stored .entry)) a nan ⊗ getD (now (win .entry)) k0 nan
+        ⊕ getD (now (stored .entry)) (a + 64) nan ⊗ getD (now (win .entry)) k1 nan
+        ⊕ getD (now (stored .entry)) (a + 128) nan ⊗ getD (now (win .entry)) k2 nan
+        ⊕ getD (now (stored .entry)) (a + 192) nan ⊗ getD (now (win .entry)) k3 nan ⌝ }
 {
     let half = x + stored[a] * win[k0] + stored[a + STRIDE] * win[k1];
     half + stored[a + 2 * STRIDE] * win[k2] + stored[a + 3 * STRIDE] * win[k3]
@@ -138,8 +148,13 @@ fn add_four(
     k2: usize,
     k3: usize,
 )
-    requires { ⌜ (at + 56 ≤ length (now out)) × (a + 248 ≤ weightsLength) × (k0 + 56 ≤ windowsLength) × (k1 + 56 ≤ windowsLength) × (k2 + 56 ≤ windowsLength) × (k3 + 56 ≤ windowsLength) ⌝ }
-    ensures { λ _. ⌜ now (out .exit) ≡ fill (now (out .entry)) at 56 (λ (i : ℕ). getD (now (out .entry)) (at + i) nan ⊕ getD (now (stored .entry)) (a + i) nan ⊗ getD (now (win .entry)) (k0 + i) nan ⊕ getD (now (stored .entry)) (a + i + 64) nan ⊗ getD (now (win .entry)) (k1 + i) nan ⊕ getD (now (stored .entry)) (a + i + 128) nan ⊗ getD (now (win .entry)) (k2 + i) nan ⊕ getD (now (stored .entry)) (a + i + 192) nan ⊗ getD (now (win .entry)) (k3 + i) nan) ⌝ }
+    requires { ⌜ (at + 56 ≤ length (now out)) × (a + 248 ≤ weightsLength) × (k0 + 56 ≤ windowsLength)
+        × (k1 + 56 ≤ windowsLength) × (k2 + 56 ≤ windowsLength) × (k3 + 56 ≤ windowsLength) ⌝ }
+    ensures { λ _. ⌜ now (out .exit) ≡ fill (now (out .entry)) at 56 (λ (i : ℕ). getD (now (out .entry)) (at + i) nan
+        ⊕ getD (now (stored .entry)) (a + i) nan ⊗ getD (now (win .entry)) (k0 + i) nan
+        ⊕ getD (now (stored .entry)) (a + i + 64) nan ⊗ getD (now (win .entry)) (k1 + i) nan
+        ⊕ getD (now (stored .entry)) (a + i + 128) nan ⊗ getD (now (win .entry)) (k2 + i) nan
+        ⊕ getD (now (stored .entry)) (a + i + 192) nan ⊗ getD (now (win .entry)) (k3 + i) nan) ⌝ }
 {
     let mut i = 0;
     while i < LANES {
@@ -159,7 +174,8 @@ fn add_four(
 
 fn divide(out: &mut [f32], at: usize, sum: &[f32; STRIDE])
     requires { ⌜ at + 56 ≤ length (now out) ⌝ }
-    ensures { λ _. ⌜ now (out .exit) ≡ fill (now (out .entry)) at 56 (λ (i : ℕ). getD (now (out .entry)) (at + i) nan ⊘ getD (now (sum .entry)) i nan) ⌝ }
+    ensures { λ _. ⌜ now (out .exit) ≡ fill (now (out .entry)) at 56
+        (λ (i : ℕ). getD (now (out .entry)) (at + i) nan ⊘ getD (now (sum .entry)) i nan) ⌝ }
 {
     let mut i = 0;
     while i < LANES {
@@ -187,7 +203,8 @@ fn blend(
     step: usize,
 )
     requires { ⌜ (at + 56 ≤ length (now out)) × (c < 3) × (r < 8) ⌝ }
-    ensures { λ _. ⌜ now (out .exit) ≡ fill (now (out .entry)) at 56 (storedTo step (now (stored .entry)) (now (win .entry)) c r (length (kernel step))) ⌝ }
+    ensures { λ _. ⌜ now (out .exit) ≡ fill (now (out .entry)) at 56
+        (storedTo step (now (stored .entry)) (now (win .entry)) c r (length (kernel step))) ⌝ }
 {
     let base = c * WINDOW_PLANE + r * STRIDE;
     centre(out, at, win, base + CENTRE);
@@ -214,7 +231,9 @@ fn blend_planes(
     r: usize,
 )
     requires { ⌜ (length (now out) ≡ tileLength) × (planes ≤ 3) × (r < 8) ⌝ }
-    ensures { λ _. ⌜ now (out .exit) ≡ planesFill 64 8 0 56 r 1 (λ (c : ℕ) (i : ℕ) (j : ℕ). storedTo step (now (stored .entry)) (now (win .entry)) c r (length (kernel step)) i ⊘ getD (now (sum .entry)) i nan) (now (out .entry)) planes ⌝ }
+    ensures { λ _. ⌜ now (out .exit) ≡ planesFill 64 8 0 56 r 1
+        (λ (c : ℕ) (i : ℕ) (j : ℕ). storedTo step (now (stored .entry)) (now (win .entry)) c r (length (kernel step)) i
+        ⊘ getD (now (sum .entry)) i nan) (now (out .entry)) planes ⌝ }
 {
     let mut c = 0;
     while c < planes {
@@ -238,8 +257,12 @@ fn filter_row(
     r: usize,
     first: usize,
 )
-    requires { ⌜ (length (now out) ≡ tileLength) × (length (now stored) ≡ weightsLength) × (length (now sum) ≡ 64) × (planes ≤ 3) × (r < 8) × (first ≤ 64) ⌝ }
-    ensures { λ _. ⌜ (now (out .exit) ≡ planesFill 64 8 0 56 r 1 (λ (c : ℕ) (i : ℕ) (j : ℕ). laneOf step (now (fields .entry)) (now (slopes .entry)) (now (win .entry)) first c i r) (now (out .entry)) planes) × (length (now (stored .exit)) ≡ weightsLength) × (length (now (sum .exit)) ≡ 64) ⌝ }
+    requires { ⌜ (length (now out) ≡ tileLength) × (length (now stored) ≡ weightsLength) × (length (now sum) ≡ 64)
+        × (planes ≤ 3) × (r < 8) × (first ≤ 64) ⌝ }
+    ensures { λ _. ⌜ (now (out .exit) ≡ planesFill 64 8 0 56 r 1
+        (λ (c : ℕ) (i : ℕ) (j : ℕ). laneOf step (now (fields .entry)) (now (slopes .entry)) (now (win .entry)) first c i
+        r) (now (out .entry)) planes) × (length (now (stored .exit)) ≡ weightsLength)
+        × (length (now (sum .exit)) ≡ 64) ⌝ }
 {
     weigh_all(stored, sum, fields, slopes, step, r, first);
     blend_planes(out, stored, sum, win, step, planes, r);
@@ -257,7 +280,9 @@ fn filter_rows(
     rows: usize,
 )
     requires { ⌜ (length (now out) ≡ tileLength) × (planes ≤ 3) × (rows ≤ 8) ⌝ }
-    ensures { λ _. ⌜ now (out .exit) ≡ planesFill 64 8 0 56 0 rows (λ (c : ℕ) (i : ℕ) (r : ℕ). laneOf step (now (fields .entry)) (now (slopes .entry)) (now (win .entry)) (firstSlope (top + r)) c i r) (now (out .entry)) planes ⌝ }
+    ensures { λ _. ⌜ now (out .exit) ≡ planesFill 64 8 0 56 0 rows
+        (λ (c : ℕ) (i : ℕ) (r : ℕ). laneOf step (now (fields .entry)) (now (slopes .entry)) (now (win .entry))
+        (firstSlope (top + r)) c i r) (now (out .entry)) planes ⌝ }
 {
     let mut stored = [0.0; WEIGHTS];
     let mut sum = [0.0; STRIDE];
@@ -292,7 +317,8 @@ pub fn filter_tile(
     top: usize,
     rows: usize,
 )
-    ensures { λ _. ⌜ now (out .exit) ≡ lanesOf step (now (fields .entry)) (now (slopes .entry)) (now (win .entry)) planes top rows (now (out .entry)) ⌝ }
+    ensures { λ _. ⌜ now (out .exit) ≡ lanesOf step (now (fields .entry)) (now (slopes .entry)) (now (win .entry))
+        planes top rows (now (out .entry)) ⌝ }
 {
     if out.len() != TILE {
         return;

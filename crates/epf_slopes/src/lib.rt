@@ -45,7 +45,8 @@ fn block_slopes(
     row: usize,
 )
     requires { ⌜ at + 8 ≤ 128 ⌝ }
-    ensures { λ _. ⌜ now (slopes .exit) ≡ fill (now (slopes .entry)) at 8 (λ (i : ℕ). slope ⊗ multiplierOf scale edge row i) ⌝ }
+    ensures { λ _. ⌜ now (slopes .exit) ≡ fill (now (slopes .entry)) at 8
+        (λ (i : ℕ). slope ⊗ multiplierOf scale edge row i) ⌝ }
 {
     let mut i = 0;
     while i < BLOCK {
@@ -66,7 +67,8 @@ fn row_slopes(
     row: usize,
 )
     requires { ⌜ (at ≤ 64) × (blocks ≤ 7) × (first + blocks ≤ length (now sigmas)) ⌝ }
-    ensures { λ _. ⌜ now (slopes .exit) ≡ fill (now (slopes .entry)) at (blocks * 8) (slopeAt (now (sigmas .entry)) first scale edge row) ⌝ }
+    ensures { λ _. ⌜ now (slopes .exit) ≡ fill (now (slopes .entry)) at (blocks * 8)
+        (slopeAt (now (sigmas .entry)) first scale edge row) ⌝ }
 {
     let mut b = 0;
     while b < blocks {
@@ -86,7 +88,8 @@ pub fn tile_slopes(
     scale: f32,
     edge: f32,
 )
-    ensures { λ _. ⌜ now (slopes .exit) ≡ slopesOf (now (sigmas .entry)) first blocks scale edge (now (slopes .entry)) ⌝ }
+    ensures { λ _. ⌜ now (slopes .exit) ≡ slopesOf (now (sigmas .entry)) first blocks scale edge
+        (now (slopes .entry)) ⌝ }
 {
     if BLOCKS < blocks {
         return;

@@ -39,8 +39,12 @@ fn strip(
     slopes: &mut [f32; SLOPES],
     lanes: &mut [f32],
 )
-    requires { ⌜ RegionFits l n s top (length (now dst)) (length (now sigmas)) × (length (now src) ≡ length (now dst)) × StripFits l y rows × Scratch (now win) (now fields) (now slopes) (now lanes) ⌝ }
-    ensures { λ _. ⌜ (now (dst .exit) ≡ planesFill (l .image .width) (l .image .height) (l .left) (l .width) (l .top + y) rows (λ (c : ℕ) (i : ℕ) (r : ℕ). stepOver n l s top (now (sigmas .entry)) (now (src .entry)) c i (y + r)) (now (dst .entry)) n) × Scratch (now (win .exit)) (now (fields .exit)) (now (slopes .exit)) (now (lanes .exit)) ⌝ }
+    requires { ⌜ RegionFits l n s top (length (now dst)) (length (now sigmas)) × (length (now src) ≡ length (now dst))
+        × StripFits l y rows × Scratch (now win) (now fields) (now slopes) (now lanes) ⌝ }
+    ensures { λ _. ⌜ (now (dst .exit) ≡ planesFill (l .image .width) (l .image .height) (l .left) (l .width)
+        (l .top + y) rows (λ (c : ℕ) (i : ℕ) (r : ℕ). stepOver n l s top (now (sigmas .entry)) (now (src .entry)) c i
+        (y + r)) (now (dst .entry)) n) × Scratch (now (win .exit)) (now (fields .exit)) (now (slopes .exit))
+        (now (lanes .exit)) ⌝ }
 {
     let mut x = 0;
     while x < l.width {
@@ -76,8 +80,11 @@ fn strips(
     from: usize,
     to: usize,
 )
-    requires { ⌜ RegionFits l n s top (length (now dst)) (length (now sigmas)) × (length (now src) ≡ length (now dst)) × (from ≤ to) × (to ≤ l .height) ⌝ }
-    ensures { λ _. ⌜ now (dst .exit) ≡ planesFill (l .image .width) (l .image .height) (l .left) (l .width) (l .top + from) (to - from) (λ (c : ℕ) (i : ℕ) (r : ℕ). stepOver n l s top (now (sigmas .entry)) (now (src .entry)) c i (from + r)) (now (dst .entry)) n ⌝ }
+    requires { ⌜ RegionFits l n s top (length (now dst)) (length (now sigmas)) × (length (now src) ≡ length (now dst))
+        × (from ≤ to) × (to ≤ l .height) ⌝ }
+    ensures { λ _. ⌜ now (dst .exit) ≡ planesFill (l .image .width) (l .image .height) (l .left) (l .width)
+        (l .top + from) (to - from) (λ (c : ℕ) (i : ℕ) (r : ℕ). stepOver n l s top (now (sigmas .entry))
+        (now (src .entry)) c i (from + r)) (now (dst .entry)) n ⌝ }
 {
     let mut win = [0.0; WINDOWS];
     let mut fields = [0.0; FIELDS];
@@ -119,7 +126,8 @@ pub fn filter_region(
     from: usize,
     to: usize,
 )
-    ensures { λ _. ⌜ now (dst .exit) ≡ regionOf n l s top from to (now (sigmas .entry)) (now (src .entry)) (now (dst .entry)) ⌝ }
+    ensures { λ _. ⌜ now (dst .exit) ≡ regionOf n l s top from to (now (sigmas .entry)) (now (src .entry))
+        (now (dst .entry)) ⌝ }
 {
     if !set_fits(l, n, src.len()) {
         return;

@@ -58,7 +58,9 @@ fn restore_block(
     rect: Rect,
 )
     requires { ⌜ RectFits l n rect (length (now dst)) × (length (now src) ≡ length (now dst)) ⌝ }
-    ensures { λ _. ⌜ now (dst .exit) ≡ cond (copiedOf sigma limit) (rectFilled l n rect (λ (c : ℕ) (i : ℕ) (r : ℕ). inner l (now (src .entry)) c (rect .x + i) (rect .y + r)) (now (dst .entry))) (now (dst .entry)) ⌝ }
+    ensures { λ _. ⌜ now (dst .exit) ≡ cond (copiedOf sigma limit) (rectFilled l n rect
+        (λ (c : ℕ) (i : ℕ) (r : ℕ). inner l (now (src .entry)) c (rect .x + i) (rect .y + r)) (now (dst .entry)))
+        (now (dst .entry)) ⌝ }
 {
     if !copied(sigma, limit) {
         return;
@@ -77,8 +79,10 @@ fn restore(
     limit: f32,
     rect: Rect,
 )
-    requires { ⌜ RectFits l n rect (length (now dst)) × (length (now src) ≡ length (now dst)) × (rect .cols ≤ 56) × (first + blocksAlong (rect .cols) ≤ length (now sigmas)) ⌝ }
-    ensures { λ _. ⌜ Restored l n limit (now (sigmas .entry)) (now (src .entry)) first rect (blocksAlong (rect .cols)) (now (dst .entry)) (now (dst .exit)) ⌝ }
+    requires { ⌜ RectFits l n rect (length (now dst)) × (length (now src) ≡ length (now dst)) × (rect .cols ≤ 56)
+        × (first + blocksAlong (rect .cols) ≤ length (now sigmas)) ⌝ }
+    ensures { λ _. ⌜ Restored l n limit (now (sigmas .entry)) (now (src .entry)) first rect (blocksAlong (rect .cols))
+        (now (dst .entry)) (now (dst .exit)) ⌝ }
 {
     let blocks = blocks_of(rect.cols);
     let mut b = 0;
@@ -98,7 +102,8 @@ fn restore(
 // Whether all blocks are copied.
 fn all_copied(sigmas: &[f32], first: usize, blocks: usize, limit: f32) -> bool
     requires { ⌜ first + blocks ≤ length (now sigmas) ⌝ }
-    ensures { λ r. ⌜ (r ≡ true → (b : ℕ) → b < blocks → copiedOf (getD (now (sigmas .entry)) (first + b) nan) limit ≡ true) ⌝ }
+    ensures { λ r. ⌜ (r ≡ true → (b : ℕ) → b < blocks → copiedOf (getD (now (sigmas .entry)) (first + b) nan) limit
+        ≡ true) ⌝ }
 {
     let mut b = 0;
     while b < blocks {
@@ -124,9 +129,11 @@ fn filter_window(
     slopes: &[f32; SLOPES],
     lanes: &mut [f32],
 )
-    requires { ⌜ TileFits l n rect × RectFits l n rect (length (now dst)) × (length (now src) ≡ length (now dst)) × (s .step < 3) × (top ≤ 4294967296) ⌝ }
+    requires { ⌜ TileFits l n rect × RectFits l n rect (length (now dst)) × (length (now src) ≡ length (now dst))
+        × (s .step < 3) × (top ≤ 4294967296) ⌝ }
     requires { ⌜ Scratch (now win) (now fields) (now slopes) (now lanes) ⌝ }
-    ensures { λ _. ⌜ FilteredBy l n s top (now (slopes .entry)) (now (src .entry)) rect (now (dst .entry)) (now (dst .exit)) × Scratch (now (win .exit)) (now (fields .exit)) (now (slopes .entry)) (now (lanes .exit)) ⌝ }
+    ensures { λ _. ⌜ FilteredBy l n s top (now (slopes .entry)) (now (src .entry)) rect (now (dst .entry))
+        (now (dst .exit)) × Scratch (now (win .exit)) (now (fields .exit)) (now (slopes .entry)) (now (lanes .exit)) ⌝ }
 {
     let rows = rect.rows;
     let step = s.step;
@@ -163,10 +170,13 @@ fn filter(
     slopes: &mut [f32; SLOPES],
     lanes: &mut [f32],
 )
-    requires { ⌜ TileFits l n rect × RectFits l n rect (length (now dst)) × (length (now src) ≡ length (now dst)) × (s .step < 3) × (top ≤ 4294967296) ⌝ }
-    requires { ⌜ (first ≡ sigmaStart l (rect .x) (rect .y)) × (first + blocksAlong (rect .cols) ≤ length (now sigmas)) ⌝ }
+    requires { ⌜ TileFits l n rect × RectFits l n rect (length (now dst)) × (length (now src) ≡ length (now dst))
+        × (s .step < 3) × (top ≤ 4294967296) ⌝ }
+    requires { ⌜ (first ≡ sigmaStart l (rect .x) (rect .y))
+        × (first + blocksAlong (rect .cols) ≤ length (now sigmas)) ⌝ }
     requires { ⌜ Scratch (now win) (now fields) (now slopes) (now lanes) ⌝ }
-    ensures { λ _. ⌜ Filtered l n s top (now (sigmas .entry)) (now (src .entry)) rect (now (dst .entry)) (now (dst .exit)) × Scratch (now (win .exit)) (now (fields .exit)) (now (slopes .exit)) (now (lanes .exit)) ⌝ }
+    ensures { λ _. ⌜ Filtered l n s top (now (sigmas .entry)) (now (src .entry)) rect (now (dst .entry))
+        (now (dst .exit)) × Scratch (now (win .exit)) (now (fields .exit)) (now (slopes .exit)) (now (lanes .exit)) ⌝ }
 {
     tile_slopes(slopes, sigmas, first, blocks_of(rect.cols), s.scale, s.edge);
     let scales = s.scales;
@@ -197,9 +207,14 @@ pub(crate) fn tile(
     slopes: &mut [f32; SLOPES],
     lanes: &mut [f32],
 )
-    requires { ⌜ TileFits l n rect × RectFits l n rect (length (now dst)) × (length (now src) ≡ length (now dst)) × (s .step < 3) × (top ≤ 4294967296) ⌝ }
-    requires { ⌜ (sigmaStart l (rect .x) (rect .y) + blocksAlong (rect .cols) ≤ length (now sigmas)) × Scratch (now win) (now fields) (now slopes) (now lanes) ⌝ }
-    ensures { λ _. ⌜ (now (dst .exit) ≡ rectFilled l n rect (λ (c : ℕ) (i : ℕ) (r : ℕ). stepOver n l s top (now (sigmas .entry)) (now (src .entry)) c (rect .x + i) (rect .y + r)) (now (dst .entry))) × Scratch (now (win .exit)) (now (fields .exit)) (now (slopes .exit)) (now (lanes .exit)) ⌝ }
+    requires { ⌜ TileFits l n rect × RectFits l n rect (length (now dst)) × (length (now src) ≡ length (now dst))
+        × (s .step < 3) × (top ≤ 4294967296) ⌝ }
+    requires { ⌜ (sigmaStart l (rect .x) (rect .y) + blocksAlong (rect .cols) ≤ length (now sigmas))
+        × Scratch (now win) (now fields) (now slopes) (now lanes) ⌝ }
+    ensures { λ _. ⌜ (now (dst .exit) ≡ rectFilled l n rect
+        (λ (c : ℕ) (i : ℕ) (r : ℕ). stepOver n l s top (now (sigmas .entry)) (now (src .entry)) c (rect .x + i)
+        (rect .y + r)) (now (dst .entry))) × Scratch (now (win .exit)) (now (fields .exit)) (now (slopes .exit))
+        (now (lanes .exit)) ⌝ }
 {
     let first = first_sigma(l, rect);
     if all_copied(sigmas, first, blocks_of(rect.cols), s.limit) {

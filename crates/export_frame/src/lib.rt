@@ -49,7 +49,9 @@ pub extern "C" fn restoration_block_sigmas(
     sigma_for_modular: f32,
     sigmas: &mut [f32],
 ) -> u32
-    ensures { λ r. ⌜ _≡_ {A = SigmasOutcome} (record { number = r; sigmas = now (sigmas .exit) }) (sigmasOutcome on frame blocks (now (table .entry)) (now (grids .entry)) «sigma_for_modular» (now (sigmas .entry))) ⌝ }
+    ensures { λ r. ⌜ _≡_ {A = SigmasOutcome} (record { number = r; sigmas = now (sigmas .exit) })
+        (sigmasOutcome on frame blocks (now (table .entry)) (now (grids .entry)) «sigma_for_modular»
+        (now (sigmas .entry))) ⌝ }
 {
     sigma::block_sigmas(on, frame, blocks, table, grids, sigma_for_modular, sigmas)
 }

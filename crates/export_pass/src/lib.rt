@@ -38,7 +38,9 @@ pub extern "C" fn restoration_gabor_pass(
     src: &[f32],
     dst: &mut [f32],
 ) -> u32
-    ensures { λ r. ⌜ _≡_ {A = PassOutcome} (record { number = r; target = now (dst .exit) }) (gaborOutcome image filter «preserve_outside» (settings .weights) from to (now (src .entry)) (now (dst .entry))) ⌝ }
+    ensures { λ r. ⌜ _≡_ {A = PassOutcome} (record { number = r; target = now (dst .exit) })
+        (gaborOutcome image filter «preserve_outside» (settings .weights) from to (now (src .entry))
+        (now (dst .entry))) ⌝ }
 {
     let weights = run_passes::weights(settings);
     gabor::gabor_pass(image, filter, preserve_outside, weights, from, to, src, dst)
@@ -64,7 +66,9 @@ pub extern "C" fn restoration_epf_pass(
     src: &[f32],
     dst: &mut [f32],
 ) -> u32
-    ensures { λ r. ⌜ _≡_ {A = PassOutcome} (record { number = r; target = now (dst .exit) }) (epfOutcome image filter «preserve_outside» s (now (sigmas .entry)) from to (now (src .entry)) (now (dst .entry))) ⌝ }
+    ensures { λ r. ⌜ _≡_ {A = PassOutcome} (record { number = r; target = now (dst .exit) })
+        (epfOutcome image filter «preserve_outside» s (now (sigmas .entry)) from to (now (src .entry))
+        (now (dst .entry))) ⌝ }
 {
     epf::epf_pass(
         image,

@@ -5,7 +5,8 @@ use region::Region;
 use region_arithmetic::RegionAnswer;
 ghost use mathlib.Core.Path.{_≡_};
 ghost use Rattle.region.specs.Answers.{isEmptyOutcome, rightOutcome, bottomOutcome, containsOutcome};
-ghost use Rattle.region_arithmetic.specs.Answers.{translateOutcome, intersectionOutcome, padOutcome, downsampleOutcome, alignedOutcome};
+ghost use Rattle.region_arithmetic.specs.Answers.{translateOutcome, intersectionOutcome, padOutcome, downsampleOutcome};
+ghost use Rattle.region_arithmetic.specs.Answers.{alignedOutcome};
 
 // Whether a region has a side of 0.
 // Numbers: 0; 4 for a region out of measure: a side over 16,384, or left or top outside -1,048,576 to 1,048,576. A

@@ -45,7 +45,17 @@ pub extern "C" fn restoration_start(
     second: &[f32],
     sigmas: &mut [f32],
 ) -> RunAnswer
-    ensures { λ r. ⌜ _≡_ {A = StartOutcome} (record { answer = r; first = now (first .exit); sigmas = now (sigmas .exit) }) (startOutcome 3 (record { setup = setup; frame = frame; table = now (table .entry); grids = now (grids .entry); first = now (first .entry); second = now (second .entry); sigmas = now (sigmas .entry) })) ⌝ }
+    ensures { λ r. ⌜ _≡_ {A = StartOutcome}
+        (record { answer = r; first = now (first .exit); sigmas = now (sigmas .exit) })
+        (startOutcome 3 (record {
+          setup = setup;
+          frame = frame;
+          table = now (table .entry);
+          grids = now (grids .entry);
+          first = now (first .entry);
+          second = now (second .entry);
+          sigmas = now (sigmas .entry);
+        })) ⌝ }
 {
     run_start::start(setup, frame, table, grids, first, second, sigmas)
 }
@@ -68,7 +78,17 @@ pub extern "C" fn restoration_band(
     second: &mut [f32],
     k: u32,
 ) -> RunAnswer
-    ensures { λ r. ⌜ _≡_ {A = BandOutcome} (record { number = r .number; state = record { run = r .run; sigmas = now (sigmas .entry); first = now (first .exit); second = now (second .exit) } }) (bandOutcome 3 (record { run = run; sigmas = now (sigmas .entry); first = now (first .entry); second = now (second .entry) }) k) ⌝ }
+    ensures { λ r. ⌜ _≡_ {A = BandOutcome} (record {
+      number = r .number;
+      state = record {
+        run = r .run;
+        sigmas = now (sigmas .entry);
+        first = now (first .exit);
+        second = now (second .exit);
+      };
+    }) (bandOutcome 3
+        (record { run = run; sigmas = now (sigmas .entry); first = now (first .entry); second = now (second .entry) })
+        k) ⌝ }
 {
     run_band::band(run, sigmas, first, second, k)
 }
@@ -98,7 +118,8 @@ pub extern "C" fn restoration_result(
     second: &[f32],
     out: &mut [f32],
 ) -> u32
-    ensures { λ r. ⌜ _≡_ {A = ResultOutcome} (record { number = r; out = now (out .exit) }) (resultOutcome 3 run (now (first .entry)) (now (second .entry)) (now (out .entry))) ⌝ }
+    ensures { λ r. ⌜ _≡_ {A = ResultOutcome} (record { number = r; out = now (out .exit) })
+        (resultOutcome 3 run (now (first .entry)) (now (second .entry)) (now (out .entry))) ⌝ }
 {
     run_result::result(run, first, second, out)
 }

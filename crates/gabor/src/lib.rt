@@ -29,7 +29,8 @@ pub fn gabor_pass(
     src: &[f32],
     dst: &mut [f32],
 ) -> u32
-    ensures { λ r. ⌜ _≡_ {A = PassOutcome} (record { number = r; target = now (dst .exit) }) (gaborOutcome image filter «preserve_outside» weights from to (now (src .entry)) (now (dst .entry))) ⌝ }
+    ensures { λ r. ⌜ _≡_ {A = PassOutcome} (record { number = r; target = now (dst .exit) })
+        (gaborOutcome image filter «preserve_outside» weights from to (now (src .entry)) (now (dst .entry))) ⌝ }
 {
     let answer = layout_of(image, filter, flag_set(preserve_outside));
     let number = answer.number;

@@ -23,8 +23,11 @@ fn gabor_planes(
     rows: usize,
 )
     requires { ⌜ LayoutFits l ⌝ }
-    requires { ⌜ (n ≤ 3) × (0 < l .width) × (0 < l .height) × (length (now src) ≡ n * l .image .height * l .image .width) × (length (now dst) ≡ n * l .image .height * l .image .width) × (from + rows ≤ l .height) ⌝ }
-    ensures { λ _. ⌜ now (dst .exit) ≡ planesFill (l .image .width) (l .image .height) (l .left) (l .width) (l .top + from) rows (passRows weights l (now (src .entry)) from) (now (dst .entry)) n ⌝ }
+    requires { ⌜ (n ≤ 3) × (0 < l .width) × (0 < l .height)
+        × (length (now src) ≡ n * l .image .height * l .image .width)
+        × (length (now dst) ≡ n * l .image .height * l .image .width) × (from + rows ≤ l .height) ⌝ }
+    ensures { λ _. ⌜ now (dst .exit) ≡ planesFill (l .image .width) (l .image .height) (l .left) (l .width)
+        (l .top + from) rows (passRows weights l (now (src .entry)) from) (now (dst .entry)) n ⌝ }
 {
     let mut c = 0;
     while c < n {
@@ -58,7 +61,9 @@ pub(crate) fn gabor_band(
 )
     requires { ⌜ BandFits l n from to (now src) (now dst) ⌝ }
     requires { ⌜ (0 < l .width) × (0 < l .height) ⌝ }
-    ensures { λ _. ⌜ now (dst .exit) ≡ passed n l from to (gaborPass weights (l .width) (l .height) (inner l (now (src .entry)))) (now (src .entry)) (now (dst .entry)) ⌝ }
+    ensures { λ _. ⌜ now (dst .exit) ≡ passed n l from to
+        (gaborPass weights (l .width) (l .height) (inner l (now (src .entry)))) (now (src .entry))
+        (now (dst .entry)) ⌝ }
 {
     copy_outside(src, dst, l, n, from, to);
     let first = filter_row(l, from);

@@ -90,7 +90,8 @@ fn epf_settings(
     sharp_lut: [f32; 8],
     channel_scale: [f32; 3],
 ) -> EpfAnswer
-    ensures { λ r. ⌜ r ≡ epfAnswer (read (settingFields encoding iters «sharp_lut» «channel_scale») (now (bytes .entry)) at) ⌝ }
+    ensures { λ r. ⌜ r ≡ epfAnswer (read (settingFields encoding iters «sharp_lut» «channel_scale») (now (bytes .entry))
+        at) ⌝ }
 {
     match read_sigma(bytes, at, is_var_dct(encoding)) {
         Sigma::Value(sigma, at) => match read_half_if(

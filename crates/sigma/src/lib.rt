@@ -36,7 +36,8 @@ fn above(sigmas: &[f32], across: usize, modular: f32, at: usize) -> f32
 
 fn fill_missing(modular: f32, across: u32, sigmas: &mut [f32], at: usize, n: u32)
     requires { ⌜ (at + n ≤ length (now sigmas)) × (n ≤ across) ⌝ }
-    ensures { λ _. ⌜ now (sigmas .exit) ≡ fill (now (sigmas .entry)) at n (λ (i : ℕ). missing modular (aboveIn (now (sigmas .entry)) across modular (at + i))) ⌝ }
+    ensures { λ _. ⌜ now (sigmas .exit) ≡ fill (now (sigmas .entry)) at n
+        (λ (i : ℕ). missing modular (aboveIn (now (sigmas .entry)) across modular (at + i))) ⌝ }
 {
     let across = across as usize;
     let end = n as usize;
@@ -62,7 +63,9 @@ fn fill_run(
     n: u32,
 )
     requires { ⌜ RunFits (now table) (now grids) group column row n × (at + n ≤ length (now sigmas)) × (n ≤ across) ⌝ }
-    ensures { λ _. ⌜ now (sigmas .exit) ≡ fill (now (sigmas .entry)) at n (λ (i : ℕ). sigmaIn (now (table .entry)) (now (grids .entry)) modular (aboveIn (now (sigmas .entry)) across modular (at + i)) group (column + i) row) ⌝ }
+    ensures { λ _. ⌜ now (sigmas .exit) ≡ fill (now (sigmas .entry)) at n
+        (λ (i : ℕ). sigmaIn (now (table .entry)) (now (grids .entry)) modular
+        (aboveIn (now (sigmas .entry)) across modular (at + i)) group (column + i) row) ⌝ }
 {
     let entry = ENTRY * group as usize;
     if table[entry] != PRESENT {
@@ -93,7 +96,8 @@ fn smaller(a: u32, b: u32) -> u32
 // The run that starts at block (bx, by) and has at most limit blocks.
 fn run_at(frame: Frame, sizes: GroupSizes, bx: u32, by: u32, limit: u32) -> Run
     requires { ⌜ Sound frame × (sizes ≡ sizesOf frame) × (0 < limit) ⌝ }
-    requires { ⌜ (groupOf bx (frame .«group_size_shift») < sizesOf frame .«groups_per_row») × (groupOf by (frame .«group_size_shift») < sizesOf frame .«groups_per_column») ⌝ }
+    requires { ⌜ (groupOf bx (frame .«group_size_shift») < sizesOf frame .«groups_per_row»)
+        × (groupOf by (frame .«group_size_shift») < sizesOf frame .«groups_per_column») ⌝ }
     ensures { λ r. ⌜ RunOf frame bx by limit r ⌝ }
 {
     let column = frame::split_block(bx, frame.group_size_shift);
@@ -122,7 +126,8 @@ fn fill_row(
     o: usize,
 )
     requires { ⌜ RowFits frame sizes (now table) (now grids) left by across × (o + across ≤ length (now sigmas)) ⌝ }
-    ensures { λ _. ⌜ now (sigmas .exit) ≡ fill (now (sigmas .entry)) o across (rowSigma frame (now (table .entry)) (now (grids .entry)) modular (now (sigmas .entry)) across o left by) ⌝ }
+    ensures { λ _. ⌜ now (sigmas .exit) ≡ fill (now (sigmas .entry)) o across
+        (rowSigma frame (now (table .entry)) (now (grids .entry)) modular (now (sigmas .entry)) across o left by) ⌝ }
 {
     let mut x = 0;
     while x < across {
@@ -152,7 +157,8 @@ fn fill_rows(
     modular: f32,
     sigmas: &mut [f32],
 )
-    requires { ⌜ AllFits frame sizes blocks (now table) (now grids) × (length (now sigmas) ≡ blocksDown blocks * blocksAcross blocks) ⌝ }
+    requires { ⌜ AllFits frame sizes blocks (now table) (now grids)
+        × (length (now sigmas) ≡ blocksDown blocks * blocksAcross blocks) ⌝ }
     ensures { λ _. ⌜ now (sigmas .exit) ≡ blockSigmas frame blocks (now (table .entry)) (now (grids .entry)) modular ⌝ }
 {
     let across = sigma_blocks::blocks_along(blocks.width);
@@ -189,7 +195,9 @@ pub fn block_sigmas(
     sigma_for_modular: f32,
     sigmas: &mut [f32],
 ) -> u32
-    ensures { λ r. ⌜ _≡_ {A = SigmasOutcome} (record { number = r; sigmas = now (sigmas .exit) }) (sigmasOutcome on frame blocks (now (table .entry)) (now (grids .entry)) «sigma_for_modular» (now (sigmas .entry))) ⌝ }
+    ensures { λ r. ⌜ _≡_ {A = SigmasOutcome} (record { number = r; sigmas = now (sigmas .exit) })
+        (sigmasOutcome on frame blocks (now (table .entry)) (now (grids .entry)) «sigma_for_modular»
+        (now (sigmas .entry))) ⌝ }
 {
     let number = sigma_groups::check(on, frame, blocks, table, grids, sigmas.len());
     if number != refusals::ACCEPTED {
