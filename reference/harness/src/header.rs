@@ -200,9 +200,9 @@ impl Reader {
             Err(number) => self.refused(number),
         };
         row.count(rule.number);
-        let read = (rule.number != 0).then(|| case.0.to_vec());
+        let read = case.0.to_vec();
         let ours = (self.ours)(case);
-        if read.is_some_and(|read| read != black_box(case.0)) {
+        if read != black_box(case.0) {
             row.differs(&case, &"changed bytes", &"left");
         } else if ours != rule {
             row.differs(&case, &ours, &rule);

@@ -213,14 +213,14 @@ fn check(case: &Case, on: u32, len: usize, random: &mut Random, row: &mut Row) {
     let mut ours = before.clone();
     let input = case.input(on, len);
     let number = rule::number(input);
-    let read = (number != 0).then(|| case.clone());
+    let read = case.clone();
     let given = case.ours(on, &mut ours);
+    if !case.is_left_as(&read) {
+        row.differs(case, &"a changed table or grid", &"left");
+    }
     if number != 0 || on == 0 {
         let expected = (number, &before[..]);
         compare_answer(case, (0, 0), (given, &ours), expected, &|_| false, row);
-        if read.is_some_and(|read| !case.is_left_as(&read)) {
-            row.differs(case, &"a changed table or grid", &"left");
-        }
         return;
     }
     let expected = rule::sigmas(input, &case.grids, case.modular);

@@ -211,8 +211,13 @@ fn regions_outside_the_measures() {
     let far = at(1_048_576, 0, 1, 1);
     assert_eq!(original(far).translate(1, 0).left, 1_048_577);
     assert_eq!(restoration::region_translate(far, 1, 0).number, 4);
-    let image = sized(16_384, 1_025);
-    assert_eq!(gabor_number(image, sized(1, 1), (0, 1), 0), 4);
+    // A column of two samples is filtered in an image that is too large here.
+    let (image, column) = (sized(16_384, 1_025), sized(1, 2));
+    let mut plane = vec![0.0; 16_384 * 1_025];
+    plane[16_384] = 16.0;
+    let [first, ..] = oracle::gabor(place(image, column, true), [[0.5, 0.25]; 3], three(&plane));
+    assert_eq!(first[0], 4.0);
+    assert_eq!(gabor_number(image, column, (0, 1), 0), 4);
 }
 
 #[test]
@@ -220,6 +225,12 @@ fn shrink_factor_and_alignment() {
     let one = sized(1, 1);
     assert_eq!(original(one).downsample(17), original(one));
     assert_eq!(restoration::region_downsample(one, 17).number, 9);
+    // 3 - 1 = 2 is masked: width 1 + 2 becomes 1, no multiple of 3.
+    if cfg!(debug_assertions) {
+        assert!(panics(|| oracle::container_aligned(original(one), 3)));
+    } else {
+        assert_eq!(oracle::container_aligned(original(one), 3), original(one));
+    }
     assert_eq!(restoration::region_container_aligned(one, 3).number, 9);
 }
 
@@ -359,6 +370,54 @@ fn grids_and_groups() {
     assert_eq!(sigmas_number(SMALL, one, &[2, 1, 1], &[]), 9);
 }
 
+/// A frame of two groups, of which the second has no grid; the filter region has the last block row of
+/// the first group and the only one of the second.
+#[test]
+fn a_group_without_sigmas() {
+    let tall = oracle::Frame {
+        height: 1_032,
+        ..SMALL
+    };
+    let filter = at(0, 1_016, 8, 16);
+    let mut cells = [2.0; 128];
+    cells[127] = 3.0;
+    let grids = [grid(1, 128, &cells), None];
+    let shown = oracle::sigma_rows(original(filter), tall, &grids, plain_edge(1));
+    assert!(shown.iter().any(|(y, _)| *y >= 1_024));
+    assert!(shown.iter().all(|(_, sigmas)| *sigmas == [3.0]));
+    let blocks = Blocks {
+        left: 0,
+        top: 127,
+        width: 8,
+        height: 16,
+    };
+    let (table, mut sigmas) = ([1, 1, 128, 0, 0, 0], [0.0; 2]);
+    let number =
+        restoration::block_sigmas(1, frame(tall), blocks, &table, &cells, 1.0, &mut sigmas);
+    assert_eq!((number, sigmas), (0, [3.0, 3.0]));
+}
+
+/// Where the original has a bool, the library has a number: 0, 1, or 9 for another.
+#[test]
+fn flags_that_are_neither_0_nor_1() {
+    let image = sized(1, 1);
+    let mut target = [0.0; 3];
+    let weights = gabor(DEFAULT_WEIGHTS);
+    for (preserve_outside, number) in [(0, 0), (1, 0), (2, 9)] {
+        let given = restoration::gabor_pass(
+            image,
+            image,
+            preserve_outside,
+            weights,
+            0,
+            1,
+            &[0.0; 3],
+            &mut target,
+        );
+        assert_eq!(given, number);
+    }
+}
+
 #[test]
 fn band_height_and_count() {
     let image = sized(1, 257);
@@ -477,6 +536,19 @@ fn near_zero_kernels_are_zero() {
     }
     assert_eq!((refused, next), (24_579, 4.0 * TINY));
     assert_eq!(kernel_sum(-0.25, TINY), next);
+}
+
+#[test]
+fn near_zero_kernel_is_refused() {
+    // The filter on, custom weights, six halves of -1/8.
+    let mut bits: u128 = 0b11;
+    for half in 0..6 {
+        bits |= 0xB000 << (2 + 16 * half);
+    }
+    let bytes = bits.to_le_bytes();
+    let original = oracle::parse_gabor(&bytes, 0);
+    assert!(matches!(original, Err(oracle::Error::ValidationFailed(_))));
+    assert_eq!(restoration::read_gabor(&bytes, 0).number, 3);
 }
 
 #[test]
