@@ -277,11 +277,15 @@ RestorationSplitAnswer restoration_split_block(uint32_t block, uint32_t group_si
 // the block above, the top block row starting from `sigma_for_modular`. With it off (`on` 0) `sigmas` has length 0.
 // `blocks` is the filter region, its left and top in blocks. `table` has three numbers for each group of the frame
 // (whether its grid is present, grid width, grid height); `grids` has the present grids one after another.
-// Numbers: 0; 4 for a side of the frame, the filter region's measures, or a present grid's side outside 1 to 1,024; 7
-// for a table, grids or sigmas of another length; 8, with the filter on, for a block whose group is not in the frame
-// or whose present grid does not hold it; 9 for the frame's settings, a presence that is neither 0 nor 1, or `on`
-// neither 0 nor 1. The lowest that applies is given; a check that needs a number faulty under 9 is passed over: the
-// sigmas' length and 8 need `on`. A refusal leaves `sigmas` as they were. `table` and `grids` are only read.
+// Numbers: 0; 4 for a side of the frame, for `blocks` with a side outside 1 to 16,384, an area over 16,777,216 or a
+// left or top over 131,072, or for a present grid's side outside 1 to 1,024; 7 for a table, grids or sigmas of another
+// length; 8, with the filter on, for a block whose group is not in the frame or whose present grid does not hold it;
+// 9 for the frame's settings, a presence that is neither 0 nor 1, or `on` neither 0 nor 1.
+// The lowest that applies is given, and a check that needs a faulty value does not apply (Specification 7.9, 12.6):
+// the table's length needs the frame's settings; no entry of the table is read unless the frame's sides and settings
+// are in range and the table's length is right, which the grids' sides and length, 8 and the presences need; the
+// grids' length needs the presences too; the sigmas' length and 8 need `on`. So a table of wrong length that has a
+// present grid 2,000 wide answers 7, not 4. A refusal leaves `sigmas` as they were. `table` and `grids` are only read.
 uint32_t restoration_block_sigmas(
     uint32_t on,
     RestorationFrame frame,
@@ -405,7 +409,12 @@ RestorationMarginAnswer restoration_margin(RestorationSettings settings);
 // negative or no multiple of 8; 7 where a slice has a wrong length; 8 where the edge filter is on and a block's group
 // is not in the frame, or its grid is present and does not hold the block; 9 where a setting is out of range:
 // iterations over 3, a frame setting, a presence, `preserve_outside` or `gabor.enabled` neither 0 nor 1, a band
-// height outside 1 to 16,384, more than 256 bands. A check that needs a setting faulty under 9 is passed over.
+// height outside 1 to 16,384, more than 256 bands.
+// A check that needs a faulty value does not apply (Specification 12.6): 6, the sigmas' length and 8 need the
+// iterations; the table's length needs the frame's settings; no entry of the table is read unless the frame's sides
+// and settings are in range and the table's length is right, which the grids' sides and length, 8 and the presences
+// need; the grids' length needs the presences too; the count of bands needs `preserve_outside` and the band height. So
+// a table of wrong length that has a present grid 2,000 wide answers 7, not 4.
 // Accepted, `sigmas` is filled (where there are any) and `first` and `second` are as they were. Refused, the record
 // is all zeros and every slice is as it was.
 RestorationRunAnswer restoration_start(
@@ -421,10 +430,10 @@ RestorationRunAnswer restoration_start(
 // each advance) and writes the band's rows of the result in the other set, filtered inside the filter region and
 // copied outside it. It answers the record with the band marked done.
 // Numbers, the lowest that applies: 0; 7 where a set or the block sigmas have a wrong length for the record's setup,
-// unless what the length is computed from is out of range; 9 where the record is not one that accepted calls return: a
-// setup that start would refuse under 4, 5, 6 or 9, a pass past the last, a flag of `done` over 1, or over 0 from the
-// band count on or once the run is finished; 10 where `k` is not below the band count, the band is done or the run is
-// finished.
+// unless what the length is computed from is out of range (Specification 12.12); 9 where start would refuse the
+// record's setup under 4, 5, 6 or 9, or where no accepted calls lead to its `pass` and `done` flags (Specification
+// 12.8): a pass past the last, a flag over 1, or over 0 from the band count on or once the run is finished; 10 where
+// `k` is not below the band count, the band is done or the run is finished.
 // Accepted, the set that is read, the block sigmas and the rest of the other set are as they were. Refused, the
 // record is the one handed in and every slice is as it was.
 RestorationRunAnswer restoration_band(
@@ -436,16 +445,16 @@ RestorationRunAnswer restoration_band(
 
 // Goes on to the next pass once every band of this one is done: the sets are exchanged and no band is done. After the
 // last pass the run is finished.
-// Numbers, the lowest that applies: 0; 9 where the record is not one that accepted calls return (as for a band); 11
-// where a band is missing or the run is finished.
+// Numbers, the lowest that applies: 0; 9 for the record, as `restoration_band` has it; 11 where a band is missing or
+// the run is finished.
 // Refused, the record is the one handed in.
 RestorationRunAnswer restoration_advance(RestorationRun run);
 
 // Copies the result of a finished run into `out`, plane after plane, from the set that a next pass would read: the
 // image region where `preserve_outside` is 1, the filter region's part where it is 0. It answers the number.
 // Numbers, the lowest that applies: 0; 7 where a set or `out` has a wrong length for the record's setup, unless what
-// the length is computed from is out of range; 9 where the record is not one that accepted calls return (as for a
-// band); 11 where the run is not finished.
+// the length is computed from is out of range (Specification 12.12); 9 for the record, as `restoration_band` has
+// it; 11 where the run is not finished.
 // Both sets are as they were. Refused, `out` is as it was too.
 uint32_t restoration_result(
     RestorationRun run,

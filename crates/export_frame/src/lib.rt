@@ -34,11 +34,15 @@ pub extern "C" fn restoration_split_block(block: u32, group_size_shift: u32) -> 
 // the block above, the top block row starting from `sigma_for_modular`. With it off (`on` 0) `sigmas` has length 0.
 // `blocks` is the filter region, its left and top in blocks. `table` has three numbers for each group of the frame
 // (whether its grid is present, grid width, grid height); `grids` has the present grids one after another.
-// Numbers: 0; 4 for a side of the frame, the filter region's measures, or a present grid's side outside 1 to 1,024; 7
-// for a table, grids or sigmas of another length; 8, with the filter on, for a block whose group is not in the frame
-// or whose present grid does not hold it; 9 for the frame's settings, a presence that is neither 0 nor 1, or `on`
-// neither 0 nor 1. The lowest that applies is given; a check that needs a number faulty under 9 is passed over: the
-// sigmas' length and 8 need `on`. A refusal leaves `sigmas` as they were. `table` and `grids` are only read.
+// Numbers: 0; 4 for a side of the frame, for `blocks` with a side outside 1 to 16,384, an area over 16,777,216 or a
+// left or top over 131,072, or for a present grid's side outside 1 to 1,024; 7 for a table, grids or sigmas of another
+// length; 8, with the filter on, for a block whose group is not in the frame or whose present grid does not hold it;
+// 9 for the frame's settings, a presence that is neither 0 nor 1, or `on` neither 0 nor 1.
+// The lowest that applies is given, and a check that needs a faulty value does not apply (Specification 7.9, 12.6):
+// the table's length needs the frame's settings; no entry of the table is read unless the frame's sides and settings
+// are in range and the table's length is right, which the grids' sides and length, 8 and the presences need; the
+// grids' length needs the presences too; the sigmas' length and 8 need `on`. So a table of wrong length that has a
+// present grid 2,000 wide answers 7, not 4. A refusal leaves `sigmas` as they were. `table` and `grids` are only read.
 #[no_mangle]
 pub extern "C" fn restoration_block_sigmas(
     on: u32,
