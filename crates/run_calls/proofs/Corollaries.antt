@@ -50,7 +50,7 @@ unfolding inside
 inside-itself r = and-i (covers (columns r) (columns r)) (covers (rows r) (rows r)) (covers-itself (columns r)) (covers-itself (rows r))
 
 from-itself : (n : ℕ) (h : Handed) → StartAccepted n h → CutFrom n h h
-from-itself n h e = record { unrefused = start-unrefused n h e; contained = inside-itself (h .setup .filter); passes = refl; inputs = λ c x y p q. refl; sigmas = λ on x y q. refl }
+from-itself n h e = record { unrefused = start-unrefused n h e; contained = inside-itself (h .setup .filter); same-passes = refl; inputs-agree = λ c x y p q. refl; sigmas-agree = λ on x y q. refl }
 
 no-cut-edge : (m : ℕ) (r : Region) (x y : ℤ) → Clear m r r x y
 no-cut-edge m r x y = record { left = λ f. absurd (f refl); right = λ f. absurd (f refl); top = λ f. absurd (f refl); bottom = λ f. absurd (f refl) }

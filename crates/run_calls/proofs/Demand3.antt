@@ -74,13 +74,13 @@ module _ (n : ℕ) (small large : Handed) (fits : PictureFits n small) (from : C
   inputs : (c x y : ℕ) → c < n → x < f .width → y < f .height → input n small c x y ≡ input n large c (lx + x) (ly + y)
   inputs c x y h p q =
       rw (nth-counted (f .left) x, nth-counted (f .top) y, nth-column x p, nth-row y q) at
-      (from .inputs c (f .left +ℤ pos x) (f .top +ℤ pos y) h (nth-holds x y p q))
+      (from .inputs-agree c (f .left +ℤ pos x) (f .top +ℤ pos y) h (nth-holds x y p q))
 
   -- where a step runs, both filter regions start at multiples of 8 and the smaller's blocks have the larger's sigmas
   blocks : SomeStep (plan n (small .setup .settings)) → SameBlocks a b lx ly
   blocks z =
       let on : T (epfOn (small .setup)) = lt→ltb 0 (small .setup .settings .epf .iters) (plan-some-step n (small .setup .settings) z) in
-      let too : T (epfOn (large .setup)) = lt→ltb 0 (large .setup .settings .epf .iters) (plan-some-step n (large .setup .settings) (rw (from .passes) at z)) in
+      let too : T (epfOn (large .setup)) = lt→ltb 0 (large .setup .settings .epf .iters) (plan-some-step n (large .setup .settings) (rw (from .same-passes) at z)) in
       let p = setup-fits (small .setup) (fits .setup) .blocks on in
       let q = setup-fits (large .setup) (picture-fits n large (from .unrefused) .setup) .blocks too in
       let across = blocks-apart (f .left) (g .left) (v .left) (and-l (onBlock (f .left)) (onBlock (f .top)) p) (and-l (onBlock (g .left)) (onBlock (g .top)) q) in
@@ -96,7 +96,7 @@ module _ (n : ℕ) (small large : Handed) (fits : PictureFits n small) (from : C
             let r : natAbs (f .top +ℤ pos (8 * y) -ℤ f .top) / 8 ≡ y = omega (arith, nth-counted (f .top) (8 * y)) in
             let cc : natAbs (f .left +ℤ pos (8 * x) -ℤ g .left) / 8 ≡ lx / 8 + x = omega (arith, nth-column (8 * x) i, across .1) in
             let rr : natAbs (f .top +ℤ pos (8 * y) -ℤ g .top) / 8 ≡ ly / 8 + y = omega (arith, nth-row (8 * y) j, down .1) in
-            rw (c, r, cc, rr) at (from .sigmas on (f .left +ℤ pos (8 * x)) (f .top +ℤ pos (8 * y)) (nth-holds (8 * x) (8 * y) i j));
+            rw (c, r, cc, rr) at (from .sigmas-agree on (f .left +ℤ pos (8 * x)) (f .top +ℤ pos (8 * y)) (nth-holds (8 * x) (8 * y) i j));
       }
 
   -- all passes over both, beyond the margin
@@ -113,7 +113,7 @@ module _ (n : ℕ) (small large : Handed) (fits : PictureFits n small) (from : C
       let row = counted-from (f .top) (g .top) (f .height) (g .height) (v .top) (v .bottom) y (held .row) in
       cut-same n a b lx ly cut (plan n s) (plan-sound n s) blocks (input n small) (input n large) inputs c (natAbs (x -ℤ f .left)) (natAbs (y -ℤ f .top)) h
       (rw (plan-reach n s) i) (rw (plan-reach n s) j)
-      ∙ rw (from .passes, column, row)
+      ∙ rw (from .same-passes, column, row)
 
 -- ---- the theorem
 

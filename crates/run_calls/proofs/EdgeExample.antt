@@ -68,7 +68,7 @@ module _ (p : Picture) (scales : List Float) (border sigma : Float) where
 
   from : CutFrom 3 (smaller p scales border sigma) (larger p scales border sigma)
   unfolding inside plan steps stepOf scaleOf
-  from = record { unrefused = unrefused; contained = tt; passes = refl; inputs = λ c x y h held. inputs x y held c h; sigmas = λ on x y held. sigmas x y held }
+  from = record { unrefused = unrefused; contained = tt; same-passes = refl; inputs-agree = λ c x y h held. inputs x y held c h; sigmas-agree = λ on x y held. sigmas x y held }
 
   -- the calls, after a state
   abbrev after : State → List DocumentCall

@@ -177,7 +177,7 @@ module _ (g : Given) where
 
   from : CutFrom 3 (smaller g) (larger g)
   unfolding inside
-  from = record { unrefused = unrefused; contained = tt; passes = refl; inputs = λ c x y h held. inputs x y held c h; sigmas = λ on x y held. sigmas x y held }
+  from = record { unrefused = unrefused; contained = tt; same-passes = refl; inputs-agree = λ c x y h held. inputs x y held c h; sigmas-agree = λ on x y held. sigmas x y held }
 
   -- ---- all of it
 

@@ -210,7 +210,7 @@ tie-but-sigma =
       unrefused = edge-premises-met tenth-column ones b1 quarter .cut-from-larger .unrefused;
       contained = like .contained;
       passes = refl;
-      inputs = λ c x y h held o. like .inputs c x y h held;
+      inputs = λ c x y h held o. like .inputs-agree c x y h held;
       sigmas = λ on x y held o. absurd (o (record { column = wider (pos 8) (pos 8) 4 8 tt tt x (held .column); row = wider (pos 0) (pos 0) 1 8 tt tt y (held .row) }));
     }
 

@@ -13,7 +13,7 @@ use Rattle.run_outcomes.specs.Result.{ResultOutcome, resultOutcome}
 
 -- ---- the start
 
--- start accepts what it is handed
+-- start accepts what it is handed, n planes in each set (document 01 has 3)
 abbrev pub StartAccepted : ℕ → Handed → Type 0
 StartAccepted n h = startOutcome n h .answer .number ≡ 0
 

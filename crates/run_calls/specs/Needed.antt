@@ -1,4 +1,5 @@
--- Demand 3 supposes nothing idle: with a margin one smaller, one other input sample, the sigma of one block or one altered sample it is false. Statements only.
+-- What of demand 3's premises is shown to be needed: with a margin one smaller, one other input sample, the sigma of one block or one altered sample it is false.
+-- Statements only.
 use mathlib.Core.Path.{_≡_}
 use mathlib.Core.List.{List, _∷_}
 use Prim.Native.Nat.{ℕ, suc, _<_}
