@@ -2,6 +2,7 @@
 use Rattle.mirror.specs.Laws.{mirror-lt, mirror-periodic, mirror-low, mirror-high}
 use Rattle.mirror.specs.Cut.{mirror-cut}
 use Rattle.region_arithmetic.proofs.Laws.{intersection-inside, intersection-greatest, aligned-contains, aligned-smallest, shrunk-has, shrunk-touched}
+use Rattle.header_fields.proofs.Order.{too-long, runs-out}
 use Rattle.frame.specs.Laws.{divided-up-covers, divided-up-least, split-whole, inner-lt}
 use Rattle.gabor_kernel.proofs.Mirrored.{fold-mirrors, kernel-mirrored, single-row-differs, alone-copied}
 use Rattle.gabor_kernel.proofs.Exact.{expansion-sums, coefficients-weigh, rows-mirrored, integers-exact}
@@ -88,6 +89,8 @@ promises = record {
   aligned-least = aligned-smallest;
   shrunk-has = shrunk-has;
   shrunk-touched = shrunk-touched;
+  too-long = too-long;
+  runs-out = runs-out;
   divided-up-covers = divided-up-covers;
   divided-up-least = divided-up-least;
   split-whole = split-whole;

@@ -6,6 +6,7 @@ use lib.IntN.{ℤ, pos, negsuc, natAbs, _+ℤ_, _-ℤ_}
 use Rattle.mirror.specs.Mirror.{mirror}
 use Rattle.mirror.specs.Cut.{Deep, Carried}
 use Rattle.region_arithmetic.specs.Laws.{IntersectionInside, IntersectionGreatest, AlignedContains, AlignedLeast, ShrunkHas, ShrunkTouched}
+use Rattle.header_fields.specs.Order.{TooLong, RunsOut}
 use Rattle.frame.specs.Sizes.{dividedUp, groupDim, groupOf, innerOf}
 use Rattle.planes.specs.Picture.{Picture}
 use Rattle.gabor_kernel.specs.Mirrored.{FoldMirrors, KernelMirrored, SingleRowDiffers, AloneCopied}
@@ -108,6 +109,9 @@ pub record Promises : Type 1 where
   pub aligned-least : AlignedLeast
   pub shrunk-has : ShrunkHas
   pub shrunk-touched : ShrunkTouched
+  -- headers: what comes first of all
+  pub too-long : TooLong
+  pub runs-out : RunsOut
   -- frames: sides divided up, and a block's group and cell
   pub divided-up-covers : (a b : ℕ) → 0 < b → a ≤ dividedUp a b * b
   pub divided-up-least : (a b q : ℕ) → 0 < b → a ≤ q * b → dividedUp a b ≤ q
