@@ -26,10 +26,10 @@ use Rattle.planes.specs.Band.{inFilter}
 use Rattle.run_setup.specs.declared.Setup.{Setup}
 use Rattle.run_setup.specs.Setup.{fullPlanes, layout, epfOn, resultRegion, resultLength}
 use Rattle.run_setup.specs.Laws.{SetupFits, setup-fits}
-use Rattle.run_outcomes.specs.Start.{Handed, startLeaves, sigmasFilled}
+use Rattle.run_outcomes.specs.Start.{Handed, sigmasFilled}
 use Rattle.run_outcomes.specs.Band.{State, source}
 use Rattle.run_outcomes.specs.Result.{resultOf}
-use Rattle.run_outcomes.specs.Laws.{PictureFits}
+use Rattle.run_outcomes.specs.Laws.{PictureFits, leaves-same}
 use Rattle.run_calls.specs.Calls.{StartAccepted, startState, Calls, end}
 use Rattle.run_calls.specs.Places.{Clear, resultAt, sampleAt}
 use Rattle.run_calls.specs.Theorem.{CutFrom, Delivers}
@@ -164,12 +164,8 @@ module _ (n : ℕ) (a b : Handed) (same : SameButBands a b) where
   region-same : resultRegion (a .setup) ≡ resultRegion (b .setup)
   region-same = rw (same .image, same .filter, same .full)
 
-  leaves-same : startLeaves n a ≡ startLeaves n b
-  unfolding startLeaves
-  leaves-same = same .first
-
   first-same : (c : ℕ) (x y : ℤ) → firstAt n a c x y ≡ firstAt n b c x y
-  first-same c x y = rw (leaves-same, same .image)
+  first-same c x y = rw (leaves-same n a b (same .first), same .image)
 
   module _ (p : PictureFits n a) (q : PictureFits n b) where
     -- with the edge filter off there are no block sigmas
@@ -181,7 +177,7 @@ module _ (n : ℕ) (a b : Handed) (same : SameButBands a b) where
         ext-getD nan (a .sigmas) (b .sigmas) (none ∙ sym too) (λ k h. absurd (omega (arith, none)))))
 
     sample-same : (c : ℕ) (x y : ℤ) → sampleAt n a c x y ≡ sampleAt n b c x y
-    sample-same c x y = rw (leaves-same, sigmas-same, same .image, same .filter, same .full, same .settings)
+    sample-same c x y = rw (leaves-same n a b (same .first), sigmas-same, same .image, same .filter, same .full, same .settings)
 
 module _ (n : ℕ) (K : Calls n) (a b : Handed) (same : SameButBands a b) (r : FinishedRun n K a) (q : FinishedRun n K b) where
   each-same : (c : ℕ) (x y : ℤ) → c < n → Holds (resultRegion (a .setup)) x y → resultAt (a .setup) (handedOver n K a r .out) c x y ≡ resultAt (b .setup) (handedOver n K b q .out) c x y

@@ -23,7 +23,7 @@ use Rattle.planes.specs.Band.{inner}
 use Rattle.run_passes.specs.Plan.{plan, steps, stepOf, scaleOf, stepMargin}
 use Rattle.run_setup.specs.Setup.{bandCount, numbersFit, setupFits, sized}
 use Rattle.run_record.specs.Record.{isDone, started, marked, advanced, bandMissing, finished, strayDone, runFits}
-use Rattle.run_outcomes.specs.Start.{pictureChecks, startLeaves, sigmasFilled, startOutcome}
+use Rattle.run_outcomes.specs.Start.{pictureChecks, startChecks, startLeaves, sigmasFilled, startOutcome}
 use Rattle.run_outcomes.specs.Band.{State, bandChecks, bandOutcome, advanceOutcome}
 use Rattle.run_calls.specs.Calls.{StartAccepted, DocumentCall, band, advance, documentCalls, stateAfter, end, Unaltered}
 use Rattle.run_calls.specs.Places.{inputAt, sigmaAt}
@@ -34,7 +34,7 @@ use Rattle.run_calls.proofs.Places.{counted, counted-from}
 
 module _ (p : Picture) (scales : List Float) (border sigma : Float) where
   accepted : StartAccepted 3 (smaller p scales border sigma)
-  unfolding startOutcome pictureChecks pictured measured place side inside badSides badSettings sizesOf tableFits gridsFit gridStart cells someBelow badGrid someNotHeld notHeld lacks bandCount layoutOf setOf tab
+  unfolding startOutcome startChecks pictureChecks pictured measured place side inside badSides badSettings sizesOf tableFits gridsFit gridStart cells someBelow badGrid someNotHeld notHeld lacks bandCount layoutOf setOf tab
   accepted = refl
 
   unrefused : Unrefused 3 (larger p scales border sigma)

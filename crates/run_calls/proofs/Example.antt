@@ -20,7 +20,7 @@ use Rattle.planes.specs.Band.{inner}
 use Rattle.run_passes.specs.Plan.{plan, steps, stepMargin}
 use Rattle.run_setup.specs.Setup.{bandCount, numbersFit, setupFits, sized}
 use Rattle.run_record.specs.Record.{isDone, started, marked, advanced, bandMissing, strayDone, runFits}
-use Rattle.run_outcomes.specs.Start.{pictureChecks, startLeaves, sigmasFilled, startOutcome}
+use Rattle.run_outcomes.specs.Start.{pictureChecks, startChecks, startLeaves, sigmasFilled, startOutcome}
 use Rattle.run_outcomes.specs.Band.{bandChecks, bandOutcome, advanceOutcome}
 use Rattle.run_calls.specs.Calls.{StartAccepted, documentCalls, stateAfter, end}
 use Rattle.run_calls.specs.Places.{inputAt}
@@ -30,7 +30,7 @@ use Rattle.run_calls.proofs.Places.{counted, counted-from}
 
 module _ (p : Picture) (weights : List (List Float)) where
   accepted : StartAccepted 3 (smaller p weights)
-  unfolding startOutcome pictureChecks pictured measured place side inside badSides badSettings sizesOf tableFits gridsFit gridStart cells someBelow badGrid bandCount layoutOf setOf tab
+  unfolding startOutcome startChecks pictureChecks pictured measured place side inside badSides badSettings sizesOf tableFits gridsFit gridStart cells someBelow badGrid bandCount layoutOf setOf tab
   accepted = refl
 
   unrefused : Unrefused 3 (larger p weights)
@@ -52,7 +52,7 @@ module _ (p : Picture) (weights : List (List Float)) where
   from = record { unrefused = unrefused; contained = tt; same-passes = refl; inputs-agree = inputs; sigmas-agree = λ on. absurd on }
 
   premises : Premises 3 (documentCalls 3) (smaller p weights) (larger p weights) (calls p weights) (slice p weights)
-  unfolding startOutcome startLeaves bandOutcome advanceOutcome pictureChecks badSides badSettings sizesOf tableFits gridsFit gridStart cells badGrid sigmasFilled stateAfter end started marked advanced bandChecks runFits strayDone bandMissing isDone numbersFit setupFits bandCount sized someBelow pictured measured place side inside layoutOf plan steps setOf tab
+  unfolding startOutcome startLeaves bandOutcome advanceOutcome startChecks pictureChecks badSides badSettings sizesOf tableFits gridsFit gridStart cells badGrid sigmasFilled stateAfter end started marked advanced bandChecks runFits strayDone bandMissing isDone numbersFit setupFits bandCount sized someBelow pictured measured place side inside layoutOf plan steps setOf tab
   premises = record {
     start-accepted = accepted;
     cut-from-larger = from;

@@ -26,7 +26,7 @@ use Rattle.run_setup.specs.Setup.{bandCount}
 use Rattle.run_record.specs.declared.Run.{Run}
 use Rattle.run_record.specs.Record.{isDone, started, marked, advanced, finished, bandMissing, notOpen, notOver}
 use Rattle.run_record.specs.Laws.{band-open, pass-over}
-use Rattle.run_outcomes.specs.Start.{pictureChecks, startLeaves, sigmasFilled, startOutcome}
+use Rattle.run_outcomes.specs.Start.{pictureChecks, startChecks, startLeaves, sigmasFilled, startOutcome}
 use Rattle.run_outcomes.specs.Band.{State}
 use Rattle.run_outcomes.specs.Laws.{band-number, band-leaves, band-accepted, advance-number, advance-leaves, advance-accepted}
 use Rattle.run_calls.specs.Calls.{StartAccepted, DocumentCall, band, advance, start, other, answer, numberIn, leftBy, documentCalls, stateAfter, end, Unaltered}
@@ -87,7 +87,7 @@ module _ (t : State) (c : DocumentCall) (cs : List DocumentCall) (e : numberIn (
 
 module _ (g : Given) where
   accepted : StartAccepted 3 (smaller g)
-  unfolding startOutcome pictureChecks pictured measured place side inside badSides badSettings sizesOf tableFits gridsFit gridStart cells someBelow badGrid someNotHeld notHeld lacks bandCount layoutOf setOf tab
+  unfolding startOutcome startChecks pictureChecks pictured measured place side inside badSides badSettings sizesOf tableFits gridsFit gridStart cells someBelow badGrid someNotHeld notHeld lacks bandCount layoutOf setOf tab
   accepted = refl
 
   unrefused : Unrefused 3 (larger g)
@@ -95,7 +95,7 @@ module _ (g : Given) where
   unrefused = refl
 
   start-refused : startOutcome 3 (empty g) .answer .number ≡ 4
-  unfolding startOutcome pictureChecks pictured measured place side
+  unfolding startOutcome startChecks pictureChecks pictured measured place side
   start-refused = refl
 
   abbrev leaves : List Float

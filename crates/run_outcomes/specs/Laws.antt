@@ -23,7 +23,7 @@ use Rattle.run_record.specs.Record.{advanced, finished, runFits, overChecks}
 use Rattle.refusals.specs.Tables.{is-true, met, met-given, none-zero, row-passed}
 use Rattle.run_setup.specs.Laws.{fits-setup}
 use Rattle.run_record.specs.Laws.{RunFits, run-fits, fits-run, Open, band-open, open-band, Over, pass-over, over-pass}
-use Rattle.run_outcomes.specs.Start.{Handed, blocksOf, pictureChecks, startNumber, startLeaves, sigmasFilled, startAccepted, startRefused, startOutcome}
+use Rattle.run_outcomes.specs.Start.{Handed, blocksOf, pictureChecks, startChecks, startNumber, startLeaves, sigmasFilled, startAccepted, startRefused, startOutcome}
 use Rattle.run_outcomes.specs.Band.{State, readsFirst, bandChecks, bandNumber, bandAccepted, bandOutcome, advanceNumber, advanceOutcome}
 use Rattle.run_outcomes.specs.Result.{resultChecks, resultNumber, resultOf, resultOutcome}
 
@@ -81,8 +81,14 @@ pub leaves-length : (n : ℕ) (h : Handed) → length (startLeaves n h) ≡ leng
 unfolding startLeaves
 leaves-length n h = refl
 
+-- and depends on that alone
+pub leaves-same : (n : ℕ) (a b : Handed) → a .first ≡ b .first → startLeaves n a ≡ startLeaves n b
+unfolding startLeaves
+leaves-same n a b e = e
+
 -- a start that is accepted: the picture would not be refused
 pub start-picture : (n : ℕ) (h : Handed) → startNumber n h ≡ 0 → firstOf (pictureChecks n h) ≡ 0
+unfolding startChecks
 start-picture n h e = e
 
 -- ---- outcomes: their numbers, and what accepted and refused calls leave

@@ -67,8 +67,8 @@ module _ (n : ℕ) (h : Handed) where
       ∷ given (fullFits setup && heightFits setup) outOfRange (not (countFits setup))
       ∷ []
 
-  -- what start checks: so far these alone
-  abbrev pub startChecks : List Check
+  -- what start checks: so far these alone. `start-picture` is all that the theorem knows of it.
+  unfoldable pub startChecks : List Check
   startChecks = pictureChecks
 
   abbrev pub startNumber : ℕ

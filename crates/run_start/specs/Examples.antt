@@ -16,7 +16,7 @@ use Rattle.frame.specs.Outcome.{badSides, badSettings}
 use Rattle.sigma_groups.specs.Outcome.{tableFits, gridsFit}
 use Rattle.run_setup.specs.declared.Setup.{Setup}
 use Rattle.run_setup.specs.Setup.{bandCount}
-use Rattle.run_outcomes.specs.Start.{Handed, noSetup, pictureChecks, startNumber}
+use Rattle.run_outcomes.specs.Start.{Handed, noSetup, pictureChecks, startChecks, startNumber}
 
 -- an image of 8 by 8 samples whose filter region has the given left and width, with the result's flag and Gabor's
 abbrev flagged : ℕ → ℕ → ℤ → ℕ → ℕ → ℕ → Setup
@@ -46,25 +46,25 @@ handed s set sigmas = record {
 
 -- one block and one band, or eight; and any corner with the edge filter off
 accepted : (startNumber 3 (handed (setup (pos 0) 8 3 8) 192 1) ≡ 0) × (startNumber 3 (handed (setup (pos 0) 8 1 1) 192 1) ≡ 0) × (startNumber 3 (handed (setup (pos 4) 4 0 8) 192 0) ≡ 0)
-unfolding pictureChecks inside pictured measured place side badSides badSettings tableFits sizesOf someBelow badGrid gridsFit gridStart cells someNotHeld notHeld lacks layoutOf bandCount
+unfolding startChecks pictureChecks inside pictured measured place side badSides badSettings tableFits sizesOf someBelow badGrid gridsFit gridStart cells someNotHeld notHeld lacks layoutOf bandCount
 accepted = (refl, refl, refl)
 
 -- outside the image; and also too wide, or empty
 placed : (startNumber 3 (handed (setup (pos 0) 9 3 8) 192 2) ≡ 5) × (startNumber 3 (handed (setup (pos 0) 16385 3 8) 192 2) ≡ 4) × (startNumber 3 (handed (setup (pos 0) 0 3 8) 192 0) ≡ 4)
-unfolding pictureChecks inside pictured measured place side badSides badSettings tableFits sizesOf someBelow badGrid gridsFit gridStart cells someNotHeld notHeld lacks layoutOf bandCount
+unfolding startChecks pictureChecks inside pictured measured place side badSides badSettings tableFits sizesOf someBelow badGrid gridsFit gridStart cells someNotHeld notHeld lacks layoutOf bandCount
 placed = (refl, refl, refl)
 
 -- a corner that is no multiple of 8, though the sets are short; with faulty iterations this and the block sigmas' length are passed over
 corner : (startNumber 3 (handed (setup (pos 4) 4 1 8) 191 1) ≡ 6) × (startNumber 3 (handed (setup (pos 4) 4 4 8) 191 7) ≡ 7) × (startNumber 3 (handed (setup (pos 4) 4 4 8) 192 7) ≡ 9)
-unfolding pictureChecks inside pictured measured place side badSides badSettings tableFits sizesOf someBelow badGrid gridsFit gridStart cells someNotHeld notHeld lacks layoutOf bandCount
+unfolding startChecks pictureChecks inside pictured measured place side badSides badSettings tableFits sizesOf someBelow badGrid gridsFit gridStart cells someNotHeld notHeld lacks layoutOf bandCount
 corner = (refl, refl, refl)
 
 -- block sigmas lent with the edge filter off, though the band height is 0
 lengths : (startNumber 3 (handed (setup (pos 0) 8 0 0) 192 1) ≡ 7) × (startNumber 3 (handed (setup (pos 0) 8 0 0) 192 0) ≡ 9)
-unfolding pictureChecks inside pictured measured place side badSides badSettings tableFits sizesOf someBelow badGrid gridsFit gridStart cells someNotHeld notHeld lacks layoutOf bandCount
+unfolding startChecks pictureChecks inside pictured measured place side badSides badSettings tableFits sizesOf someBelow badGrid gridsFit gridStart cells someNotHeld notHeld lacks layoutOf bandCount
 lengths = (refl, refl)
 
 -- a flag of 2: the result's, or Gabor's; 0 and 1 are both in range, and a wrong length comes before
 flags : (startNumber 3 (handed (flagged 2 0 (pos 0) 8 0 8) 192 0) ≡ 9) × (startNumber 3 (handed (flagged 0 2 (pos 0) 8 0 8) 192 0) ≡ 9) × (startNumber 3 (handed (flagged 0 1 (pos 0) 8 0 8) 192 0) ≡ 0) × (startNumber 3 (handed (flagged 2 2 (pos 0) 8 0 8) 191 0) ≡ 7)
-unfolding pictureChecks inside pictured measured place side badSides badSettings tableFits sizesOf someBelow badGrid gridsFit gridStart cells someNotHeld notHeld lacks layoutOf bandCount
+unfolding startChecks pictureChecks inside pictured measured place side badSides badSettings tableFits sizesOf someBelow badGrid gridsFit gridStart cells someNotHeld notHeld lacks layoutOf bandCount
 flags = (refl, refl, refl, refl)

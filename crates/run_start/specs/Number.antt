@@ -36,7 +36,7 @@ use Rattle.run_record.specs.Record.{started}
 use Rattle.run_setup.specs.Tests.{sized-by-area}
 use Rattle.run_outcomes.specs.Tests.{blocks-same}
 use Rattle.run_outcomes.specs.Band.{setCheck}
-use Rattle.run_outcomes.specs.Start.{Handed, StartOutcome, blocksOf, pictureChecks, startNumber, startLeaves, sigmasFilled, noRun, startOutcome}
+use Rattle.run_outcomes.specs.Start.{Handed, StartOutcome, blocksOf, pictureChecks, startChecks, startNumber, startLeaves, sigmasFilled, noRun, startOutcome}
 use Rattle.run_start.specs.Lowest.{lowest, Parted, none, left, right, first-lowest, lowest-left, lowest-none, ascending-from}
 use Rattle.run_start.specs.Pieces.{runsEpf, epfFlag, sigmasAsked, ownChecks, numberOf, toldChecks}
 
@@ -170,11 +170,16 @@ module _ (n : ℕ) (h : Handed) where
   abbrev number : ℕ
   number = numberOf n s f t (h .grids) (length (h .first)) (length (h .second)) (length (h .sigmas))
 
+  -- start has no other rows than the picture's
+  start-rows : startNumber n h ≡ firstOf (pictureChecks n h)
+  unfolding startChecks
+  start-rows = refl
+
   number-same : startNumber n h ≡ number
   unfolding numberOf pictureChecks
-  number-same = go (pictured (s .image) && pictured (s .filter)) refl
+  number-same = start-rows ∙ go (pictured (s .image) && pictured (s .filter)) refl
     where
-      go : (p : Bool) → (pictured (s .image) && pictured (s .filter)) ≡ p → startNumber n h ≡ number
+      go : (p : Bool) → (pictured (s .image) && pictured (s .filter)) ≡ p → firstOf (pictureChecks n h) ≡ number
       go true e = rows-lowest ∙ rw (own-number (and-first (pictured (s .image)) (pictured (s .filter)) e), groups-number (and-second (pictured (s .image)) (pictured (s .filter)) e))
       go false e =
           let own = ownChecks n s (length (h .first)) (length (h .second)) in
