@@ -18,7 +18,8 @@ use Rattle.run_calls.proofs.Demand3.{document-demand-3, demand-3}
 use Rattle.run_calls.proofs.Example.{premises-met, place-clear}
 use Rattle.run_calls.proofs.EdgeExample.{edge-premises-met, edge-place-clear}
 use Rattle.run_calls.proofs.FourEdges.{four-edges-met, four-edges-clear, four-edges-delivered}
-use Rattle.run_calls.proofs.Needed.{gabor-margin-needed, step-margin-needed, inputs-needed, sigmas-needed, unaltered-needed}
+use Rattle.run_calls.proofs.Needed.{premises-say, gabor-margin-needed, step-margin-needed, inputs-needed, sigmas-needed, unaltered-needed}
+use Rattle.run_calls.proofs.EachNeeded.{each-needed}
 use Rattle.run_calls.proofs.Corollaries.{whole-picture, two-cuts-agree, outside-kept, bands-alike}
 use Rattle.run_calls.proofs.Refused.{start-tied, calls-tied, refused-untouched}
 use Rattle.run_calls.proofs.Count.{document-count-rule, count-rule}
@@ -33,6 +34,8 @@ promises = record {
   place-clear = place-clear;
   edge-premises-met = edge-premises-met;
   edge-place-clear = edge-place-clear;
+  premises-say = premises-say;
+  each-needed = each-needed;
   four-edges-met = four-edges-met;
   four-edges-clear = four-edges-clear;
   four-edges-delivered = four-edges-delivered;

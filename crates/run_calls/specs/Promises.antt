@@ -27,7 +27,7 @@ use Rattle.run_calls.specs.Corollaries.{WholePicture, TwoCutsAgree, Outs
 use Rattle.run_calls.specs.Example.{PremisesMet, PlaceClear}
 use Rattle.run_calls.specs.EdgeExample.{EdgePremisesMet, EdgePlaceClear}
 use Rattle.run_calls.specs.FourEdges.{FourEdgesMet, FourEdgesClear, FourEdgesDelivered}
-use Rattle.run_calls.specs.Needed.{GaborMarginNeeded, StepMarginNeeded, InputsNeeded, SigmasNeeded, UnalteredNeeded}
+use Rattle.run_calls.specs.Needed.{PremisesSay, EachNeeded, GaborMarginNeeded, StepMarginNeeded, InputsNeeded, SigmasNeeded, UnalteredNeeded}
 
 pub record Promises : Type 1 where
   -- demand 3, for document 01's planes and calls, and for any
@@ -41,7 +41,9 @@ pub record Promises : Type 1 where
   pub four-edges-met : FourEdgesMet
   pub four-edges-clear : FourEdgesClear
   pub four-edges-delivered : FourEdgesDelivered
-  -- and it is false without them
+  -- and it is false without any of them, or with a smaller margin
+  pub premises-say : PremisesSay
+  pub each-needed : EachNeeded
   pub gabor-margin-needed : GaborMarginNeeded
   pub step-margin-needed : StepMarginNeeded
   pub inputs-needed : InputsNeeded
