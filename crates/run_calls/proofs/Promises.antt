@@ -1,18 +1,15 @@
 -- Everything that specs/Promises.antt gathers is proved. Assumes nothing.
-use Rattle.mirror.specs.Laws.{mirror-lt, mirror-periodic, mirror-low, mirror-high}
-use Rattle.mirror.specs.Cut.{mirror-cut}
+use Rattle.mirror.proofs.Statements.{mirror-inside, mirror-periodic, mirror-low, mirror-high, mirror-cut}
 use Rattle.region_arithmetic.proofs.Laws.{intersection-inside, intersection-greatest, aligned-contains, aligned-smallest, shrunk-has, shrunk-touched}
 use Rattle.header_fields.proofs.Order.{too-long, runs-out}
-use Rattle.frame.specs.Laws.{divided-up-covers, divided-up-least, split-whole, inner-lt}
+use Rattle.frame.proofs.Statements.{divided-up-covers, divided-up-least, split-whole, inner-below}
 use Rattle.gabor_kernel.proofs.Mirrored.{fold-mirrors, kernel-mirrored, single-row-differs, alone-copied}
 use Rattle.gabor_kernel.proofs.Exact.{expansion-sums, coefficients-weigh, rows-mirrored, integers-exact}
 use Rattle.epf_step.proofs.Offsets.{kernel-offsets, distance-offsets}
 use Rattle.epf_step.proofs.Bounds.{distance-not-negative, slope-not-positive, weight-bounds, divisor-bounds, multiplier-not-negative, pass-bounds}
 use Rattle.epf_lanes.proofs.Divisors.{lane-divisor-bounds}
 use Rattle.run_passes.proofs.Bounds.{step-bounds, settings-bounds, bounds-reached}
-use Rattle.run_passes.specs.PlanLaws.{plan-reach}
-use Rattle.run_passes.specs.Near.{pass-near}
-use Rattle.run_passes.specs.Cut.{cut-same}
+use Rattle.run_passes.proofs.Statements.{pass-near, cut-same, plan-reach}
 use Rattle.run_calls.specs.Promises.{Promises}
 use Rattle.run_calls.proofs.Demand3.{document-demand-3, demand-3}
 use Rattle.run_calls.proofs.Example.{premises-met, place-clear}
@@ -34,11 +31,11 @@ promises = record {
   place-clear = place-clear;
   edge-premises-met = edge-premises-met;
   edge-place-clear = edge-place-clear;
-  premises-say = premises-say;
-  each-needed = each-needed;
   four-edges-met = four-edges-met;
   four-edges-clear = four-edges-clear;
   four-edges-delivered = four-edges-delivered;
+  premises-say = premises-say;
+  each-needed = each-needed;
   gabor-margin-needed = gabor-margin-needed;
   step-margin-needed = step-margin-needed;
   inputs-needed = inputs-needed;
@@ -81,7 +78,7 @@ promises = record {
   coefficients-weigh = coefficients-weigh;
   rows-mirrored = rows-mirrored;
   integers-exact = integers-exact;
-  mirror-inside = mirror-lt;
+  mirror-inside = mirror-inside;
   mirror-periodic = mirror-periodic;
   mirror-low = mirror-low;
   mirror-high = mirror-high;
@@ -97,5 +94,5 @@ promises = record {
   divided-up-covers = divided-up-covers;
   divided-up-least = divided-up-least;
   split-whole = split-whole;
-  inner-below = inner-lt;
+  inner-below = inner-below;
 }

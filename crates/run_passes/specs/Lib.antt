@@ -5,3 +5,4 @@ pub mod Near
 pub mod Cut
 pub mod Stages
 pub mod Bounds
+pub mod Statements

@@ -1,0 +1,15 @@
+-- What specs/Statements.antt promises of a frame's sizes. Assumes nothing.
+use Rattle.frame.specs.Laws.{divided-up-covers as covers, divided-up-least as least, split-whole as whole, inner-lt}
+use Rattle.frame.specs.Statements.{DividedUpCovers, DividedUpLeast, SplitWhole, InnerBelow}
+
+pub divided-up-covers : DividedUpCovers
+divided-up-covers = covers
+
+pub divided-up-least : DividedUpLeast
+divided-up-least = least
+
+pub split-whole : SplitWhole
+split-whole = whole
+
+pub inner-below : InnerBelow
+inner-below = inner-lt
