@@ -31,12 +31,12 @@ effect-kept {n} {t} first (oneAdvance e) i = rw (advance-leaves (t .run) e) (rec
 effect-kept {n} {t} first nothing i = record { sound = i; setup = refl; sigmas = refl }
 
 module _ (n : ℕ) (K : Calls n) (first : List Float) where
-  pub after-kept : (t : State) (c : K .Call) → Sound n first t → (K .number c ≡ 0 → K .Lent t c) → Kept n first t (stateAfter n K t c)
+  pub after-kept : (t : State) (c : K .Call) → Sound n first t → (K .number (K .answer c) ≡ 0 → K .Lent t c) → Kept n first t (stateAfter n K t c)
   unfolding stateAfter
-  after-kept t c i l = go (eqb (K .number c) 0) refl
+  after-kept t c i l = go (eqb (K .number (K .answer c)) 0) refl
     where
-      go : (b : Bool) → eqb (K .number c) 0 ≡ b → Kept n first t (cond b (K .leaves t c) t)
-      go true e = let z = eqb-true (K .number c) 0 e in effect-kept first (K .effect t c z (l z)) i
+      go : (b : Bool) → eqb (K .number (K .answer c)) 0 ≡ b → Kept n first t (cond b (K .leaves t (K .answer c)) t)
+      go true e = let z = eqb-true (K .number (K .answer c)) 0 e in effect-kept first (K .effect t c z (l z)) i
       go false e = record { sound = i; setup = refl; sigmas = refl }
 
   pub end-kept : (t : State) (cs : List (K .Call)) → Sound n first t → Unaltered n K t cs → Kept n first t (end n K t cs)
