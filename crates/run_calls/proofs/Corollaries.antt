@@ -37,7 +37,7 @@ use Rattle.run_calls.specs.Corollaries.{FinishedRun, firstAt, SameButBan
 use Rattle.run_calls.proofs.Rows.{image-in-result}
 use Rattle.run_calls.proofs.Lists.{start-unrefused, picture-accepted, KeptFrom, after-start}
 use Rattle.run_calls.proofs.Places.{counted, narrower, nth-held, nth-counted, Covered, covered}
-use Rattle.run_calls.proofs.Finished.{result-sample, run-outside, handed-over-at}
+use Rattle.run_calls.proofs.Finished.{result-sample, run-outside, handed-over}
 use Rattle.run_calls.proofs.Demand3.{demand-3}
 
 -- ---- a picture is cut from itself, and has no cut edge
@@ -103,7 +103,7 @@ module _ (n : ℕ) (K : Calls n) (h : Handed) (r : FinishedRun n K h) where
 
   -- the slice that is handed over
   out-is : handedOver n K h r .out ≡ resultOf n (layout (h .setup)) (source state)
-  out-is = handed-over-at n h state kept (r .ended) (r .slice) (r .room) .1
+  out-is = handed-over n h state kept (r .ended) (r .slice) (r .room) .1
 
   out-length : length (handedOver n K h r .out) ≡ resultLength n (h .setup)
   unfolding resultOf layoutOf

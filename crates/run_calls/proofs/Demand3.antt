@@ -1,11 +1,8 @@
 -- Demand 3: the samples that a finished run hands over are the larger picture's beyond the margin. Assumes nothing.
 use mathlib.Core.Path.{_≡_, _∙_}
-use mathlib.Core.List.{List}
 use Prim.Native.Nat.{ℕ, _+_, _*_, _/_, _<_}
 use native.Mathlib.Omega.{arith}
 use lib.Dec.{T, lt→ltb}
-use lib.ListN.{length}
-use lib.Ieee.{Float}
 use lib.Ieee.Fits.{and-l, and-r}
 use lib.IntN.{ℤ, pos, natAbs, _+ℤ_, _-ℤ_}
 use Rattle.mirror.specs.Cut.{Deep}
@@ -17,17 +14,17 @@ use Rattle.run_passes.specs.Cut.{Fits, SameBlocks, SomeStep, cut-same, plan-sou
 use Rattle.run_passes.specs.Plan.{plan, margin}
 use Rattle.run_passes.specs.PlanLaws.{plan-reach}
 use Rattle.run_setup.specs.declared.Setup.{Setup}
-use Rattle.run_setup.specs.Setup.{epfOn, area, resultLength}
-use Rattle.run_record.specs.Record.{finished}
+use Rattle.run_setup.specs.Setup.{epfOn, area}
 use Rattle.run_setup.specs.Laws.{setup-fits}
 use Rattle.run_outcomes.specs.Start.{Handed, sigmasFilled}
-use Rattle.run_outcomes.specs.Band.{State, source}
+use Rattle.run_outcomes.specs.Band.{source}
 use Rattle.run_outcomes.specs.Laws.{PictureFits, picture-fits}
-use Rattle.run_calls.specs.Calls.{StartAccepted, Calls, documentCalls}
+use Rattle.run_calls.specs.Calls.{Calls, documentCalls}
 use Rattle.run_calls.specs.Places.{input, Clear}
-use Rattle.run_calls.specs.Theorem.{CutFrom, resultOn, Delivers, Demand3, DocumentDemand3}
-use Rattle.run_calls.proofs.Lists.{picture-accepted, KeptFrom, after-start}
-use Rattle.run_calls.proofs.Finished.{filter-sample, run-samples, handed-over-at}
+use Rattle.run_calls.specs.Theorem.{CutFrom, Demand3, DocumentDemand3}
+use Rattle.run_calls.specs.States.{Demand3At}
+use Rattle.run_calls.proofs.Lists.{picture-accepted, reached-kept, end-reached}
+use Rattle.run_calls.proofs.Finished.{filter-sample, run-samples, handed-over}
 use Rattle.run_calls.proofs.Places.{part-fits, counted, counted-from, deep, nth-held, nth-counted, blocks-apart, Covered, covered}
 
 -- ---- the smaller picture's filter region is a cut of the larger's
@@ -117,13 +114,13 @@ module _ (n : ℕ) (small large : Handed) (fits : PictureFits n small) (from : C
 
 -- ---- the theorem
 
--- of any finished state that is kept from an accepted start, by whatever calls
-pub demand-3-at : (n : ℕ) (small large : Handed) → StartAccepted n small → CutFrom n small large → (t : State) → KeptFrom n small t → T (finished (t .run))
-    → (out : List Float) → length out ≡ resultLength n (small .setup) → Delivers n small large (resultOn n t out)
-demand-3-at n small large e from t kept z out room =
+-- of any finished state, by whatever calls the run came to it
+pub demand-3-at : Demand3At
+demand-3-at n small large e from t r z out room =
     let s : Setup = small .setup in
     let fits = picture-accepted n small e in
-    let over = handed-over-at n small t kept z out room in
+    let kept = reached-kept n small e t r in
+    let over = handed-over n small t kept z out room in
     record {
       accepted = over .0;
       samples = λ c x y h held clear.
@@ -136,7 +133,7 @@ demand-3-at n small large e from t kept z out room =
     }
 
 pub demand-3 : (n : ℕ) (K : Calls n) → Demand3 n K
-demand-3 n K small large cs out p = demand-3-at n small large (p .start-accepted) (p .cut-from-larger) _ (after-start n K small (p .start-accepted) cs (p .nobody-altered-anything)) (p .run-finished) out (p .slice-fits)
+demand-3 n K small large cs out p = demand-3-at n small large (p .start-accepted) (p .cut-from-larger) _ (end-reached n K small cs (p .nobody-altered-anything)) (p .run-finished) out (p .slice-fits)
 
 -- document 01's planes and calls
 pub document-demand-3 : DocumentDemand3

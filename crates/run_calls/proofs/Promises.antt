@@ -11,7 +11,8 @@ use Rattle.epf_lanes.proofs.Divisors.{lane-divisor-bounds}
 use Rattle.run_passes.proofs.Bounds.{step-bounds, settings-bounds, bounds-reached}
 use Rattle.run_passes.proofs.Statements.{pass-near, cut-same, plan-reach}
 use Rattle.run_calls.specs.Promises.{Promises}
-use Rattle.run_calls.proofs.Demand3.{document-demand-3, demand-3}
+use Rattle.run_calls.proofs.Demand3.{document-demand-3, demand-3, demand-3-at}
+use Rattle.run_calls.proofs.Finished.{handed-over-at}
 use Rattle.run_calls.proofs.Example.{premises-met, place-clear}
 use Rattle.run_calls.proofs.EdgeExample.{edge-premises-met, edge-place-clear}
 use Rattle.run_calls.proofs.FourEdges.{four-edges-met, four-edges-clear, four-edges-delivered}
@@ -20,13 +21,16 @@ use Rattle.run_calls.proofs.EachNeeded.{each-needed}
 use Rattle.run_calls.proofs.Corollaries.{whole-picture, two-cuts-agree, outside-kept, bands-alike}
 use Rattle.run_calls.proofs.Refused.{start-tied, calls-tied, refused-untouched}
 use Rattle.run_calls.proofs.Count.{document-count-rule, count-rule}
-use Rattle.run_calls.proofs.Lists.{end-fits}
+use Rattle.run_calls.proofs.Lists.{end-reached, end-fits}
 use Rattle.run_calls.proofs.Reached.{can-finish, reached-fits, fits-reached, each-reached}
 
 pub promises : Promises
 promises = record {
   document-demand-3 = document-demand-3;
   demand-3 = demand-3;
+  demand-3-at = demand-3-at;
+  handed-over-at = handed-over-at;
+  end-reached = end-reached;
   premises-met = premises-met;
   place-clear = place-clear;
   edge-premises-met = edge-premises-met;

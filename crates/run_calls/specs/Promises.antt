@@ -13,6 +13,7 @@ use Rattle.run_passes.specs.Statements.{PassNear, CutSame, PlanReach}
 use Rattle.run_passes.specs.Bounds.{StepBounds, SettingsBounds, BoundsReached}
 use Rattle.run_calls.specs.Calls.{Calls}
 use Rattle.run_calls.specs.Theorem.{Demand3, DocumentDemand3}
+use Rattle.run_calls.specs.States.{EndReached, HandedOverAt, Demand3At}
 use Rattle.run_calls.specs.Rules.{StartTied, CallsTied, RefusedUntouched, CanFinish, CountRule, DocumentCountRule, EndFits, ReachedFits, FitsReached, EachReached}
 use Rattle.run_calls.specs.Corollaries.{WholePicture, TwoCutsAgree, OutsideKept, BandsAlike}
 use Rattle.run_calls.specs.Example.{PremisesMet, PlaceClear}
@@ -24,6 +25,10 @@ pub record Promises : Type 1 where
   -- demand 3, for document 01's planes and calls, and for any
   pub document-demand-3 : DocumentDemand3
   pub demand-3 : (n : ℕ) (K : Calls n) → Demand3 n K
+  -- of a state, by whatever calls, and lists lead to such states
+  pub demand-3-at : Demand3At
+  pub handed-over-at : HandedOverAt
+  pub end-reached : (n : ℕ) (K : Calls n) → EndReached n K
   -- its premises are met, by four cut edges too
   pub premises-met : PremisesMet
   pub place-clear : PlaceClear
