@@ -21,8 +21,8 @@ def crates():
 class Edit:
     """What its first line names, the mutant in words, its input, how it ends there, and what it replaces: file, old text, new text."""
 
-    def __init__(self, path):
-        lines = path.read_text().split("\n")
+    def __init__(self, path, text=None):
+        lines = (path.read_text() if text is None else text).split("\n")
         title = re.match(r"# ([^:]+(?:::[^:]+)*): (.+)", lines[0])
         self.path, self.label = path, path.stem
         self.names = title.group(1).split(", ") if title else []

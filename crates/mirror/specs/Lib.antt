@@ -1,4 +1,5 @@
 pub mod Mirror
 pub mod Cut
+pub mod Statements
 pub mod Outcome
 pub mod Examples

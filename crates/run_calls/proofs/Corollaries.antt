@@ -27,10 +27,10 @@ use Rattle.run_setup.specs.declared.Setup.{Setup}
 use Rattle.run_setup.specs.Setup.{fullPlanes, layout, epfOn, resultRegion, resultLength}
 use Rattle.run_setup.specs.SetupFits.{SetupFits}
 use Rattle.run_setup.proofs.Laws.{setup-fits}
-use Rattle.run_outcomes.specs.Start.{Handed, startLeaves, sigmasFilled}
+use Rattle.run_outcomes.specs.Start.{Handed, sigmasFilled}
 use Rattle.run_outcomes.specs.Band.{State, source}
 use Rattle.run_outcomes.specs.Result.{resultOf}
-use Rattle.run_outcomes.proofs.Laws.{PictureFits}
+use Rattle.run_outcomes.proofs.Laws.{PictureFits, leaves-same}
 use Rattle.run_calls.specs.Calls.{StartAccepted, startState, Calls, end}
 use Rattle.run_calls.specs.Places.{Clear, resultAt, sampleAt}
 use Rattle.run_calls.specs.Theorem.{CutFrom, Delivers}
@@ -38,7 +38,7 @@ use Rattle.run_calls.specs.Corollaries.{FinishedRun, firstAt, SameButBan
 use Rattle.run_calls.proofs.Rows.{image-in-result}
 use Rattle.run_calls.proofs.Lists.{start-unrefused, picture-accepted, KeptFrom, after-start}
 use Rattle.run_calls.proofs.Places.{counted, narrower, nth-held, nth-counted, Covered, covered}
-use Rattle.run_calls.proofs.Finished.{result-sample, run-outside, handed-over-at}
+use Rattle.run_calls.proofs.Finished.{result-sample, run-outside, handed-over}
 use Rattle.run_calls.proofs.Demand3.{demand-3}
 
 -- ---- a picture is cut from itself, and has no cut edge
@@ -51,7 +51,7 @@ unfolding inside
 inside-itself r = and-i (covers (columns r) (columns r)) (covers (rows r) (rows r)) (covers-itself (columns r)) (covers-itself (rows r))
 
 from-itself : (n : ℕ) (h : Handed) → StartAccepted n h → CutFrom n h h
-from-itself n h e = record { unrefused = start-unrefused n h e; contained = inside-itself (h .setup .filter); passes = refl; inputs = λ c x y p q. refl; sigmas = λ on x y q. refl }
+from-itself n h e = record { unrefused = start-unrefused n h e; contained = inside-itself (h .setup .filter); same-passes = refl; inputs-agree = λ c x y p q. refl; sigmas-agree = λ on x y q. refl }
 
 no-cut-edge : (m : ℕ) (r : Region) (x y : ℤ) → Clear m r r x y
 no-cut-edge m r x y = record { left = λ f. absurd (f refl); right = λ f. absurd (f refl); top = λ f. absurd (f refl); bottom = λ f. absurd (f refl) }
@@ -104,7 +104,7 @@ module _ (n : ℕ) (K : Calls n) (h : Handed) (r : FinishedRun n K h) where
 
   -- the slice that is handed over
   out-is : handedOver n K h r .out ≡ resultOf n (layout (h .setup)) (source state)
-  out-is = handed-over-at n h state kept (r .ended) (r .slice) (r .room) .1
+  out-is = handed-over n h state kept (r .ended) (r .slice) (r .room) .1
 
   out-length : length (handedOver n K h r .out) ≡ resultLength n (h .setup)
   unfolding resultOf layoutOf
@@ -165,12 +165,8 @@ module _ (n : ℕ) (a b : Handed) (same : SameButBands a b) where
   region-same : resultRegion (a .setup) ≡ resultRegion (b .setup)
   region-same = rw (same .image, same .filter, same .full)
 
-  leaves-same : startLeaves n a ≡ startLeaves n b
-  unfolding startLeaves
-  leaves-same = same .first
-
   first-same : (c : ℕ) (x y : ℤ) → firstAt n a c x y ≡ firstAt n b c x y
-  first-same c x y = rw (leaves-same, same .image)
+  first-same c x y = rw (leaves-same n a b (same .first), same .image)
 
   module _ (p : PictureFits n a) (q : PictureFits n b) where
     -- with the edge filter off there are no block sigmas
@@ -182,7 +178,7 @@ module _ (n : ℕ) (a b : Handed) (same : SameButBands a b) where
         ext-getD nan (a .sigmas) (b .sigmas) (none ∙ sym too) (λ k h. absurd (omega (arith, none)))))
 
     sample-same : (c : ℕ) (x y : ℤ) → sampleAt n a c x y ≡ sampleAt n b c x y
-    sample-same c x y = rw (leaves-same, sigmas-same, same .image, same .filter, same .full, same .settings)
+    sample-same c x y = rw (leaves-same n a b (same .first), sigmas-same, same .image, same .filter, same .full, same .settings)
 
 module _ (n : ℕ) (K : Calls n) (a b : Handed) (same : SameButBands a b) (r : FinishedRun n K a) (q : FinishedRun n K b) where
   each-same : (c : ℕ) (x y : ℤ) → c < n → Holds (resultRegion (a .setup)) x y → resultAt (a .setup) (handedOver n K a r .out) c x y ≡ resultAt (b .setup) (handedOver n K b q .out) c x y

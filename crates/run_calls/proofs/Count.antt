@@ -95,13 +95,13 @@ effect-counted {n} {t} (oneAdvance e) l = rw (advance-leaves (t .run) e) (advanc
 effect-counted {n} {t} nothing l = record { bands = omega arith; advances = omega arith }
 
 module _ (n : ℕ) (K : Calls n) (first : List Float) where
-  next-counted : (t : State) (c : K .Call) → Sound n first t → (K .number c ≡ 0 → K .Lent t c)
-      → Counted (t .run) (stateAfter n K t c .run) (cond (eqb (K .number c) 0) (K .bands c) 0) (cond (eqb (K .number c) 0) (K .advances c) 0)
+  next-counted : (t : State) (c : K .Call) → Sound n first t → (K .number (K .answer c) ≡ 0 → K .Lent t c)
+      → Counted (t .run) (stateAfter n K t c .run) (cond (eqb (K .number (K .answer c)) 0) (K .bands c) 0) (cond (eqb (K .number (K .answer c)) 0) (K .advances c) 0)
   unfolding stateAfter
-  next-counted t c i l = go (eqb (K .number c) 0) refl
+  next-counted t c i l = go (eqb (K .number (K .answer c)) 0) refl
     where
-      go : (b : Bool) → eqb (K .number c) 0 ≡ b → Counted (t .run) (cond b (K .leaves t c) t .run) (cond b (K .bands c) 0) (cond b (K .advances c) 0)
-      go true e = let z = eqb-true (K .number c) 0 e in effect-counted (K .effect t c z (l z)) (i .flags)
+      go : (b : Bool) → eqb (K .number (K .answer c)) 0 ≡ b → Counted (t .run) (cond b (K .leaves t (K .answer c)) t .run) (cond b (K .bands c) 0) (cond b (K .advances c) 0)
+      go true e = let z = eqb-true (K .number (K .answer c)) 0 e in effect-counted (K .effect t c z (l z)) (i .flags)
       go false e = record { bands = omega arith; advances = omega arith }
 
   end-counted : (t : State) (cs : List (K .Call)) → Sound n first t → Unaltered n K t cs → Counted (t .run) (end n K t cs .run) (bandsIn n K cs) (advancesIn n K cs)

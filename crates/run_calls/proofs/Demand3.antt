@@ -1,11 +1,8 @@
 -- Demand 3: the samples that a finished run hands over are the larger picture's beyond the margin. Assumes nothing.
 use mathlib.Core.Path.{_≡_, _∙_}
-use mathlib.Core.List.{List}
 use Prim.Native.Nat.{ℕ, _+_, _*_, _/_, _<_}
 use native.Mathlib.Omega.{arith}
 use lib.Dec.{T, lt→ltb}
-use lib.ListN.{length}
-use lib.Ieee.{Float}
 use lib.Ieee.Fits.{and-l, and-r}
 use lib.IntN.{ℤ, pos, natAbs, _+ℤ_, _-ℤ_}
 use Rattle.mirror.specs.Cut.{Deep}
@@ -18,17 +15,17 @@ use Rattle.run_passes.proofs.Cut.{cut-same, plan-sound, plan-some-step}
 use Rattle.run_passes.specs.Plan.{plan, margin}
 use Rattle.run_passes.proofs.PlanLaws.{plan-reach}
 use Rattle.run_setup.specs.declared.Setup.{Setup}
-use Rattle.run_setup.specs.Setup.{epfOn, area, resultLength}
-use Rattle.run_record.specs.Record.{finished}
+use Rattle.run_setup.specs.Setup.{epfOn, area}
 use Rattle.run_setup.proofs.Laws.{setup-fits}
 use Rattle.run_outcomes.specs.Start.{Handed, sigmasFilled}
-use Rattle.run_outcomes.specs.Band.{State, source}
+use Rattle.run_outcomes.specs.Band.{source}
 use Rattle.run_outcomes.proofs.Laws.{PictureFits, picture-fits}
-use Rattle.run_calls.specs.Calls.{StartAccepted, Calls, documentCalls}
+use Rattle.run_calls.specs.Calls.{Calls, documentCalls}
 use Rattle.run_calls.specs.Places.{input, Clear}
-use Rattle.run_calls.specs.Theorem.{CutFrom, resultOn, Delivers, Demand3, DocumentDemand3}
-use Rattle.run_calls.proofs.Lists.{picture-accepted, KeptFrom, after-start}
-use Rattle.run_calls.proofs.Finished.{filter-sample, run-samples, handed-over-at}
+use Rattle.run_calls.specs.Theorem.{CutFrom, Demand3, DocumentDemand3}
+use Rattle.run_calls.specs.States.{Demand3At}
+use Rattle.run_calls.proofs.Lists.{picture-accepted, reached-kept, end-reached}
+use Rattle.run_calls.proofs.Finished.{filter-sample, run-samples, handed-over}
 use Rattle.run_calls.proofs.Places.{part-fits, counted, counted-from, deep, nth-held, nth-counted, blocks-apart, Covered, covered}
 
 -- ---- the smaller picture's filter region is a cut of the larger's
@@ -75,13 +72,13 @@ module _ (n : ℕ) (small large : Handed) (fits : PictureFits n small) (from : C
   inputs : (c x y : ℕ) → c < n → x < f .width → y < f .height → input n small c x y ≡ input n large c (lx + x) (ly + y)
   inputs c x y h p q =
       rw (nth-counted (f .left) x, nth-counted (f .top) y, nth-column x p, nth-row y q) at
-      (from .inputs c (f .left +ℤ pos x) (f .top +ℤ pos y) h (nth-holds x y p q))
+      (from .inputs-agree c (f .left +ℤ pos x) (f .top +ℤ pos y) h (nth-holds x y p q))
 
   -- where a step runs, both filter regions start at multiples of 8 and the smaller's blocks have the larger's sigmas
   blocks : SomeStep (plan n (small .setup .settings)) → SameBlocks a b lx ly
   blocks z =
       let on : T (epfOn (small .setup)) = lt→ltb 0 (small .setup .settings .epf .iters) (plan-some-step n (small .setup .settings) z) in
-      let too : T (epfOn (large .setup)) = lt→ltb 0 (large .setup .settings .epf .iters) (plan-some-step n (large .setup .settings) (rw (from .passes) at z)) in
+      let too : T (epfOn (large .setup)) = lt→ltb 0 (large .setup .settings .epf .iters) (plan-some-step n (large .setup .settings) (rw (from .same-passes) at z)) in
       let p = setup-fits (small .setup) (fits .setup) .blocks on in
       let q = setup-fits (large .setup) (picture-fits n large (from .unrefused) .setup) .blocks too in
       let across = blocks-apart (f .left) (g .left) (v .left) (and-l (onBlock (f .left)) (onBlock (f .top)) p) (and-l (onBlock (g .left)) (onBlock (g .top)) q) in
@@ -97,7 +94,7 @@ module _ (n : ℕ) (small large : Handed) (fits : PictureFits n small) (from : C
             let r : natAbs (f .top +ℤ pos (8 * y) -ℤ f .top) / 8 ≡ y = omega (arith, nth-counted (f .top) (8 * y)) in
             let cc : natAbs (f .left +ℤ pos (8 * x) -ℤ g .left) / 8 ≡ lx / 8 + x = omega (arith, nth-column (8 * x) i, across .1) in
             let rr : natAbs (f .top +ℤ pos (8 * y) -ℤ g .top) / 8 ≡ ly / 8 + y = omega (arith, nth-row (8 * y) j, down .1) in
-            rw (c, r, cc, rr) at (from .sigmas on (f .left +ℤ pos (8 * x)) (f .top +ℤ pos (8 * y)) (nth-holds (8 * x) (8 * y) i j));
+            rw (c, r, cc, rr) at (from .sigmas-agree on (f .left +ℤ pos (8 * x)) (f .top +ℤ pos (8 * y)) (nth-holds (8 * x) (8 * y) i j));
       }
 
   -- all passes over both, beyond the margin
@@ -114,17 +111,17 @@ module _ (n : ℕ) (small large : Handed) (fits : PictureFits n small) (from : C
       let row = counted-from (f .top) (g .top) (f .height) (g .height) (v .top) (v .bottom) y (held .row) in
       cut-same n a b lx ly cut (plan n s) (plan-sound n s) blocks (input n small) (input n large) inputs c (natAbs (x -ℤ f .left)) (natAbs (y -ℤ f .top)) h
       (rw (plan-reach n s) i) (rw (plan-reach n s) j)
-      ∙ rw (from .passes, column, row)
+      ∙ rw (from .same-passes, column, row)
 
 -- ---- the theorem
 
--- of any finished state that is kept from an accepted start, by whatever calls
-pub demand-3-at : (n : ℕ) (small large : Handed) → StartAccepted n small → CutFrom n small large → (t : State) → KeptFrom n small t → T (finished (t .run))
-    → (out : List Float) → length out ≡ resultLength n (small .setup) → Delivers n small large (resultOn n t out)
-demand-3-at n small large e from t kept z out room =
+-- of any finished state, by whatever calls the run came to it
+pub demand-3-at : Demand3At
+demand-3-at n small large e from t r z out room =
     let s : Setup = small .setup in
     let fits = picture-accepted n small e in
-    let over = handed-over-at n small t kept z out room in
+    let kept = reached-kept n small e t r in
+    let over = handed-over n small t kept z out room in
     record {
       accepted = over .0;
       samples = λ c x y h held clear.
@@ -137,7 +134,7 @@ demand-3-at n small large e from t kept z out room =
     }
 
 pub demand-3 : (n : ℕ) (K : Calls n) → Demand3 n K
-demand-3 n K small large cs out p = demand-3-at n small large (p .start-accepted) (p .cut-from-larger) _ (after-start n K small (p .start-accepted) cs (p .nobody-altered-anything)) (p .run-finished) out (p .slice-fits)
+demand-3 n K small large cs out p = demand-3-at n small large (p .start-accepted) (p .cut-from-larger) _ (end-reached n K small cs (p .nobody-altered-anything)) (p .run-finished) out (p .slice-fits)
 
 -- document 01's planes and calls
 pub document-demand-3 : DocumentDemand3

@@ -48,15 +48,15 @@ module _ (p : Picture) (scales : List Float) (border sigma : Float) where
     further : natAbs (x -ℤ pos 0) ≡ 8 + natAbs (x -ℤ pos 8)
     further = counted-from (pos 8) (pos 0) 4 12 tt tt x (held .column)
 
-    row : natAbs (y -ℤ pos 0) < 1
-    row = counted (pos 0) 1 y (held .row)
+    row : natAbs (y -ℤ pos 0) < 2
+    row = counted (pos 0) 2 y (held .row)
 
     inputs : (c : ℕ) → c < 3 → inputAt 3 (smaller p scales border sigma) c x y ≡ inputAt 3 (larger p scales border sigma) c x y
     unfolding startLeaves inner layoutOf
     inputs c h =
         let e : 7 + (1 + natAbs (x -ℤ pos 8)) ≡ 0 + natAbs (x -ℤ pos 0) = omega (arith, further) in
-        of-setOf 3 5 1 _ c (1 + natAbs (x -ℤ pos 8)) (0 + natAbs (y -ℤ pos 0)) h (omega (arith, column)) (omega (arith, row))
-        ∙ rw e (sym (of-setOf 3 12 1 p c (0 + natAbs (x -ℤ pos 0)) (0 + natAbs (y -ℤ pos 0)) h (omega (arith, column, further)) (omega (arith, row))))
+        of-setOf 3 5 2 _ c (1 + natAbs (x -ℤ pos 8)) (0 + natAbs (y -ℤ pos 0)) h (omega (arith, column)) (omega (arith, row))
+        ∙ rw e (sym (of-setOf 3 12 2 p c (0 + natAbs (x -ℤ pos 0)) (0 + natAbs (y -ℤ pos 0)) h (omega (arith, column, further)) (omega (arith, row))))
 
     sigmas : sigmaAt 3 (smaller p scales border sigma) x y ≡ sigmaAt 3 (larger p scales border sigma) x y
     unfolding layoutOf sigmasFilled blockSigmas tab blockSigma frameSigma sigmaIn aboveAt sizesOf gridStart cells
@@ -68,7 +68,7 @@ module _ (p : Picture) (scales : List Float) (border sigma : Float) where
 
   from : CutFrom 3 (smaller p scales border sigma) (larger p scales border sigma)
   unfolding inside plan steps stepOf scaleOf
-  from = record { unrefused = unrefused; contained = tt; passes = refl; inputs = λ c x y h held. inputs x y held c h; sigmas = λ on x y held. sigmas x y held }
+  from = record { unrefused = unrefused; contained = tt; same-passes = refl; inputs-agree = λ c x y h held. inputs x y held c h; sigmas-agree = λ on x y held. sigmas x y held }
 
   -- the calls, after a state
   abbrev after : State → List DocumentCall

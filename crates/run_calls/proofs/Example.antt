@@ -49,7 +49,7 @@ module _ (p : Picture) (weights : List (List Float)) where
 
   from : CutFrom 3 (smaller p weights) (larger p weights)
   unfolding inside
-  from = record { unrefused = unrefused; contained = tt; passes = refl; inputs = inputs; sigmas = λ on. absurd on }
+  from = record { unrefused = unrefused; contained = tt; same-passes = refl; inputs-agree = inputs; sigmas-agree = λ on. absurd on }
 
   premises : Premises 3 (documentCalls 3) (smaller p weights) (larger p weights) (calls p weights) (slice p weights)
   unfolding startOutcome startLeaves bandOutcome advanceOutcome startChecks pictureChecks badSides badSettings sizesOf tableFits gridsFit gridStart cells badGrid sigmasFilled stateAfter end started marked advanced bandChecks runFits strayDone bandMissing isDone numbersFit setupFits bandCount sized someBelow pictured measured place side inside layoutOf plan steps setOf tab

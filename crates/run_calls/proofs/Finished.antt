@@ -28,9 +28,10 @@ use Rattle.run_outcomes.specs.Result.{resultOf}
 use Rattle.run_outcomes.proofs.Laws.{result-accepted, result-number, result-leaves}
 use Rattle.run_calls.specs.Places.{at, input, smoothed, resultAt}
 use Rattle.run_calls.specs.Theorem.{resultOn}
+use Rattle.run_calls.specs.States.{HandedOverAt}
 use Rattle.run_calls.proofs.Rows.{sampleOf, filtered, InResult, filter-in-result, filtered-inside}
 use Rattle.run_calls.proofs.Sound.{Sound, pass-count}
-use Rattle.run_calls.proofs.Lists.{KeptFrom}
+use Rattle.run_calls.proofs.Lists.{KeptFrom, reached-kept}
 use Rattle.run_calls.proofs.Places.{counted, wider, counted-from, Covered, covered}
 
 -- ---- the result's slice has the samples of the set that it is copied from
@@ -119,5 +120,8 @@ module _ (n : ℕ) (h : Handed) (t : State) (kept : KeptFrom n h t) where
       result-taken = result-number n (t .run) (t .first) (t .second) out ∙
           result-accepted n (t .run) (t .first) (t .second) out (kept .sound .first-length) (kept .sound .second-length) (rw (kept .setup) room) (kept .sound .run) z
 
-      pub handed-over-at : (resultOn n t out .number ≡ 0) × (resultOn n t out .out ≡ resultOf n (layout (h .setup)) (source t))
-      handed-over-at = (result-taken, result-leaves n (t .run) (t .first) (t .second) out result-taken ∙ rw (kept .setup))
+      pub handed-over : (resultOn n t out .number ≡ 0) × (resultOn n t out .out ≡ resultOf n (layout (h .setup)) (source t))
+      handed-over = (result-taken, result-leaves n (t .run) (t .first) (t .second) out result-taken ∙ rw (kept .setup))
+
+pub handed-over-at : HandedOverAt
+handed-over-at n h e t r z out room = handed-over n h t (reached-kept n h e t r) z out room

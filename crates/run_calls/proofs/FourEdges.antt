@@ -1,13 +1,16 @@
 -- The premises of demand 3 hold for the pictures and calls of specs/FourEdges.antt, and so does what it says of them. Assumes nothing.
 use mathlib.Core.Path.{_≡_, refl, sym, ap, subst, _∙_}
 use mathlib.Core.Bool.{true, false}
+use mathlib.Core.Logic.{_↔_}
 use mathlib.Core.List.{List, _∷_}
 use Prim.Native.Nat.{ℕ, _+_, _/_, _<_}
 use native.Mathlib.Omega.{arith}
 use borrow.Author.Tests.{eq-eqb, ne-eqb}
 use lib.Dec.{T}
-use lib.IntN.{ℤ, pos, natAbs, _-ℤ_}
+use lib.IntN.{ℤ, pos, natAbs, _+ℤ_, _-ℤ_}
+use lib.Signed.{ltZ}
 use lib.Ieee.{Float}
+use Rattle.region_interval.proofs.Order.{lt-to, lt-of, sum-is}
 use Rattle.region.specs.Regions.{inside, Holds}
 use Rattle.region.specs.Measures.{measured, pictured}
 use Rattle.region_axis.specs.Measures.{place, side}
@@ -177,7 +180,7 @@ module _ (g : Given) where
 
   from : CutFrom 3 (smaller g) (larger g)
   unfolding inside
-  from = record { unrefused = unrefused; contained = tt; passes = refl; inputs = λ c x y h held. inputs x y held c h; sigmas = λ on x y held. sigmas x y held }
+  from = record { unrefused = unrefused; contained = tt; same-passes = refl; inputs-agree = λ c x y h held. inputs x y held c h; sigmas-agree = λ on x y held. sigmas x y held }
 
   -- ---- all of it
 
@@ -205,12 +208,38 @@ module _ (g : Given) where
 pub four-edges-met : FourEdgesMet
 four-edges-met g = premises g
 
+-- ---- the places that are clear
+
+-- all four edges are cut
+starts-apart : pos 8 ≡ pos 0 → ⊥
+starts-apart e = omega (arith, ap natAbs e)
+
+ends-apart : pos 16 ≡ pos 24 → ⊥
+ends-apart e = omega (arith, ap natAbs e)
+
+-- three samples before 16
+three-before : (x : ℤ) → T (ltZ (x +ℤ pos 3) (pos 16)) ↔ T (ltZ x (pos 13))
+three-before x = (
+  λ t. lt-of x (pos 13) (omega (arith, lt-to (x +ℤ pos 3) (pos 16) t, sum-is x (pos 3))),
+  λ t. lt-of (x +ℤ pos 3) (pos 16) (omega (arith, lt-to x (pos 13) t, sum-is x (pos 3))),
+)
+
 pub four-edges-clear : FourEdgesClear
-unfolding stepMargin
+unfolding inside stepMargin
 four-edges-clear g = (
-  record { column = record { from = tt; before = tt }; row = record { from = tt; before = tt } },
-  record { left = λ f. tt; right = λ f. tt; top = λ f. tt; bottom = λ f. tt },
-  λ clear. clear .left (λ (e : pos 8 ≡ pos 0). omega (arith, ap natAbs e)),
+  tt,
+  λ x y. (
+    λ clear. record {
+      column = record { from = clear .left starts-apart; before = three-before x .0 (clear .right ends-apart) };
+      row = record { from = clear .top starts-apart; before = three-before y .0 (clear .bottom ends-apart) };
+    },
+    λ held. record {
+      left = λ f. held .column .from;
+      right = λ f. three-before x .1 (held .column .before);
+      top = λ f. held .row .from;
+      bottom = λ f. three-before y .1 (held .row .before);
+    },
+  ),
 )
 
 -- what demand 3 says of them

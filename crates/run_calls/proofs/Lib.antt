@@ -12,4 +12,5 @@ pub mod Example
 pub mod EdgeExample
 pub mod FourEdges
 pub mod Needed
+pub mod EachNeeded
 pub mod Promises

@@ -1,4 +1,4 @@
--- What a list of calls of any kinds keeps of the state that start left. Assumes nothing.
+-- What accepted calls of any kinds keep of the state that start left, and so lists of them. Assumes nothing.
 use mathlib.Core.Path.{_≡_, refl, sym, ap, _∙_}
 use mathlib.Core.Bool.{Bool, true, false, cond}
 use mathlib.Core.List.{List, [], _∷_}
@@ -13,6 +13,7 @@ use Rattle.run_outcomes.specs.Band.{State}
 use Rattle.run_outcomes.proofs.Laws.{PictureFits, picture-fits, start-picture, start-number, start-accepted, band-number, band-leaves, band-fits, advance-number, advance-leaves, advance-fits}
 use Rattle.run_calls.specs.Calls.{StartAccepted, leftByStart, startState, Effect, oneBand, oneAdvance, nothing, Calls, stateAfter, end, Unaltered}
 use Rattle.run_calls.specs.Theorem.{Unrefused}
+use Rattle.run_calls.specs.States.{StateReached, fromStart, byEffect, EndReached}
 use Rattle.run_calls.specs.Rules.{EndFits}
 use Rattle.run_calls.proofs.Sound.{Sound, begun, sound-start, sound-band, sound-advance}
 
@@ -31,21 +32,13 @@ effect-kept {n} {t} first (oneAdvance e) i = rw (advance-leaves (t .run) e) (rec
 effect-kept {n} {t} first nothing i = record { sound = i; setup = refl; sigmas = refl }
 
 module _ (n : ℕ) (K : Calls n) (first : List Float) where
-  pub after-kept : (t : State) (c : K .Call) → Sound n first t → (K .number c ≡ 0 → K .Lent t c) → Kept n first t (stateAfter n K t c)
+  pub after-kept : (t : State) (c : K .Call) → Sound n first t → (K .number (K .answer c) ≡ 0 → K .Lent t c) → Kept n first t (stateAfter n K t c)
   unfolding stateAfter
-  after-kept t c i l = go (eqb (K .number c) 0) refl
+  after-kept t c i l = go (eqb (K .number (K .answer c)) 0) refl
     where
-      go : (b : Bool) → eqb (K .number c) 0 ≡ b → Kept n first t (cond b (K .leaves t c) t)
-      go true e = let z = eqb-true (K .number c) 0 e in effect-kept first (K .effect t c z (l z)) i
+      go : (b : Bool) → eqb (K .number (K .answer c)) 0 ≡ b → Kept n first t (cond b (K .leaves t (K .answer c)) t)
+      go true e = let z = eqb-true (K .number (K .answer c)) 0 e in effect-kept first (K .effect t c z (l z)) i
       go false e = record { sound = i; setup = refl; sigmas = refl }
-
-  pub end-kept : (t : State) (cs : List (K .Call)) → Sound n first t → Unaltered n K t cs → Kept n first t (end n K t cs)
-  unfolding end
-  end-kept t [] i u = record { sound = i; setup = refl; sigmas = refl }
-  end-kept t (c ∷ cs) i u =
-      let k = after-kept t c i (u .0) in
-      let r = end-kept (stateAfter n K t c) cs (k .sound) (u .1) in
-      record { sound = r .sound; setup = r .setup ∙ k .setup; sigmas = r .sigmas ∙ k .sigmas }
 
 -- ---- from the start on
 
@@ -68,16 +61,41 @@ pub record KeptFrom (n : ℕ) (h : Handed) (t : State) : Type 0 where
   pub setup : t .run .setup ≡ h .setup
   pub sigmas : t .sigmas ≡ sigmasFilled n h
 
-pub kept-from : (n : ℕ) (h : Handed) → StartAccepted n h → (t : State) → Kept n (startLeaves n h) (startState n h) t → KeptFrom n h t
+start-kept : (n : ℕ) (h : Handed) → StartAccepted n h → KeptFrom n h (startState n h)
 unfolding started
-kept-from n h e t k = record {
-  sound = k .sound;
-  setup = k .setup ∙ ap (λ (u : State). u .run .setup) (start-state n h e);
-  sigmas = k .sigmas ∙ ap (λ (u : State). u .sigmas) (start-state n h e);
+start-kept n h e = record {
+  sound = start-sound n h e;
+  setup = ap (λ (u : State). u .run .setup) (start-state n h e);
+  sigmas = ap (λ (u : State). u .sigmas) (start-state n h e);
 }
 
+pub reached-kept : (n : ℕ) (h : Handed) → StartAccepted n h → (t : State) → StateReached n h t → KeptFrom n h t
+reached-kept n h e t fromStart = start-kept n h e
+reached-kept n h e t (byEffect s u a b r f) =
+    let k = reached-kept n h e s r in
+    let i = effect-kept (startLeaves n h) f (k .sound) in
+    record { sound = i .sound; setup = i .setup ∙ k .setup; sigmas = i .sigmas ∙ k .sigmas }
+
+-- lists of calls lead to such states, refused calls among them, since these change nothing
+module _ (n : ℕ) (K : Calls n) (h : Handed) where
+  after-reached : (t : State) (c : K .Call) → StateReached n h t → (K .number (K .answer c) ≡ 0 → K .Lent t c) → StateReached n h (stateAfter n K t c)
+  unfolding stateAfter
+  after-reached t c r l = go (eqb (K .number (K .answer c)) 0) refl
+    where
+      go : (b : Bool) → eqb (K .number (K .answer c)) 0 ≡ b → StateReached n h (cond b (K .leaves t (K .answer c)) t)
+      go true e = let z = eqb-true (K .number (K .answer c)) 0 e in byEffect t (K .leaves t (K .answer c)) (K .bands c) (K .advances c) r (K .effect t c z (l z))
+      go false e = r
+
+  list-reached : (t : State) (cs : List (K .Call)) → StateReached n h t → Unaltered n K t cs → StateReached n h (end n K t cs)
+  unfolding end
+  list-reached t [] r u = r
+  list-reached t (c ∷ cs) r u = list-reached (stateAfter n K t c) cs (after-reached t c r (u .0)) (u .1)
+
+pub end-reached : (n : ℕ) (K : Calls n) → EndReached n K
+end-reached n K h cs u = list-reached n K h (startState n h) cs fromStart u
+
 pub after-start : (n : ℕ) (K : Calls n) (h : Handed) → StartAccepted n h → (cs : List (K .Call)) → Unaltered n K (startState n h) cs → KeptFrom n h (end n K (startState n h) cs)
-after-start n K h e cs u = kept-from n h e _ (end-kept n K (startLeaves n h) (startState n h) cs (start-sound n h e) u)
+after-start n K h e cs u = reached-kept n h e _ (end-reached n K h cs u)
 
 pub end-fits : (n : ℕ) (K : Calls n) → EndFits n K
 end-fits n K h e cs u =

@@ -1,4 +1,5 @@
--- What demand 3 supposes is needed: pictures for which one thing is missing, and a sample that differs. Assumes nothing.
+-- The margin is needed, each input sample, each sigma, and that nobody altered one sample: pictures for which one of these fails, and a sample that differs.
+-- Assumes nothing.
 use mathlib.Core.Path.{_≡_, refl, sym, ap, subst, _∙_}
 use mathlib.Core.Bool.{true, false, true≢false, cond, _&&_}
 use mathlib.Core.List.{List, [], _∷_}
@@ -32,11 +33,11 @@ use Rattle.run_record.proofs.Laws.{band-open}
 use Rattle.run_outcomes.specs.Start.{Handed, startLeaves, sigmasFilled}
 use Rattle.run_outcomes.specs.Band.{State, bandOutcome}
 use Rattle.run_outcomes.proofs.Laws.{band-number, band-accepted}
-use Rattle.run_calls.specs.Calls.{startState, DocumentCall, band, advance, answer, numberIn, leftBy, Calls, documentCalls, stateAfter, end, Unaltered}
-use Rattle.run_calls.specs.Places.{Clear, inputAt, sampleAt, resultAt}
-use Rattle.run_calls.specs.Theorem.{Delivers, Premises, resultAfter, resultOn}
-use Rattle.run_calls.specs.Corollaries.{FinishedRun}
-use Rattle.run_calls.specs.Needed.{GaborMarginNeeded, StepMarginNeeded, CutBut, InputsNeeded, block, SigmasNeeded, altered, UnalteredNeeded}
+use Rattle.run_calls.specs.Calls.{startState, DocumentCall, band, advance, answer, numberIn, leftBy, documentCalls, stateAfter, end, Unaltered}
+use Rattle.run_calls.specs.Places.{Clear, inputAt, sampleAt, sigmaAt, resultAt}
+use Rattle.run_calls.specs.Theorem.{DeliversBeyond, Premises, resultOn}
+use Rattle.run_calls.specs.Corollaries.{FinishedRun, handedOver}
+use Rattle.run_calls.specs.Needed.{Premise, start-accepted, unrefused, contained, same-passes, inputs-agree, sigmas-agree, nobody-altered-anything, run-finished, slice-fits, Says, PremisesSay, GaborMarginNeeded, StepMarginNeeded, InputsNeeded, block, SigmasNeeded, altered, UnalteredNeeded}
 use Rattle.run_calls.specs.Example.{smaller, larger, calls, slice}
 use Rattle.run_calls.specs.EdgeExample.{smaller as smallerEdge, larger as largerEdge, calls as callsEdge, slice as sliceEdge}
 use Rattle.run_calls.proofs.Lists.{start-state, start-sound}
@@ -45,10 +46,35 @@ use Rattle.run_calls.proofs.Example.{premises-met, place-clear}
 use Rattle.run_calls.proofs.EdgeExample.{edge-premises-met, edge-place-clear}
 use Rattle.run_calls.proofs.Places.{wider}
 
+-- ---- the premises one by one
+
+say : {small large : Handed} {cs : List DocumentCall} {out : List Float} → Premises 3 (documentCalls 3) small large cs out → (p : Premise) → Says p small large cs out
+say premises start-accepted = premises .start-accepted
+say premises unrefused = premises .cut-from-larger .unrefused
+say premises contained = premises .cut-from-larger .contained
+say premises same-passes = premises .cut-from-larger .same-passes
+say premises inputs-agree = premises .cut-from-larger .inputs-agree
+say premises sigmas-agree = premises .cut-from-larger .sigmas-agree
+say premises nobody-altered-anything = premises .nobody-altered-anything
+say premises run-finished = premises .run-finished
+say premises slice-fits = premises .slice-fits
+
+pub premises-say : PremisesSay
+premises-say small large cs out = (
+  λ premises. say premises,
+  λ says. record {
+    start-accepted = says start-accepted;
+    cut-from-larger = record { unrefused = says unrefused; contained = says contained; same-passes = says same-passes; inputs-agree = says inputs-agree; sigmas-agree = says sigmas-agree };
+    nobody-altered-anything = says nobody-altered-anything;
+    run-finished = says run-finished;
+    slice-fits = says slice-fits;
+  },
+)
+
 -- ---- what a run hands over are its own picture's samples
 
-abbrev run-of : (n : ℕ) (K : Calls n) (small large : Handed) (cs : List (K .Call)) (out : List Float) → Premises n K small large cs out → FinishedRun n K small
-run-of n K small large cs out p = record {
+abbrev pub run-of : {small large : Handed} {cs : List DocumentCall} {out : List Float} → Premises 3 (documentCalls 3) small large cs out → FinishedRun 3 (documentCalls 3) small
+run-of {small} {large} {cs} {out} p = record {
   accepted = p .start-accepted;
   calls = cs;
   unaltered = p .nobody-altered-anything;
@@ -57,17 +83,22 @@ run-of n K small large cs out p = record {
   room = p .slice-fits;
 }
 
-own-sample : (small large : Handed) (cs : List (documentCalls 3 .Call)) (out : List Float) → Premises 3 (documentCalls 3) small large cs out → (x y : ℤ) → Holds (small .setup .filter) x y
-    → resultAt (small .setup) (resultAfter 3 (documentCalls 3) small cs out .out) 0 x y ≡ sampleAt 3 small 0 x y
-own-sample small large cs out p x y held = whole-picture 3 (documentCalls 3) small (run-of 3 (documentCalls 3) small large cs out p) .1 0 x y (omega arith) held
+own-sample : (small : Handed) (r : FinishedRun 3 (documentCalls 3) small) (x y : ℤ) → Holds (small .setup .filter) x y
+    → resultAt (small .setup) (handedOver 3 (documentCalls 3) small r .out) 0 x y ≡ sampleAt 3 small 0 x y
+own-sample small r x y held = whole-picture 3 (documentCalls 3) small r .1 0 x y (omega arith) held
+
+-- so where these are not the larger picture's, clear of the cut edges, demand 3's are not handed over
+pub not-delivered : (m : ℕ) (small large : Handed) (r : FinishedRun 3 (documentCalls 3) small) (x y : ℤ) → Holds (small .setup .filter) x y → Clear m (small .setup .filter) (large .setup .filter) x y
+    → (sampleAt 3 small 0 x y ≡ sampleAt 3 large 0 x y → ⊥) → DeliversBeyond m 3 small large (handedOver 3 (documentCalls 3) small r) → ⊥
+not-delivered m small large r x y held clear unlike delivers = unlike (sym (own-sample small r x y held) ∙ delivers .samples 0 x y (omega arith) held clear)
 
 -- samples of which one is less than the other are not the same
-less-unlike : (a b : Float) → lt a b ≡ true → lt b b ≡ false → a ≡ b → ⊥
+pub less-unlike : (a b : Float) → lt a b ≡ true → lt b b ≡ false → a ≡ b → ⊥
 less-unlike a b l i e = true≢false (sym l ∙ ap (λ (z : Float). lt z b) e ∙ i)
 
 -- ---- Gabor alone: one row, weights 1/2 and 1/4
 
-abbrev weights : List (List Float)
+abbrev pub weights : List (List Float)
 weights = let h : List Float = bits 0x3f00_0000 ∷ bits 0x3e80_0000 ∷ [] in h ∷ h ∷ h ∷ []
 
 -- 16 just left of the cut edge, and 0 elsewhere
@@ -90,15 +121,14 @@ gabor-margin-needed claim =
     let premises = premises-met beyond weights in
     let held : Holds (small .setup .filter) (pos 0) (pos 0) = record { column = record { from = tt; before = tt }; row = record { from = tt; before = tt } } in
     let clear : Clear 0 (small .setup .filter) (large .setup .filter) (pos 0) (pos 0) = record { left = λ f. tt; right = λ f. tt; top = λ f. tt; bottom = λ f. tt } in
-    let delivered = claim small large (calls beyond weights) (slice beyond weights) refl premises .samples 0 (pos 0) (pos 0) (omega arith) held clear in
-    less-unlike _ _ seen seen-itself (sym (own-sample small large (calls beyond weights) (slice beyond weights) premises (pos 0) (pos 0) held) ∙ delivered)
+    not-delivered 0 small large (run-of premises) (pos 0) (pos 0) held clear (less-unlike _ _ seen seen-itself) (claim small large (calls beyond weights) (slice beyond weights) refl premises)
 
 -- ---- one iteration alone: sigma 64
 
-abbrev ones : List Float
+abbrev pub ones : List Float
 ones = b1 ∷ b1 ∷ b1 ∷ []
 
-abbrev sigma64 : Float
+abbrev pub sigma64 : Float
 sigma64 = bits 0x4280_0000
 
 -- 1 in the first column behind the cut edge, and 0 elsewhere
@@ -121,8 +151,9 @@ step-margin-needed claim =
     let premises = edge-premises-met first-column ones b1 sigma64 in
     let held : Holds (small .setup .filter) (pos 9) (pos 0) = record { column = record { from = tt; before = tt }; row = record { from = tt; before = tt } } in
     let clear : Clear 1 (small .setup .filter) (large .setup .filter) (pos 9) (pos 0) = record { left = λ f. tt; right = λ f. tt; top = λ f. absurd (f refl); bottom = λ f. absurd (f refl) } in
-    let delivered = claim small large (callsEdge first-column ones b1 sigma64) (sliceEdge first-column ones b1 sigma64) refl premises .samples 0 (pos 9) (pos 0) (omega arith) held clear in
-    less-unlike _ _ edge-seen edge-seen-itself (sym delivered ∙ own-sample small large (callsEdge first-column ones b1 sigma64) (sliceEdge first-column ones b1 sigma64) premises (pos 9) (pos 0) held)
+    let cs = callsEdge first-column ones b1 sigma64 in
+    let out = sliceEdge first-column ones b1 sigma64 in
+    not-delivered 1 small large (run-of premises) (pos 9) (pos 0) held clear (λ e. less-unlike _ _ edge-seen edge-seen-itself (sym e)) (claim small large cs out refl premises)
 
 -- ---- one other input sample
 
@@ -172,18 +203,24 @@ inputs-but c (pos (suc zero)) (pos zero) h held o = column-1 c h (λ z. o (z, re
 inputs-but c (pos (suc (suc zero))) (pos zero) h held o = column-2 c h
 inputs-but c (pos (suc (suc (suc i)))) (pos zero) h held o = absurd (omega (arith, lt-to (pos (suc (suc (suc i)))) (pos 3) (held .column .before)))
 
+inputs-others : (p : Premise) → (p ≡ inputs-agree → ⊥) → Says p (smaller spot weights) (larger blank weights) (calls spot weights) (slice spot weights)
+inputs-others start-accepted n = premises-met spot weights .start-accepted
+inputs-others unrefused n = premises-met blank weights .cut-from-larger .unrefused
+inputs-others contained n = premises-met blank weights .cut-from-larger .contained
+inputs-others same-passes n = refl
+inputs-others inputs-agree n = absurd (n refl)
+inputs-others sigmas-agree n = λ on. absurd on
+inputs-others nobody-altered-anything n = premises-met spot weights .nobody-altered-anything
+inputs-others run-finished n = premises-met spot weights .run-finished
+inputs-others slice-fits n = premises-met spot weights .slice-fits
+
 pub inputs-needed : InputsNeeded
 inputs-needed claim =
     let small = smaller spot weights in
     let large = larger blank weights in
-    let premises = premises-met spot weights in
-    let cut = premises-met blank weights .cut-from-larger in
     let there = place-clear spot weights in
-    let tie : CutBut (λ c x y. (c ≡ 0) × (x ≡ pos 1) × (y ≡ pos 0)) (λ x y. ⊥) small large =
-    record { unrefused = cut .unrefused; contained = cut .contained; passes = refl; inputs = inputs-but; sigmas = λ on. absurd on } in
-    let delivered = claim small large (calls spot weights) (slice spot weights) (premises .start-accepted) tie (premises .nobody-altered-anything) (premises .run-finished) (premises .slice-fits)
-    .samples 0 (pos 1) (pos 0) (omega arith) (there .0) (there .1) in
-    less-unlike _ _ spot-seen spot-itself (sym delivered ∙ own-sample small (larger spot weights) (calls spot weights) (slice spot weights) premises (pos 1) (pos 0) (there .0))
+    not-delivered _ small large (run-of (premises-met spot weights)) (pos 1) (pos 0) (there .0) (there .1) (λ e. less-unlike _ _ spot-seen spot-itself (sym e))
+    (claim small large (calls spot weights) (slice spot weights) inputs-others inputs-but)
 
 -- ---- one other sigma
 
@@ -202,28 +239,33 @@ sigma-itself : lt (sampleAt 3 (largerEdge tenth-column ones b1 quarter) 0 (pos 1
 unfolding startLeaves ofBits lt add sub mul div mirror around of setOf tab inner layoutOf pass passes plan steps stepOf scaleOf sigmasFilled blockSigmas blockSigma frameSigma sigmaIn aboveAt sizesOf gridStart cells magnitude kernel dists along scaledFrom apart distance positive weightBy copied weightAt blend divisor epf border multiplier epfPass
 sigma-itself = refl
 
-tie-but-sigma : CutBut (λ c x y. ⊥) (λ x y. Holds block x y) (smallerEdge tenth-column ones b1 sigma64) (largerEdge tenth-column ones b1 quarter)
+sigmas-others : (p : Premise) → (p ≡ sigmas-agree → ⊥)
+    → Says p (smallerEdge tenth-column ones b1 sigma64) (largerEdge tenth-column ones b1 quarter) (callsEdge tenth-column ones b1 sigma64) (sliceEdge tenth-column ones b1 sigma64)
 unfolding startLeaves plan steps stepOf scaleOf
-tie-but-sigma =
-    let like = edge-premises-met tenth-column ones b1 sigma64 .cut-from-larger in
-    record {
-      unrefused = edge-premises-met tenth-column ones b1 quarter .cut-from-larger .unrefused;
-      contained = like .contained;
-      passes = refl;
-      inputs = λ c x y h held o. like .inputs c x y h held;
-      sigmas = λ on x y held o. absurd (o (record { column = wider (pos 8) (pos 8) 4 8 tt tt x (held .column); row = wider (pos 0) (pos 0) 1 8 tt tt y (held .row) }));
-    }
+sigmas-others start-accepted n = edge-premises-met tenth-column ones b1 sigma64 .start-accepted
+sigmas-others unrefused n = edge-premises-met tenth-column ones b1 quarter .cut-from-larger .unrefused
+sigmas-others contained n = edge-premises-met tenth-column ones b1 sigma64 .cut-from-larger .contained
+sigmas-others same-passes n = refl
+sigmas-others inputs-agree n = edge-premises-met tenth-column ones b1 sigma64 .cut-from-larger .inputs-agree
+sigmas-others sigmas-agree n = absurd (n refl)
+sigmas-others nobody-altered-anything n = edge-premises-met tenth-column ones b1 sigma64 .nobody-altered-anything
+sigmas-others run-finished n = edge-premises-met tenth-column ones b1 sigma64 .run-finished
+sigmas-others slice-fits n = edge-premises-met tenth-column ones b1 sigma64 .slice-fits
+
+-- every place of the smaller filter region lies in that block
+sigmas-but : (x y : ℤ) → Holds (smallerEdge tenth-column ones b1 sigma64 .setup .filter) x y → (Holds block x y → ⊥)
+    → sigmaAt 3 (smallerEdge tenth-column ones b1 sigma64) x y ≡ sigmaAt 3 (largerEdge tenth-column ones b1 quarter) x y
+sigmas-but x y held o = absurd (o (record { column = wider (pos 8) (pos 8) 4 8 tt tt x (held .column); row = wider (pos 0) (pos 0) 2 8 tt tt y (held .row) }))
 
 pub sigmas-needed : SigmasNeeded
 sigmas-needed claim =
     let small = smallerEdge tenth-column ones b1 sigma64 in
-    let premises = edge-premises-met tenth-column ones b1 sigma64 in
+    let large = largerEdge tenth-column ones b1 quarter in
     let there = edge-place-clear tenth-column ones b1 sigma64 in
     let cs = callsEdge tenth-column ones b1 sigma64 in
     let out = sliceEdge tenth-column ones b1 sigma64 in
-    let delivered = claim small (largerEdge tenth-column ones b1 quarter) cs out (premises .start-accepted) tie-but-sigma (premises .nobody-altered-anything) (premises .run-finished) (premises .slice-fits)
-    .samples 0 (pos 10) (pos 0) (omega arith) (there .0) (there .1) in
-    less-unlike _ _ sigma-seen sigma-itself (sym (own-sample small (largerEdge tenth-column ones b1 sigma64) cs out premises (pos 10) (pos 0) (there .0)) ∙ delivered)
+    not-delivered _ small large (run-of (edge-premises-met tenth-column ones b1 sigma64)) (pos 10) (pos 0) (there .0) (there .1) (less-unlike _ _ sigma-seen sigma-itself)
+    (claim small large cs out sigmas-others sigmas-but)
 
 -- ---- one altered sample
 
@@ -261,21 +303,41 @@ first-taken =
     let t : State = startState 3 h in
     band-number 3 t 0 ∙ band-accepted 3 t 0 (i .first-length) (i .second-length) (i .sigma-length) (i .run) (band-open (t .run) 0 open-first)
 
+module _ (first : State) (same : first ≡ startState 3 (smaller spot weights)) where
+  -- the blank picture's run with such a first band ends as the spot's
+  ends-alike : end 3 (documentCalls 3) (startState 3 (smaller blank weights)) (band first 0 ∷ later) ≡ end 3 (documentCalls 3) (startState 3 (smaller spot weights)) (calls spot weights)
+  ends-alike = rw same (first-decides (band (startState 3 (smaller spot weights)) 0) later (startState 3 (smaller blank weights)) (startState 3 (smaller spot weights)) first-taken refl .1)
+
+  then-alike : Unaltered 3 (documentCalls 3) (stateAfter 3 (documentCalls 3) (startState 3 (smaller blank weights)) (band first 0)) later
+  then-alike =
+      let alike = first-decides (band (startState 3 (smaller spot weights)) 0) later (startState 3 (smaller blank weights)) (startState 3 (smaller spot weights)) first-taken refl .0 in
+      rw same (subst (λ (s : State). Unaltered 3 (documentCalls 3) s later) (sym alike) (premises-met spot weights .nobody-altered-anything .1))
+
+  altered-others : (p : Premise) → (p ≡ nobody-altered-anything → ⊥) → Says p (smaller blank weights) (larger blank weights) (band first 0 ∷ later) (slice blank weights)
+  altered-others start-accepted n = premises-met blank weights .start-accepted
+  altered-others unrefused n = premises-met blank weights .cut-from-larger .unrefused
+  altered-others contained n = premises-met blank weights .cut-from-larger .contained
+  altered-others same-passes n = premises-met blank weights .cut-from-larger .same-passes
+  altered-others inputs-agree n = premises-met blank weights .cut-from-larger .inputs-agree
+  altered-others sigmas-agree n = premises-met blank weights .cut-from-larger .sigmas-agree
+  altered-others nobody-altered-anything n = absurd (n refl)
+  altered-others run-finished n = subst (λ (s : State). T (finished (s .run))) (sym ends-alike) (premises-met spot weights .run-finished)
+  altered-others slice-fits n = premises-met blank weights .slice-fits
+
 pub unaltered-needed : UnalteredNeeded
 unaltered-needed claim =
     let small = smaller blank weights in
     let large = larger blank weights in
-    let v = bits 0x4180_0000 in
-    let premises = premises-met spot weights in
-    let t : State = startState 3 small in
-    let u : State = startState 3 (smaller spot weights) in
-    let same = first-decides (band u 0) later t u first-taken refl in
-    let there = place-clear blank weights in
+    let first : State = altered (bits 0x4180_0000) (startState 3 small) in
     let out = slice blank weights in
-    let delivered = subst (λ (s : State). (Unaltered 3 (documentCalls 3) (stateAfter 3 (documentCalls 3) t (band s 0)) later
-    → T (finished (end 3 (documentCalls 3) t (band s 0 ∷ later) .run)) → Delivers 3 small large (resultAfter 3 (documentCalls 3) small (band s 0 ∷ later) out))) altered-is
-    (λ a b. claim small large v 0 later out (premises-met blank weights .start-accepted) (premises-met blank weights .cut-from-larger) a b (premises-met blank weights .slice-fits)) in
-    let got = delivered (subst (λ (s : State). Unaltered 3 (documentCalls 3) s later) (sym (same .0)) (premises .nobody-altered-anything .1)) (subst (λ (s : State). T (finished (s .run))) (sym (same .1)) (premises .run-finished))
-    .samples 0 (pos 1) (pos 0) (omega arith) (there .0) (there .1) in
-    let own = own-sample (smaller spot weights) (larger spot weights) (calls spot weights) (slice spot weights) premises (pos 1) (pos 0) (there .0) in
-    less-unlike _ _ spot-seen spot-itself (sym got ∙ ap (λ (s : State). resultAt (small .setup) (resultOn 3 s out .out) 0 (pos 1) (pos 0)) (same .1) ∙ own)
+    let there = place-clear blank weights in
+    let delivers = claim small large (band first 0 ∷ later) out (altered-others first altered-is) (record {
+      sample = bits 0x4180_0000;
+      number = 0;
+      later = later;
+      calls = refl;
+      then-unaltered = then-alike first altered-is;
+    }) in
+    let own = own-sample (smaller spot weights) (run-of (premises-met spot weights)) (pos 1) (pos 0) (there .0) in
+    less-unlike _ _ spot-seen spot-itself
+    (sym (delivers .samples 0 (pos 1) (pos 0) (omega arith) (there .0) (there .1)) ∙ ap (λ (s : State). resultAt (small .setup) (resultOn 3 s out .out) 0 (pos 1) (pos 0)) (ends-alike first altered-is) ∙ own)

@@ -1,33 +1,36 @@
 -- Everything that specs/Promises.antt gathers is proved. Assumes nothing.
-use Rattle.mirror.proofs.Laws.{mirror-lt, mirror-periodic, mirror-low, mirror-high}
-use Rattle.mirror.proofs.Cut.{mirror-cut}
+use Rattle.mirror.proofs.Statements.{mirror-inside, mirror-periodic, mirror-low, mirror-high, mirror-cut}
 use Rattle.region_arithmetic.proofs.Laws.{intersection-inside, intersection-greatest, aligned-contains, aligned-smallest, shrunk-has, shrunk-touched}
-use Rattle.frame.proofs.Laws.{divided-up-covers, divided-up-least, split-whole, inner-lt}
+use Rattle.header_fields.proofs.Order.{too-long, runs-out}
+use Rattle.frame.proofs.Statements.{divided-up-covers, divided-up-least, split-whole, inner-below, group-below}
 use Rattle.gabor_kernel.proofs.Mirrored.{fold-mirrors, kernel-mirrored, single-row-differs, alone-copied}
 use Rattle.gabor_kernel.proofs.Exact.{expansion-sums, coefficients-weigh, rows-mirrored, integers-exact}
 use Rattle.epf_step.proofs.Offsets.{kernel-offsets, distance-offsets}
 use Rattle.epf_step.proofs.Bounds.{distance-not-negative, slope-not-positive, weight-bounds, divisor-bounds, multiplier-not-negative, pass-bounds}
 use Rattle.epf_lanes.proofs.Divisors.{lane-divisor-bounds}
 use Rattle.run_passes.proofs.Bounds.{step-bounds, settings-bounds, bounds-reached}
-use Rattle.run_passes.proofs.PlanLaws.{plan-reach}
-use Rattle.run_passes.proofs.Near.{pass-near}
-use Rattle.run_passes.proofs.Cut.{cut-same}
+use Rattle.run_passes.proofs.Statements.{pass-near, cut-same, plan-reach}
 use Rattle.run_calls.specs.Promises.{Promises}
-use Rattle.run_calls.proofs.Demand3.{document-demand-3, demand-3}
+use Rattle.run_calls.proofs.Demand3.{document-demand-3, demand-3, demand-3-at}
+use Rattle.run_calls.proofs.Finished.{handed-over-at}
 use Rattle.run_calls.proofs.Example.{premises-met, place-clear}
 use Rattle.run_calls.proofs.EdgeExample.{edge-premises-met, edge-place-clear}
 use Rattle.run_calls.proofs.FourEdges.{four-edges-met, four-edges-clear, four-edges-delivered}
-use Rattle.run_calls.proofs.Needed.{gabor-margin-needed, step-margin-needed, inputs-needed, sigmas-needed, unaltered-needed}
+use Rattle.run_calls.proofs.Needed.{premises-say, gabor-margin-needed, step-margin-needed, inputs-needed, sigmas-needed, unaltered-needed}
+use Rattle.run_calls.proofs.EachNeeded.{each-needed}
 use Rattle.run_calls.proofs.Corollaries.{whole-picture, two-cuts-agree, outside-kept, bands-alike}
 use Rattle.run_calls.proofs.Refused.{start-tied, calls-tied, refused-untouched}
 use Rattle.run_calls.proofs.Count.{document-count-rule, count-rule}
-use Rattle.run_calls.proofs.Lists.{end-fits}
+use Rattle.run_calls.proofs.Lists.{end-reached, end-fits}
 use Rattle.run_calls.proofs.Reached.{can-finish, reached-fits, fits-reached, each-reached}
 
 pub promises : Promises
 promises = record {
   document-demand-3 = document-demand-3;
   demand-3 = demand-3;
+  demand-3-at = demand-3-at;
+  handed-over-at = handed-over-at;
+  end-reached = end-reached;
   premises-met = premises-met;
   place-clear = place-clear;
   edge-premises-met = edge-premises-met;
@@ -35,6 +38,8 @@ promises = record {
   four-edges-met = four-edges-met;
   four-edges-clear = four-edges-clear;
   four-edges-delivered = four-edges-delivered;
+  premises-say = premises-say;
+  each-needed = each-needed;
   gabor-margin-needed = gabor-margin-needed;
   step-margin-needed = step-margin-needed;
   inputs-needed = inputs-needed;
@@ -77,7 +82,7 @@ promises = record {
   coefficients-weigh = coefficients-weigh;
   rows-mirrored = rows-mirrored;
   integers-exact = integers-exact;
-  mirror-inside = mirror-lt;
+  mirror-inside = mirror-inside;
   mirror-periodic = mirror-periodic;
   mirror-low = mirror-low;
   mirror-high = mirror-high;
@@ -88,8 +93,11 @@ promises = record {
   aligned-least = aligned-smallest;
   shrunk-has = shrunk-has;
   shrunk-touched = shrunk-touched;
+  too-long = too-long;
+  runs-out = runs-out;
   divided-up-covers = divided-up-covers;
   divided-up-least = divided-up-least;
   split-whole = split-whole;
-  inner-below = inner-lt;
+  inner-below = inner-below;
+  group-below = group-below;
 }

@@ -150,12 +150,12 @@ fits-reached r e t = go (finished r) refl
 -- ---- lists of accepted calls
 
 -- one call more
-module _ (n : ℕ) (K : Calls n) (c : K .Call) (ok : K .number c ≡ 0) where
-  after-accepted : (t : State) → stateAfter n K t c ≡ K .leaves t c
+module _ (n : ℕ) (K : Calls n) (c : K .Call) (ok : K .number (K .answer c) ≡ 0) where
+  after-accepted : (t : State) → stateAfter n K t c ≡ K .leaves t (K .answer c)
   unfolding stateAfter
-  after-accepted t = rw (eq-eqb (K .number c) 0 ok)
+  after-accepted t = rw (eq-eqb (K .number (K .answer c)) 0 ok)
 
-  end-more : (t : State) (cs : List (K .Call)) → end n K t (cs ++ (c ∷ [])) ≡ K .leaves (end n K t cs) c
+  end-more : (t : State) (cs : List (K .Call)) → end n K t (cs ++ (c ∷ [])) ≡ K .leaves (end n K t cs) (K .answer c)
   unfolding end
   end-more t [] = after-accepted t
   end-more t (d ∷ cs) = end-more (stateAfter n K t d) cs
@@ -170,8 +170,8 @@ module _ (n : ℕ) (K : Calls n) (c : K .Call) (ok : K .number c ≡ 0) where
   accepted-more (d ∷ cs) a = (a .0, accepted-more cs (a .1))
 
 module _ (n : ℕ) (h : Handed) (start : StartAccepted n h) where
-  more : (cs : List DocumentCall) (q : Run) (c : DocumentCall) (r : Run) → LeadsTo n h cs q → documentCalls n .number c ≡ 0
-      → documentCalls n .Lent (end n (documentCalls n) (startState n h) cs) c → documentCalls n .leaves (end n (documentCalls n) (startState n h) cs) c .run ≡ r
+  more : (cs : List DocumentCall) (q : Run) (c : DocumentCall) (r : Run) → LeadsTo n h cs q → documentCalls n .number (documentCalls n .answer c) ≡ 0
+      → documentCalls n .Lent (end n (documentCalls n) (startState n h) cs) c → documentCalls n .leaves (end n (documentCalls n) (startState n h) cs) (documentCalls n .answer c) .run ≡ r
       → (ds : List DocumentCall) × LeadsTo n h ds r
   more cs q c r l ok lent ends = (
     cs ++ (c ∷ []),

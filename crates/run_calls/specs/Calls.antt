@@ -13,7 +13,7 @@ use Rattle.run_outcomes.specs.Result.{ResultOutcome, resultOutcome}
 
 -- ---- the start
 
--- start accepts what it is handed
+-- start accepts what it is handed, n planes in each set (document 01 has 3)
 abbrev pub StartAccepted : ℕ → Handed → Type 0
 StartAccepted n h = startOutcome n h .answer .number ≡ 0
 
@@ -35,14 +35,14 @@ pub data DocumentCall : Type 0 where
   other : ℕ → DocumentCall
 
 -- the whole answer of a call, with what it leaves in what it is lent: the outcome that its contract cites
-pub data Answer : Type 0 where
-  ofBand : BandOutcome → Answer
-  ofAdvance : RunAnswer → Answer
-  ofResult : ResultOutcome → Answer
-  ofStart : StartOutcome → Answer
-  ofOther : ℕ → Answer
+pub data DocumentAnswer : Type 0 where
+  ofBand : BandOutcome → DocumentAnswer
+  ofAdvance : RunAnswer → DocumentAnswer
+  ofResult : ResultOutcome → DocumentAnswer
+  ofStart : StartOutcome → DocumentAnswer
+  ofOther : ℕ → DocumentAnswer
 
-abbrev pub answer : ℕ → DocumentCall → Answer
+abbrev pub answer : ℕ → DocumentCall → DocumentAnswer
 answer n (band t k) = ofBand (bandOutcome n t k)
 answer n (advance r) = ofAdvance (advanceOutcome r)
 answer n (result r first second out) = ofResult (resultOutcome n r first second out)
@@ -50,7 +50,7 @@ answer n (start h) = ofStart (startOutcome n h)
 answer n (other k) = ofOther k
 
 -- the number in an answer
-abbrev pub numberIn : Answer → ℕ
+abbrev pub numberIn : DocumentAnswer → ℕ
 numberIn (ofBand o) = o .number
 numberIn (ofAdvance o) = o .number
 numberIn (ofResult o) = o .number
@@ -58,7 +58,7 @@ numberIn (ofStart o) = o .answer .number
 numberIn (ofOther k) = k
 
 -- the state after an accepted call that was lent the state t: what the answer has of it, and the rest of t
-abbrev pub leftBy : State → Answer → State
+abbrev pub leftBy : State → DocumentAnswer → State
 leftBy t (ofBand o) = o .state
 leftBy t (ofAdvance o) = record { run = o .run; sigmas = t .sigmas; first = t .first; second = t .second }
 leftBy t (ofResult o) = t
@@ -95,15 +95,18 @@ pub data Effect (n : ℕ) (t : State) : ℕ → ℕ → State → Type 0 where
   oneAdvance : advanceOutcome (t .run) .number ≡ 0 → Effect n t 0 1 (leftBy t (ofAdvance (advanceOutcome (t .run))))
   nothing : Effect n t 0 0 t
 
--- Any kinds of calls: each with the number that it gives, whether it was lent a state, what it leaves of that state when it is accepted, and which effect that is.
+-- Any kinds of calls, each with its whole answer. From the answer follow its number and, for an accepted call that was lent a state, the state after it.
+-- Which calls were lent a state is told, and which effect these have.
 pub record Calls (n : ℕ) : Type 1 where
   pub Call : Type 0
-  pub number : Call → ℕ
+  pub Answer : Type 0
+  pub answer : Call → Answer
+  pub number : Answer → ℕ
+  pub leaves : State → Answer → State
   pub Lent : State → Call → Type 0
-  pub leaves : State → Call → State
   pub bands : Call → ℕ
   pub advances : Call → ℕ
-  pub effect : (t : State) (c : Call) → number c ≡ 0 → Lent t c → Effect n t (bands c) (advances c) (leaves t c)
+  pub effect : (t : State) (c : Call) → number (answer c) ≡ 0 → Lent t c → Effect n t (bands c) (advances c) (leaves t (answer c))
 
 unfoldable pub documentEffect : (n : ℕ) (t : State) (c : DocumentCall) → numberIn (answer n c) ≡ 0 → LentState t c → Effect n t (asBands c) (asAdvances c) (leftBy t (answer n c))
 documentEffect n t (band u k) e l = rw l (oneBand k (rw l at e))
@@ -115,9 +118,11 @@ documentEffect n t (other k) e l = absurd l
 abbrev pub documentCalls : (n : ℕ) → Calls n
 documentCalls n = record {
   Call = DocumentCall;
-  number = λ c. numberIn (answer n c);
+  Answer = DocumentAnswer;
+  answer = answer n;
+  number = numberIn;
+  leaves = leftBy;
   Lent = LentState;
-  leaves = λ t c. leftBy t (answer n c);
   bands = asBands;
   advances = asAdvances;
   effect = documentEffect n;
@@ -128,7 +133,7 @@ documentCalls n = record {
 module _ (n : ℕ) (K : Calls n) where
   -- a refused call changes nothing
   unfoldable pub stateAfter : State → K .Call → State
-  stateAfter t c = cond (eqb (K .number c) 0) (K .leaves t c) t
+  stateAfter t c = cond (eqb (K .number (K .answer c)) 0) (K .leaves t (K .answer c)) t
 
   -- the state after a list of calls
   unfoldable pub end : State → List (K .Call) → State
@@ -138,18 +143,18 @@ module _ (n : ℕ) (K : Calls n) where
   -- nobody altered anything (document 01's own term): each accepted call was lent what the accepted calls before it left; a refused one may be lent anything
   abbrev pub Unaltered : State → List (K .Call) → Type 0
   Unaltered t [] = Unit {0}
-  Unaltered t (c ∷ cs) = (K .number c ≡ 0 → K .Lent t c) × Unaltered (stateAfter t c) cs
+  Unaltered t (c ∷ cs) = (K .number (K .answer c) ≡ 0 → K .Lent t c) × Unaltered (stateAfter t c) cs
 
   -- each call of a list is accepted
   abbrev pub AllAccepted : List (K .Call) → Type 0
   AllAccepted [] = Unit {0}
-  AllAccepted (c ∷ cs) = (K .number c ≡ 0) × AllAccepted cs
+  AllAccepted (c ∷ cs) = (K .number (K .answer c) ≡ 0) × AllAccepted cs
 
   -- accepted bands and accepted advances of a list
   unfoldable pub bandsIn : List (K .Call) → ℕ
   bandsIn [] = 0
-  bandsIn (c ∷ cs) = cond (eqb (K .number c) 0) (K .bands c) 0 + bandsIn cs
+  bandsIn (c ∷ cs) = cond (eqb (K .number (K .answer c)) 0) (K .bands c) 0 + bandsIn cs
 
   unfoldable pub advancesIn : List (K .Call) → ℕ
   advancesIn [] = 0
-  advancesIn (c ∷ cs) = cond (eqb (K .number c) 0) (K .advances c) 0 + advancesIn cs
+  advancesIn (c ∷ cs) = cond (eqb (K .number (K .answer c)) 0) (K .advances c) 0 + advancesIn cs

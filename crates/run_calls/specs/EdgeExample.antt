@@ -29,30 +29,31 @@ module _ (p : Picture) (scales : List Float) (border sigma : Float) where
     };
   }
 
-  abbrev row : ℕ → ℕ → Region
-  row left width = record { left = pos left; top = pos 0; width = width; height = 1 }
+  -- two rows
+  abbrev rowsFrom : ℕ → ℕ → Region
+  rowsFrom left width = record { left = pos left; top = pos 0; width = width; height = 2 }
 
   -- columns 0 to 11, the filter region being the image region; no group has a grid, so each block has `sigma_for_modular`
   abbrev pub larger : Handed
   larger = record {
-    setup = record { image = row 0 12; filter = row 0 12; «preserve_outside» = 0; settings = settingsOf b0; «band_height» = 64 };
-    frame = record { width = 12; height = 1; upsampling = 1; «lf_level» = 0; «group_size_shift» = 0 };
+    setup = record { image = rowsFrom 0 12; filter = rowsFrom 0 12; «preserve_outside» = 0; settings = settingsOf b0; «band_height» = 64 };
+    frame = record { width = 12; height = 2; upsampling = 1; «lf_level» = 0; «group_size_shift» = 0 };
     table = 0 ∷ 0 ∷ 0 ∷ [];
     grids = [];
-    first = setOf 3 12 1 p;
-    second = setOf 3 12 1 (λ c x y. b0);
+    first = setOf 3 12 2 p;
+    second = setOf 3 12 2 (λ c x y. b0);
     sigmas = b0 ∷ b0 ∷ [];
   }
 
   -- columns 8 to 11 of them in an image region of columns 7 to 11: the left edge of the filter region is cut
   abbrev pub smaller : Handed
   smaller = record {
-    setup = record { image = row 7 5; filter = row 8 4; «preserve_outside» = 1; settings = settingsOf b1; «band_height» = 1 };
+    setup = record { image = rowsFrom 7 5; filter = rowsFrom 8 4; «preserve_outside» = 1; settings = settingsOf b1; «band_height» = 2 };
     frame = record { width = 100; height = 100; upsampling = 2; «lf_level» = 0; «group_size_shift» = 1 };
     table = 0 ∷ 5 ∷ 5 ∷ [];
     grids = [];
-    first = setOf 3 5 1 (λ c x y. p c (7 + x) y);
-    second = setOf 3 5 1 (λ c x y. b0);
+    first = setOf 3 5 2 (λ c x y. p c (7 + x) y);
+    second = setOf 3 5 2 (λ c x y. b0);
     sigmas = b0 ∷ [];
   }
 
@@ -60,7 +61,7 @@ module _ (p : Picture) (scales : List Float) (border sigma : Float) where
   calls = band (startState 3 smaller) 0 ∷ advance (marked (started (smaller .setup)) 0) ∷ []
 
   abbrev pub slice : List Float
-  slice = setOf 3 5 1 (λ c x y. b0)
+  slice = setOf 3 5 2 (λ c x y. b0)
 
 abbrev pub EdgePremisesMet : Type 0
 EdgePremisesMet = (p : Picture) (scales : List Float) (border sigma : Float)

@@ -1,10 +1,13 @@
 -- Demand 3's premises met by a picture with all four edges cut: both filters, two passes of three bands each, sigmas from a grid, image regions that differ and
 -- reach below 0, full planes for the smaller one and the filter region alone for the larger one; and a refused start, a refused other call. Definitions only.
+use mathlib.Core.Logic.{_↔_}
 use mathlib.Core.List.{List, [], _∷_}
 use Prim.Native.Nat.{ℕ, _+_}
-use lib.IntN.{pos, negsuc}
+use lib.Dec.{T}
+use lib.IntN.{ℤ, pos, negsuc}
 use lib.Ieee.{Float}
-use Rattle.region.specs.Regions.{Holds}
+use Rattle.region.specs.declared.Region.{Region}
+use Rattle.region.specs.Regions.{inside, Holds}
 use Rattle.frame.specs.declared.Frame.{Frame}
 use Rattle.planes.specs.Samples.{b0}
 use Rattle.planes.specs.Picture.{Picture}
@@ -123,12 +126,15 @@ module _ (g : Given) where
 abbrev pub FourEdgesMet : Type 0
 FourEdgesMet = (g : Given) → Premises 3 (documentCalls 3) (smaller g) (larger g) (calls g) (slice g)
 
--- the margin is 3: column 11 and row 12 are clear of the cut edges, and column 10 is not
+-- columns and rows 11 and 12, which have three samples between them and each of the four edges
+abbrev pub middle : Region
+middle = record { left = pos 11; top = pos 11; width = 2; height = 2 }
+
+-- They are places of the smaller filter region, clear of its cut edges by the margin, which is 3. No other place is: not columns and rows 10 and 13.
 abbrev pub FourEdgesClear : Type 0
 FourEdgesClear = (g : Given) → let small = smaller g .setup in
     let large = larger g .setup in
-    Holds (small .filter) (pos 11) (pos 12) × Clear (margin (small .settings)) (small .filter) (large .filter) (pos 11) (pos 12)
-    × (Clear (margin (small .settings)) (small .filter) (large .filter) (pos 10) (pos 12) → ⊥)
+    T (inside (small .filter) middle) × ((x y : ℤ) → Clear (margin (small .settings)) (small .filter) (large .filter) x y ↔ Holds middle x y)
 
 -- so demand 3 says of them
 abbrev pub FourEdgesDelivered : Type 0

@@ -1,6 +1,7 @@
 pub mod Calls
 pub mod Places
 pub mod Theorem
+pub mod States
 pub mod Rules
 pub mod Corollaries
 pub mod Example

@@ -1,5 +1,7 @@
--- Demand 3 supposes nothing idle: with a margin one smaller, one other input sample, the sigma of one block or one altered sample it is false. Statements only.
+-- What demand 3 supposes is needed: without any one of its premises, or with a margin one smaller, it is false. Two premises, in document 01's words, say more than the
+-- proof uses: what an accepted result among the calls was lent does not matter, since it leaves the state, and of the larger picture's numbers 4 to 9 only 6 does. Statements only.
 use mathlib.Core.Path.{_≡_}
+use mathlib.Core.Logic.{_↔_}
 use mathlib.Core.List.{List, _∷_}
 use Prim.Native.Nat.{ℕ, suc, _<_}
 use lib.Dec.{T}
@@ -15,7 +17,40 @@ use Rattle.run_outcomes.specs.Start.{Handed}
 use Rattle.run_outcomes.specs.Band.{State}
 use Rattle.run_calls.specs.Calls.{StartAccepted, startState, DocumentCall, band, documentCalls, stateAfter, end, Unaltered}
 use Rattle.run_calls.specs.Places.{inputAt, sigmaAt}
-use Rattle.run_calls.specs.Theorem.{Unrefused, CutFrom, Delivers, DeliversBeyond, Premises, resultAfter}
+use Rattle.run_calls.specs.Theorem.{Unrefused, Delivers, DeliversBeyond, Premises, resultAfter}
+
+-- ---- the premises one by one
+
+-- named as the fields of `Premises` and, for that of the larger picture, of `CutFrom`
+pub data Premise : Type 0 where
+  start-accepted unrefused contained same-passes inputs-agree sigmas-agree nobody-altered-anything run-finished slice-fits : Premise
+
+-- what each says of a smaller and a larger picture, a list of document 01's calls and a slice
+abbrev pub Says : Premise → Handed → Handed → List DocumentCall → List Float → Type 0
+Says start-accepted small large cs out = StartAccepted 3 small
+Says unrefused small large cs out = Unrefused 3 large
+Says contained small large cs out = T (inside (large .setup .filter) (small .setup .filter))
+Says same-passes small large cs out = plan 3 (small .setup .settings) ≡ plan 3 (large .setup .settings)
+Says inputs-agree small large cs out = (c : ℕ) (x y : ℤ) → c < 3 → Holds (small .setup .filter) x y → inputAt 3 small c x y ≡ inputAt 3 large c x y
+Says sigmas-agree small large cs out = T (epfOn (small .setup)) → (x y : ℤ) → Holds (small .setup .filter) x y → sigmaAt 3 small x y ≡ sigmaAt 3 large x y
+Says nobody-altered-anything small large cs out = Unaltered 3 (documentCalls 3) (startState 3 small) cs
+Says run-finished small large cs out = T (finished (end 3 (documentCalls 3) (startState 3 small) cs .run))
+Says slice-fits small large cs out = length out ≡ resultLength 3 (small .setup)
+
+-- together they are the theorem's own
+abbrev pub PremisesSay : Type 0
+PremisesSay = (small large : Handed) (cs : List DocumentCall) (out : List Float)
+    → Premises 3 (documentCalls 3) small large cs out ↔ ((p : Premise) → Says p small large cs out)
+
+-- demand 3 with something else in the place of one premise
+abbrev pub Demand3But : Premise → (Handed → Handed → List DocumentCall → List Float → Type 0) → Type 0
+Demand3But q Instead = (small large : Handed) (cs : List DocumentCall) (out : List Float)
+    → ((p : Premise) → (p ≡ q → ⊥) → Says p small large cs out) → Instead small large cs out
+    → Delivers 3 small large (resultAfter 3 (documentCalls 3) small cs out)
+
+-- with nothing in the place of any of them it is false
+abbrev pub EachNeeded : Type 0
+EachNeeded = (q : Premise) → Demand3But q (λ small large cs out. Unit {0}) → ⊥
 
 -- ---- the margin
 
@@ -32,43 +67,37 @@ GaborMarginNeeded = MarginNeeded 0
 abbrev pub StepMarginNeeded : Type 0
 StepMarginNeeded = MarginNeeded 1
 
--- ---- inputs and sigmas
+-- ---- one sample, one block
 
--- as `CutFrom`, but for inputs at places `other` and sigmas at places `unlike`
-pub record CutBut (other : ℕ → ℤ → ℤ → Type 0) (unlike : ℤ → ℤ → Type 0) (small large : Handed) : Type 0 where
-  pub unrefused : Unrefused 3 large
-  pub contained : T (inside (large .setup .filter) (small .setup .filter))
-  pub passes : plan 3 (small .setup .settings) ≡ plan 3 (large .setup .settings)
-  pub inputs : (c : ℕ) (x y : ℤ) → c < 3 → Holds (small .setup .filter) x y → (other c x y → ⊥) → inputAt 3 small c x y ≡ inputAt 3 large c x y
-  pub sigmas : T (epfOn (small .setup)) → (x y : ℤ) → Holds (small .setup .filter) x y → (unlike x y → ⊥) → sigmaAt 3 small x y ≡ sigmaAt 3 large x y
+-- inputs agree but in the first channel at column 1 and row 0
+abbrev pub OneInputUnlike : Handed → Handed → List DocumentCall → List Float → Type 0
+OneInputUnlike small large cs out = (c : ℕ) (x y : ℤ) → c < 3 → Holds (small .setup .filter) x y → ((c ≡ 0) × (x ≡ pos 1) × (y ≡ pos 0) → ⊥)
+    → inputAt 3 small c x y ≡ inputAt 3 large c x y
 
--- demand 3 with a weaker tie between the two pictures
-abbrev Demand3By : (Handed → Handed → Type 0) → Type 0
-Demand3By Tie = (small large : Handed) (cs : List DocumentCall) (out : List Float) → StartAccepted 3 small → Tie small large
-    → Unaltered 3 (documentCalls 3) (startState 3 small) cs → T (finished (end 3 (documentCalls 3) (startState 3 small) cs .run)) → length out ≡ resultLength 3 (small .setup)
-    → Delivers 3 small large (resultAfter 3 (documentCalls 3) small cs out)
-
--- one input sample that is not the larger picture's: the first channel's at column 1 and row 0
 abbrev pub InputsNeeded : Type 0
-InputsNeeded = Demand3By (CutBut (λ c x y. (c ≡ 0) × (x ≡ pos 1) × (y ≡ pos 0)) (λ x y. ⊥)) → ⊥
+InputsNeeded = Demand3But inputs-agree OneInputUnlike → ⊥
 
 abbrev pub block : Region
 block = record { left = pos 8; top = pos 0; width = 8; height = 8 }
 
--- one block whose sigma is not the larger picture's: the one at column 8 and row 0
-abbrev pub SigmasNeeded : Type 0
-SigmasNeeded = Demand3By (CutBut (λ c x y. ⊥) (λ x y. Holds block x y)) → ⊥
+-- sigmas agree but in the block at column 8 and row 0
+abbrev pub OneSigmaUnlike : Handed → Handed → List DocumentCall → List Float → Type 0
+OneSigmaUnlike small large cs out = (x y : ℤ) → Holds (small .setup .filter) x y → (Holds block x y → ⊥) → sigmaAt 3 small x y ≡ sigmaAt 3 large x y
 
--- ---- nobody altered anything
+abbrev pub SigmasNeeded : Type 0
+SigmasNeeded = Demand3But sigmas-agree OneSigmaUnlike → ⊥
 
 -- a state with another second sample in the first set: the first channel's at column 1 of the image region
 abbrev pub altered : Float → State → State
 altered v t = record { run = t .run; sigmas = t .sigmas; first = set (t .first) 1 v; second = t .second }
 
--- a band that is lent such a state, and then calls that nobody altered
+-- the first call is a band that is lent such a state, and nobody alters anything after it
+pub record OneSampleAltered (small large : Handed) (cs : List DocumentCall) (out : List Float) : Type 0 where
+  pub sample : Float
+  pub number : ℕ
+  pub later : List DocumentCall
+  pub calls : cs ≡ band (altered sample (startState 3 small)) number ∷ later
+  pub then-unaltered : Unaltered 3 (documentCalls 3) (stateAfter 3 (documentCalls 3) (startState 3 small) (band (altered sample (startState 3 small)) number)) later
+
 abbrev pub UnalteredNeeded : Type 0
-UnalteredNeeded = ((small large : Handed) (v : Float) (k : ℕ) (cs : List DocumentCall) (out : List Float)
-    → let first = band (altered v (startState 3 small)) k in
-    StartAccepted 3 small → CutFrom 3 small large → Unaltered 3 (documentCalls 3) (stateAfter 3 (documentCalls 3) (startState 3 small) first) cs
-    → T (finished (end 3 (documentCalls 3) (startState 3 small) (first ∷ cs) .run)) → length out ≡ resultLength 3 (small .setup)
-    → Delivers 3 small large (resultAfter 3 (documentCalls 3) small (first ∷ cs) out)) → ⊥
+UnalteredNeeded = Demand3But nobody-altered-anything OneSampleAltered → ⊥

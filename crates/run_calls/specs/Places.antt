@@ -21,6 +21,7 @@ use Rattle.run_outcomes.specs.Start.{Handed, startLeaves, sigmasFilled}
 abbrev pub at : Region → Picture → ℕ → ℤ → ℤ → Float
 at r g c x y = g c (natAbs (x -ℤ r .left)) (natAbs (y -ℤ r .top))
 
+-- n is the number of planes, h all that start is handed
 module _ (n : ℕ) (h : Handed) where
   -- the filter region's part of the first set, as start leaves it
   abbrev pub input : Picture

@@ -1,37 +1,34 @@
 -- What is promised beside the contracts (document 01, demand 3 and what goes with it), each statement by its name. proofs/Promises.antt proves the whole of it.
-use mathlib.Core.Path.{_≡_}
-use mathlib.Core.List.{List}
-use Prim.Native.Nat.{ℕ, _+_, _-_, _*_, _<_, _≤_}
-use lib.IntN.{ℤ, pos, negsuc, natAbs, _+ℤ_, _-ℤ_}
-use Rattle.mirror.specs.Mirror.{mirror}
-use Rattle.mirror.specs.Cut.{Deep, Carried}
+use Prim.Native.Nat.{ℕ}
+use Rattle.mirror.specs.Statements.{MirrorInside, MirrorPeriodic, MirrorLow, MirrorHigh, MirrorCut}
 use Rattle.region_arithmetic.specs.Laws.{IntersectionInside, IntersectionGreatest, AlignedContains, AlignedLeast, ShrunkHas, ShrunkTouched}
-use Rattle.frame.specs.Sizes.{dividedUp, groupDim, groupOf, innerOf}
-use Rattle.planes.specs.Picture.{Picture}
+use Rattle.header_fields.specs.Order.{TooLong, RunsOut}
+use Rattle.frame.specs.Statements.{DividedUpCovers, DividedUpLeast, SplitWhole, InnerBelow, GroupBelow}
 use Rattle.gabor_kernel.specs.Mirrored.{FoldMirrors, KernelMirrored, SingleRowDiffers, AloneCopied}
 use Rattle.gabor_kernel.specs.Exact.{ExpansionSums, CoefficientsWeigh, RowsMirrored, IntegersExact}
 use Rattle.epf_step.specs.Offsets.{KernelOffsets, DistanceOffsets}
 use Rattle.epf_step.specs.Bounds.{DistanceNotNegative, SlopeNotPositive, WeightBounds, DivisorBounds, MultiplierNotNegative, PassBounds}
 use Rattle.epf_lanes.specs.Divisors.{LaneDivisorBounds}
-use Rattle.run_passes.specs.declared.Settings.{Settings}
-use Rattle.run_passes.specs.Pass.{Area, Pass, pass, passes, reach, reaches}
-use Rattle.run_passes.specs.Plan.{plan, margin}
-use Rattle.run_passes.specs.Near.{sound, AgreeNear}
+use Rattle.run_passes.specs.Statements.{PassNear, CutSame, PlanReach}
 use Rattle.run_passes.specs.Bounds.{StepBounds, SettingsBounds, BoundsReached}
-use Rattle.run_passes.specs.Cut.{Fits, SameBlocks, Agree, AllSound, SomeStep}
 use Rattle.run_calls.specs.Calls.{Calls}
 use Rattle.run_calls.specs.Theorem.{Demand3, DocumentDemand3}
+use Rattle.run_calls.specs.States.{EndReached, HandedOverAt, Demand3At}
 use Rattle.run_calls.specs.Rules.{StartTied, CallsTied, RefusedUntouched, CanFinish, CountRule, DocumentCountRule, EndFits, ReachedFits, FitsReached, EachReached}
 use Rattle.run_calls.specs.Corollaries.{WholePicture, TwoCutsAgree, OutsideKept, BandsAlike}
 use Rattle.run_calls.specs.Example.{PremisesMet, PlaceClear}
 use Rattle.run_calls.specs.EdgeExample.{EdgePremisesMet, EdgePlaceClear}
 use Rattle.run_calls.specs.FourEdges.{FourEdgesMet, FourEdgesClear, FourEdgesDelivered}
-use Rattle.run_calls.specs.Needed.{GaborMarginNeeded, StepMarginNeeded, InputsNeeded, SigmasNeeded, UnalteredNeeded}
+use Rattle.run_calls.specs.Needed.{PremisesSay, EachNeeded, GaborMarginNeeded, StepMarginNeeded, InputsNeeded, SigmasNeeded, UnalteredNeeded}
 
 pub record Promises : Type 1 where
   -- demand 3, for document 01's planes and calls, and for any
   pub document-demand-3 : DocumentDemand3
   pub demand-3 : (n : ℕ) (K : Calls n) → Demand3 n K
+  -- of a state, by whatever calls, and lists lead to such states
+  pub demand-3-at : Demand3At
+  pub handed-over-at : HandedOverAt
+  pub end-reached : (n : ℕ) (K : Calls n) → EndReached n K
   -- its premises are met, by four cut edges too
   pub premises-met : PremisesMet
   pub place-clear : PlaceClear
@@ -40,7 +37,9 @@ pub record Promises : Type 1 where
   pub four-edges-met : FourEdgesMet
   pub four-edges-clear : FourEdgesClear
   pub four-edges-delivered : FourEdgesDelivered
-  -- and it is false without them
+  -- and it is false without any of them, or with a smaller margin
+  pub premises-say : PremisesSay
+  pub each-needed : EachNeeded
   pub gabor-margin-needed : GaborMarginNeeded
   pub step-margin-needed : StepMarginNeeded
   pub inputs-needed : InputsNeeded
@@ -64,12 +63,9 @@ pub record Promises : Type 1 where
   pub fits-reached : FitsReached
   pub each-reached : EachReached
   -- passes: what they read, how far, and what a cut leaves of them
-  pub pass-near : (n : ℕ) (p : Pass) → sound n p → (a : Area) (g G : Picture) (x y : ℕ) → x < a .width → y < a .height → AgreeNear n (reach p) a x y g G
-      → (c : ℕ) → c < n → pass a p g c x y ≡ pass a p G c x y
-  pub cut-same : (n : ℕ) (a b : Area) (lx ly : ℕ) → Fits a b lx ly → (ps : List Pass) → AllSound n ps → (SomeStep ps → SameBlocks a b lx ly) → (g G : Picture)
-      → ((c x y : ℕ) → c < n → x < a .width → y < a .height → g c x y ≡ G c (lx + x) (ly + y))
-      → Agree n a b lx ly (reaches ps) (passes a ps g) (passes b ps G)
-  pub plan-reach : (n : ℕ) (s : Settings) → reaches (plan n s) ≡ margin s
+  pub pass-near : PassNear
+  pub cut-same : CutSame
+  pub plan-reach : PlanReach
   -- weights and divisors
   pub weight-bounds : WeightBounds
   pub divisor-bounds : DivisorBounds
@@ -96,11 +92,11 @@ pub record Promises : Type 1 where
   pub rows-mirrored : RowsMirrored
   pub integers-exact : IntegersExact
   -- the mirrored place: inside, the same two lengths on, symmetric about both edges, and away from cut edges the larger picture's
-  pub mirror-inside : (z : ℤ) (n : ℕ) → 0 < n → mirror z n < n
-  pub mirror-periodic : (z : ℤ) (n : ℕ) → mirror (z +ℤ pos (2 * n)) n ≡ mirror z n
-  pub mirror-low : (z : ℤ) (n : ℕ) → mirror (negsuc 0 -ℤ z) n ≡ mirror z n
-  pub mirror-high : (z : ℤ) (n : ℕ) → mirror (pos n +ℤ z) n ≡ mirror (pos n -ℤ pos 1 -ℤ z) n
-  pub mirror-cut : (k r lo n N x : ℕ) (d : ℤ) → natAbs d ≤ r → lo + n ≤ N → Deep (k + r) lo n N x → Carried k lo n N x d
+  pub mirror-inside : MirrorInside
+  pub mirror-periodic : MirrorPeriodic
+  pub mirror-low : MirrorLow
+  pub mirror-high : MirrorHigh
+  pub mirror-cut : MirrorCut
   -- regions
   pub intersection-inside : IntersectionInside
   pub intersection-greatest : IntersectionGreatest
@@ -108,8 +104,12 @@ pub record Promises : Type 1 where
   pub aligned-least : AlignedLeast
   pub shrunk-has : ShrunkHas
   pub shrunk-touched : ShrunkTouched
+  -- headers: what comes first of all
+  pub too-long : TooLong
+  pub runs-out : RunsOut
   -- frames: sides divided up, and a block's group and cell
-  pub divided-up-covers : (a b : ℕ) → 0 < b → a ≤ dividedUp a b * b
-  pub divided-up-least : (a b q : ℕ) → 0 < b → a ≤ q * b → dividedUp a b ≤ q
-  pub split-whole : (block s : ℕ) → block ≡ groupOf block s * groupDim s + innerOf block s
-  pub inner-below : (block s : ℕ) → innerOf block s < groupDim s
+  pub divided-up-covers : DividedUpCovers
+  pub divided-up-least : DividedUpLeast
+  pub split-whole : SplitWhole
+  pub inner-below : InnerBelow
+  pub group-below : GroupBelow

@@ -16,7 +16,7 @@ use Rattle.run_calls.specs.Calls.{StartAccepted, startState, DocumentCal
 
 -- ---- document 01's calls
 
--- the state that a start leaves is that of its outcome, and the second set as it was handed over
+-- the state that a start of n planes (document 01 has 3) leaves is that of its outcome, and the second set as it was handed over
 abbrev pub StartTied : Type 0
 StartTied = (n : ℕ) (h : Handed) → let t = startState n h in
     let o = startOutcome n h in

@@ -17,7 +17,7 @@ use Rattle.run_outcomes.specs.Result.{ResultOutcome, resultOutcome}
 use Rattle.run_calls.specs.Calls.{StartAccepted, startState, Calls, documentCalls, end, Unaltered}
 use Rattle.run_calls.specs.Places.{Clear, inputAt, sampleAt, sigmaAt, resultAt}
 
--- the picture would not be refused under 4 to 9
+-- a picture of n planes (document 01 has 3), given by all that start is handed, would not be refused under 4 to 9
 abbrev pub Unrefused : ℕ → Handed → Type 0
 Unrefused n h = firstOf (pictureChecks n h) ≡ 0
 
@@ -27,11 +27,11 @@ pub record CutFrom (n : ℕ) (small large : Handed) : Type 0 where
   pub unrefused : Unrefused n large
   pub contained : T (inside (large .setup .filter) (small .setup .filter))
   -- the same passes run, and settings agree in all that these read
-  pub passes : plan n (small .setup .settings) ≡ plan n (large .setup .settings)
+  pub same-passes : plan n (small .setup .settings) ≡ plan n (large .setup .settings)
   -- inputs agree at each place of the smaller filter region
-  pub inputs : (c : ℕ) (x y : ℤ) → c < n → Holds (small .setup .filter) x y → inputAt n small c x y ≡ inputAt n large c x y
+  pub inputs-agree : (c : ℕ) (x y : ℤ) → c < n → Holds (small .setup .filter) x y → inputAt n small c x y ≡ inputAt n large c x y
   -- where the edge filter runs, sigmas agree in each of its blocks. Both filter regions start at multiples of 8 there, since neither is refused under 6.
-  pub sigmas : T (epfOn (small .setup)) → (x y : ℤ) → Holds (small .setup .filter) x y → sigmaAt n small x y ≡ sigmaAt n large x y
+  pub sigmas-agree : T (epfOn (small .setup)) → (x y : ℤ) → Holds (small .setup .filter) x y → sigmaAt n small x y ≡ sigmaAt n large x y
 
 -- the result call on a state, lent a slice
 abbrev pub resultOn : ℕ → State → List Float → ResultOutcome

@@ -83,6 +83,11 @@ pub leaves-length : (n : ℕ) (h : Handed) → length (startLeaves n h) ≡ leng
 unfolding startLeaves
 leaves-length n h = refl
 
+-- and depends on that alone
+pub leaves-same : (n : ℕ) (a b : Handed) → a .first ≡ b .first → startLeaves n a ≡ startLeaves n b
+unfolding startLeaves
+leaves-same n a b e = e
+
 -- its number is the first of the picture's checks, or else of the tail's
 pub start-parts : (n : ℕ) (h : Handed) → startNumber n h ≡ orElse (firstOf (pictureChecks n h)) (firstOf (tailChecks n h))
 unfolding startChecks pictureChecks

@@ -3,3 +3,4 @@ pub mod Cut
 pub mod Near
 pub mod PlanLaws
 pub mod Stages
+pub mod Statements
