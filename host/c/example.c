@@ -1,4 +1,4 @@
-// One refused call of each function of the C boundary, and a whole run. Prints how many answers were compared; exits with 1 if one differs.
+// One refused call of each function of the C boundary, and a whole run of each filter. Prints how many answers were compared; exits with 1 if one differs.
 #include "restoration.h"
 
 #include <stdio.h>
@@ -26,12 +26,14 @@ static void compare(bool same, const char *what)
         COMPARE(others); \
     } while (0)
 
-// A refused call that answers a number alone and leaves the buffer unchanged.
+// A refused call that answers a number alone and leaves the buffer, an array, unchanged.
 #define REFUSED_NUMBER(call, expected, buffer) \
     do { \
+        unsigned char was[sizeof(buffer)]; \
+        memcpy(was, buffer, sizeof(buffer)); \
         refused++; \
         compare(call == expected, #call); \
-        COMPARE(buffer[0] == 5); \
+        COMPARE(memcmp(was, buffer, sizeof(buffer)) == 0); \
     } while (0)
 
 static bool zeros(const void *field, size_t size)
@@ -120,44 +122,97 @@ static void passes(void)
     REFUSED_NUMBER(restoration_epf_pass(image, image, 1, step, &sigma, 1, 0, SIDE, from, SAMPLES, to, SAMPLES), RESTORATION_OUT_OF_RANGE, to);
     for (step.step = 0; step.step < 3; step.step++)
         COMPARE(restoration_epf_pass(image, image, 1, step, &sigma, 1, 0, SIDE, from, SAMPLES, to, SAMPLES) == RESTORATION_ACCEPTED && ZEROS(to));
+
+    // Specification 11.8: step 2 with sigma 1, M = 1 and channel scales 1, 0, 0 on planes of one row 0, 1/2.
+    static const uint32_t stepped[] = {0x3B87E264, 0x3EFDE078};
+    RestorationRegion row = {.width = 2, .height = 1};
+    RestorationEpfStep last = {.step = 2, .channel_scale = {1, 0, 0}, .multiplier = 1, .border_sad_mul = 1};
+    float halves[] = {0, 0.5f, 0, 0.5f, 0, 0.5f}, filtered[PLANES * 2];
+    COMPARE(restoration_epf_pass(row, row, 1, last, &sigma, 1, 0, 1, halves, PLANES * 2, filtered, PLANES * 2) == RESTORATION_ACCEPTED);
+    for (int plane = 0; plane < PLANES; plane++)
+        COMPARE(memcmp(filtered + 2 * plane, stepped, sizeof stepped) == 0);
 }
 
-// Specification 14.6: weights 1/2, 1/4 on a single sample of 16; one band per row.
-static void run_calls(void)
-{
-    static const float smooth[] = {1, 2, 1, 2, 4, 2, 1, 2, 1};
-    RestorationSetup setup = {.image = image, .filter = image, .preserve_outside = 1, .band_height = 1};
-    float first[SAMPLES] = {0}, second[SAMPLES] = {0}, out[SAMPLES] = {5};
-    setup.settings.gabor.enabled = 1;
-    for (int plane = 0; plane < PLANES; plane++) {
-        setup.settings.gabor.weights[plane][0] = 0.5f;
-        setup.settings.gabor.weights[plane][1] = 0.25f;
-        first[plane * SIDE * SIDE + 4] = 16;
-    }
+// The caller's buffers of a run on one block; `grid` is its group's grid.
+typedef struct {
+    float first[SAMPLES], second[SAMPLES], sigmas[1], out[SAMPLES];
+} Buffers;
 
-    REFUSED(RestorationRunAnswer, restoration_start(setup, frame, NULL, 0, NULL, 0, first, SAMPLES, second, SAMPLES, NULL, 0), RESTORATION_WRONG_LENGTH,
-        ZEROS(a.run));
-    RestorationRunAnswer answer = restoration_start(setup, frame, table, GROUP, NULL, 0, first, SAMPLES, second, SAMPLES, NULL, 0);
+static const float grid[] = {1};
+
+// Each plane zeros and one sample in the middle; other numbers in what calls write.
+static Buffers buffers_with(float middle)
+{
+    Buffers buffers = {.sigmas = {5}};
+    for (int sample = 0; sample < SAMPLES; sample++) {
+        buffers.first[sample] = sample % (SIDE * SIDE) == 4 ? middle : 0;
+        buffers.second[sample] = 6;
+        buffers.out[sample] = 7;
+    }
+    return buffers;
+}
+
+static bool same_buffers(Buffers a, Buffers b)
+{
+    return memcmp(&a, &b, sizeof a) == 0;
+}
+
+// A whole run, one band per row, with refused calls in between, which leave every buffer as it was. `sigmas_len` is 1 where the edge filter is on.
+static void run_calls(RestorationSettings settings, size_t sigmas_len, float middle, const float *expected)
+{
+    static const uint32_t present[GROUP] = {1, 1, 1};
+    RestorationSetup setup = {.image = image, .filter = image, .preserve_outside = 1, .settings = settings, .band_height = 1};
+    Buffers b = buffers_with(middle), was = b;
+
+    REFUSED(RestorationRunAnswer, restoration_start(setup, frame, NULL, 0, grid, 1, b.first, SAMPLES, b.second, SAMPLES, b.sigmas, sigmas_len),
+        RESTORATION_WRONG_LENGTH, ZEROS(a.run) && same_buffers(b, was));
+    RestorationRunAnswer answer = restoration_start(setup, frame, present, GROUP, grid, 1, b.first, SAMPLES, b.second, SAMPLES, b.sigmas, sigmas_len);
     COMPARE(answer.number == RESTORATION_ACCEPTED);
+    // The block's sigma is its cell of the grid (Specification 7.6); without the edge filter none is written. The sets stay.
+    was.sigmas[0] = sigmas_len == 1 ? grid[0] : was.sigmas[0];
+    COMPARE(same_buffers(b, was));
     RestorationRun run = answer.run;
     REFUSED(RestorationRunAnswer, restoration_advance(run), RESTORATION_PASS_NOT_DONE, memcmp(&a.run, &run, sizeof run) == 0);
-    REFUSED_NUMBER(restoration_result(run, first, SAMPLES, second, SAMPLES, out, SAMPLES), RESTORATION_PASS_NOT_DONE, out);
+    REFUSED_NUMBER(restoration_result(run, b.first, SAMPLES, b.second, SAMPLES, b.out, SAMPLES), RESTORATION_PASS_NOT_DONE, b.out);
     for (uint32_t band = 0; band < SIDE; band++) {
-        answer = restoration_band(run, NULL, 0, first, SAMPLES, second, SAMPLES, band);
+        answer = restoration_band(run, b.sigmas, sigmas_len, b.first, SAMPLES, b.second, SAMPLES, band);
         COMPARE(answer.number == RESTORATION_ACCEPTED);
         run = answer.run;
     }
-    REFUSED(RestorationRunAnswer, restoration_band(run, NULL, 0, first, SAMPLES, second, SAMPLES, 0), RESTORATION_BAND_NOT_OPEN,
-        memcmp(&a.run, &run, sizeof run) == 0);
+    memcpy(was.second, b.second, sizeof b.second);
+    COMPARE(same_buffers(b, was));
+    REFUSED(RestorationRunAnswer, restoration_band(run, b.sigmas, sigmas_len, b.first, SAMPLES, b.second, SAMPLES, 0), RESTORATION_BAND_NOT_OPEN,
+        memcmp(&a.run, &run, sizeof run) == 0 && same_buffers(b, was));
     // A flag is 0 or 1.
     RestorationRun odd = run;
     odd.done[0] = 2;
     REFUSED(RestorationRunAnswer, restoration_advance(odd), RESTORATION_OUT_OF_RANGE, memcmp(&a.run, &odd, sizeof odd) == 0);
     answer = restoration_advance(run);
     COMPARE(answer.number == RESTORATION_ACCEPTED);
-    COMPARE(restoration_result(answer.run, first, SAMPLES, second, SAMPLES, out, SAMPLES) == RESTORATION_ACCEPTED);
+    COMPARE(restoration_result(answer.run, b.first, SAMPLES, b.second, SAMPLES, b.out, SAMPLES) == RESTORATION_ACCEPTED);
     for (int sample = 0; sample < SAMPLES; sample++)
-        COMPARE(out[sample] == smooth[sample % (SIDE * SIDE)]);
+        COMPARE(b.out[sample] == expected[sample % (SIDE * SIDE)]);
+}
+
+// Specification 14.6: weights 1/2, 1/4 on a single sample of 16.
+static void gabor_run(void)
+{
+    static const float smooth[] = {1, 2, 1, 2, 4, 2, 1, 2, 1};
+    RestorationSettings settings = {.gabor = {.enabled = 1}};
+    for (int plane = 0; plane < PLANES; plane++) {
+        settings.gabor.weights[plane][0] = 0.5f;
+        settings.gabor.weights[plane][1] = 0.25f;
+    }
+    run_calls(settings, 0, 16, smooth);
+}
+
+// One iteration is step 1 (Specification 11.1). Channel scales of 0 make every distance 0 and every weight 1 (11.6, 11.7), so a sample becomes the mean of itself
+// and its four neighbours, mirrored at the edges (11.8): of a single sample of 40, whole numbers.
+static void epf_run(void)
+{
+    static const float means[] = {0, 8, 0, 8, 8, 8, 0, 8, 0};
+    RestorationSettings settings = {.epf = {.iters = 1, .sigma = {.border_sad_mul = 1}}};
+    run_calls(settings, 1, 40, means);
 }
 
 int main(void)
@@ -166,7 +221,8 @@ int main(void)
     frames();
     headers();
     passes();
-    run_calls();
-    printf("from C: %u refused calls and a whole run, %u answers compared; differing: %u\n", refused, compared, differing);
+    gabor_run();
+    epf_run();
+    printf("from C: %u refused calls and two whole runs, %u answers compared; differing: %u\n", refused, compared, differing);
     return differing > 0;
 }
