@@ -1,4 +1,4 @@
--- The corollaries of demand 3. Assumes nothing.
+-- The corollaries of the theorem on rectangles (Specification 13.8). Assumes nothing.
 use mathlib.Core.Path.{_≡_, refl, sym, _∙_}
 use mathlib.Core.Bool.{Bool, true, false, cond}
 use mathlib.Core.List.{List}
@@ -57,7 +57,7 @@ no-cut-edge : (m : ℕ) (r : Region) (x y : ℤ) → Clear m r r x y
 no-cut-edge m r x y = record { left = λ f. absurd (f refl); right = λ f. absurd (f refl); top = λ f. absurd (f refl); bottom = λ f. absurd (f refl) }
 
 module _ (n : ℕ) (K : Calls n) where
-  -- demand 3 of a finished run
+  -- the theorem on rectangles, of a finished run
   cut-run : (h large : Handed) (r : FinishedRun n K h) → CutFrom n h large → Delivers n h large (handedOver n K h r)
   cut-run h large r from = demand-3 n K h large (r .calls) (r .slice) (record { start-accepted = r .accepted; cut-from-larger = from; nobody-altered-anything = r .unaltered; run-finished = r .ended; slice-fits = r .room })
 

@@ -1,4 +1,4 @@
--- Demand 3: the samples that a finished run hands over are the larger picture's beyond the margin. Assumes nothing.
+-- The theorem on rectangles (Specification 13.6): the samples that a finished run hands over are the larger picture's beyond the margin. Assumes nothing.
 use mathlib.Core.Path.{_≡_, _∙_}
 use Prim.Native.Nat.{ℕ, _+_, _*_, _/_, _<_}
 use native.Mathlib.Omega.{arith}
@@ -136,6 +136,6 @@ demand-3-at n small large e from t r z out room =
 pub demand-3 : (n : ℕ) (K : Calls n) → Demand3 n K
 demand-3 n K small large cs out p = demand-3-at n small large (p .start-accepted) (p .cut-from-larger) _ (end-reached n K small cs (p .nobody-altered-anything)) (p .run-finished) out (p .slice-fits)
 
--- document 01's planes and calls
+-- three planes and the calls of Specification 13.7
 pub document-demand-3 : DocumentDemand3
 document-demand-3 = demand-3 3 (documentCalls 3)

@@ -1,4 +1,4 @@
--- Each premise of demand 3 is needed: pictures, calls and a slice for which all others hold, and what is handed over is not the larger picture's. Assumes nothing.
+-- Each premise of the theorem on rectangles is needed: pictures, calls and a slice for which all others hold, and what is handed over is not the larger picture's. Assumes nothing.
 use mathlib.Core.Path.{_≡_, refl, sym, _∙_}
 use mathlib.Core.Bool.{true, false, cond, _&&_}
 use mathlib.Core.List.{List, [], _∷_}

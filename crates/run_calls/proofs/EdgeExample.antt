@@ -1,4 +1,4 @@
--- The premises of demand 3 hold for the pictures and calls of specs/EdgeExample.antt. Assumes nothing.
+-- The premises of the theorem on rectangles (Specification 13.6) hold for the pictures and calls of specs/EdgeExample.antt. Assumes nothing.
 use mathlib.Core.Path.{_≡_, refl, sym, ap, subst, _∙_}
 use mathlib.Core.List.{List, [], _∷_}
 use Prim.Native.Nat.{ℕ, _+_, _/_, _<_}

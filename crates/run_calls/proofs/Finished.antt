@@ -1,4 +1,4 @@
--- What a finished run hands over: demand 2's samples, and the first set's outside the filter region. Assumes nothing.
+-- What a finished run hands over: the smoothed samples (Specification 12.3), and the first set's outside the filter region. Assumes nothing.
 use mathlib.Core.Path.{_≡_, ap, _∙_}
 use mathlib.Core.Bool.{Bool, true, false, cond}
 use mathlib.Core.List.{List}
@@ -102,7 +102,7 @@ module _ (n : ℕ) (h : Handed) (t : State) (kept : KeptFrom n h t) where
   run-outside c x y p i o = run-staged c x y p i ∙ rw o
 
   module _ (z : T (finished (t .run))) where
-    -- finished, all of them: demand 2's samples
+    -- finished, all of them: the smoothed samples
     pub run-samples : SetupFits (h .setup) → (c x y : ℕ) → c < n → x < h .setup .filter .width → y < h .setup .filter .height → inner (layout (h .setup)) (source t) c x y ≡ smoothed n h c x y
     unfolding inner layoutOf
     run-samples fits c x y p i j =

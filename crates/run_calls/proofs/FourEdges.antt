@@ -1,4 +1,4 @@
--- The premises of demand 3 hold for the pictures and calls of specs/FourEdges.antt, and so does what it says of them. Assumes nothing.
+-- The premises of the theorem on rectangles (Specification 13.6) hold for the pictures and calls of specs/FourEdges.antt, and so does what it says of them. Assumes nothing.
 use mathlib.Core.Path.{_≡_, refl, sym, ap, subst, _∙_}
 use mathlib.Core.Bool.{true, false}
 use mathlib.Core.Logic.{_↔_}
@@ -242,6 +242,6 @@ four-edges-clear g = (
   ),
 )
 
--- what demand 3 says of them
+-- what the theorem says of them
 pub four-edges-delivered : FourEdgesDelivered
 four-edges-delivered g = document-demand-3 (smaller g) (larger g) (calls g) (slice g) (four-edges-met g)

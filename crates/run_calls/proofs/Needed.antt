@@ -87,7 +87,7 @@ own-sample : (small : Handed) (r : FinishedRun 3 (documentCalls 3) small) (x y :
     → resultAt (small .setup) (handedOver 3 (documentCalls 3) small r .out) 0 x y ≡ sampleAt 3 small 0 x y
 own-sample small r x y held = whole-picture 3 (documentCalls 3) small r .1 0 x y (omega arith) held
 
--- so where these are not the larger picture's, clear of the cut edges, demand 3's are not handed over
+-- so where these are not the larger picture's, clear of the cut edges, the theorem on rectangles's are not handed over
 pub not-delivered : (m : ℕ) (small large : Handed) (r : FinishedRun 3 (documentCalls 3) small) (x y : ℤ) → Holds (small .setup .filter) x y → Clear m (small .setup .filter) (large .setup .filter) x y
     → (sampleAt 3 small 0 x y ≡ sampleAt 3 large 0 x y → ⊥) → DeliversBeyond m 3 small large (handedOver 3 (documentCalls 3) small r) → ⊥
 not-delivered m small large r x y held clear unlike delivers = unlike (sym (own-sample small r x y held) ∙ delivers .samples 0 x y (omega arith) held clear)

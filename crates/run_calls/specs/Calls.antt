@@ -1,4 +1,4 @@
--- A run as a list of calls: the state that is lent, what each call answers and leaves, and that nobody altered anything (document 01, "Runs"). Definitions only.
+-- A run as a list of calls: the state that is passed on, what each call answers and leaves, and that calls are unaltered (Specification 13.7). Definitions only.
 use mathlib.Core.Path.{_≡_}
 use mathlib.Core.Bool.{cond}
 use mathlib.Core.List.{List, [], _∷_}
@@ -13,7 +13,7 @@ use Rattle.run_outcomes.specs.Result.{ResultOutcome, resultOutcome}
 
 -- ---- the start
 
--- start accepts what it is handed, n planes in each set (document 01 has 3)
+-- start accepts what it is handed, n planes in each set (the Specification has 3)
 abbrev pub StartAccepted : ℕ → Handed → Type 0
 StartAccepted n h = startOutcome n h .answer .number ≡ 0
 
@@ -24,7 +24,7 @@ leftByStart o second = record { run = o .answer .run; sigmas = o .sigmas; first 
 abbrev pub startState : ℕ → Handed → State
 startState n h = leftByStart (startOutcome n h) (h .second)
 
--- ---- document 01's calls after it
+-- ---- the calls after it (Specification 13.7)
 
 -- Each with everything that it is handed. Of functions other than these four only the number is told: whatever they are handed, the state itself included.
 pub data DocumentCall : Type 0 where
@@ -87,7 +87,7 @@ asAdvances (result r first second out) = 0
 asAdvances (start h) = 0
 asAdvances (other k) = 0
 
--- ---- calls of any kinds, of which document 01's are some
+-- ---- calls of any kinds, of which those of Specification 13.7 are some
 
 -- What an accepted call may do to the state: finish a band, advance, or nothing. The two numbers count accepted bands and accepted advances.
 pub data Effect (n : ℕ) (t : State) : ℕ → ℕ → State → Type 0 where
@@ -140,7 +140,7 @@ module _ (n : ℕ) (K : Calls n) where
   end t [] = t
   end t (c ∷ cs) = end (stateAfter t c) cs
 
-  -- nobody altered anything (document 01's own term): each accepted call was lent what the accepted calls before it left; a refused one may be lent anything
+  -- unaltered (Specification 13.7): each accepted call was lent what the accepted calls before it left; a refused one may be lent anything
   abbrev pub Unaltered : State → List (K .Call) → Type 0
   Unaltered t [] = Unit {0}
   Unaltered t (c ∷ cs) = (K .number (K .answer c) ≡ 0 → K .Lent t c) × Unaltered (stateAfter t c) cs

@@ -1,4 +1,4 @@
--- What demand 3 gives at once: a whole picture, two rectangles of one picture, every order and height of bands. Statements only.
+-- What the theorem on rectangles gives at once (Specification 13.8): a whole picture, two rectangles of one picture, every order and height of bands. Statements only.
 use mathlib.Core.Path.{_≡_}
 use mathlib.Core.List.{List}
 use Prim.Native.Nat.{ℕ, _<_}
@@ -47,7 +47,7 @@ module _ (n : ℕ) (K : Calls n) where
   abbrev pub handedOver : (h : Handed) → FinishedRun n K h → ResultOutcome
   handedOver h r = resultAfter n K h (r .calls) (r .slice)
 
-  -- A rectangle that is the whole picture: every filtered sample is demand 2's, without a margin.
+  -- A rectangle that is the whole picture: every filtered sample is the smoothed one, without a margin.
   abbrev pub WholePicture : Type 0
   WholePicture = (h : Handed) (r : FinishedRun n K h) → (handedOver h r .number ≡ 0)
       × ((c : ℕ) (x y : ℤ) → c < n → Holds (h .setup .filter) x y → resultAt (h .setup) (handedOver h r .out) c x y ≡ sampleAt n h c x y)

@@ -1,4 +1,4 @@
--- A smaller and a larger picture with a list of calls for which all premises of demand 3 hold, whatever the samples and the weights. Definitions only.
+-- A smaller and a larger picture with a list of calls for which all premises of the theorem on rectangles (Specification 13.6) hold, whatever the samples and the weights. Definitions only.
 use mathlib.Core.List.{List, [], _∷_}
 use Prim.Native.Nat.{ℕ, suc}
 use lib.IntN.{ℤ, pos, negsuc}
@@ -73,7 +73,7 @@ module _ (p : Picture) (weights : List (List Float)) where
 abbrev pub PremisesMet : Type 0
 PremisesMet = (p : Picture) (weights : List (List Float)) → Premises 3 (documentCalls 3) (smaller p weights) (larger p weights) (calls p weights) (slice p weights)
 
--- and there are places that demand 3 speaks of: column 1 is clear of the cut edge
+-- and there are places that the theorem speaks of: column 1 is clear of the cut edge
 abbrev pub PlaceClear : Type 0
 PlaceClear = (p : Picture) (weights : List (List Float))
     → Holds (smaller p weights .setup .filter) (pos 1) (pos 0)

@@ -1,4 +1,4 @@
--- Demand 3's premises met by a picture with all four edges cut: both filters, two passes of three bands each, sigmas from a grid, image regions that differ and
+-- The premises of the theorem on rectangles (Specification 13.6), met by a picture with all four edges cut: both filters, two passes of three bands each, sigmas from a grid, image regions that differ and
 -- reach below 0, full planes for the smaller one and the filter region alone for the larger one; and a refused start, a refused other call. Definitions only.
 use mathlib.Core.Logic.{_↔_}
 use mathlib.Core.List.{List, [], _∷_}
@@ -136,6 +136,6 @@ FourEdgesClear = (g : Given) → let small = smaller g .setup in
     let large = larger g .setup in
     T (inside (small .filter) middle) × ((x y : ℤ) → Clear (margin (small .settings)) (small .filter) (large .filter) x y ↔ Holds middle x y)
 
--- so demand 3 says of them
+-- so the theorem says of them
 abbrev pub FourEdgesDelivered : Type 0
 FourEdgesDelivered = (g : Given) → Delivers 3 (smaller g) (larger g) (resultAfter 3 (documentCalls 3) (smaller g) (calls g) (slice g))

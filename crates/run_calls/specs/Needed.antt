@@ -1,4 +1,4 @@
--- What demand 3 supposes is needed: without any one of its premises, or with a margin one smaller, it is false. Two premises, in document 01's words, say more than the
+-- What the theorem on rectangles supposes is needed (Specification 13.9): without any one of its premises, or with a margin one smaller, it is false. Two premises, in the Specification's words, say more than the
 -- proof uses: what an accepted result among the calls was lent does not matter, since it leaves the state, and of the larger picture's numbers 4 to 9 only 6 does. Statements only.
 use mathlib.Core.Path.{_≡_}
 use mathlib.Core.Logic.{_↔_}
@@ -25,7 +25,7 @@ use Rattle.run_calls.specs.Theorem.{Unrefused, Delivers, DeliversBeyond,
 pub data Premise : Type 0 where
   start-accepted unrefused contained same-passes inputs-agree sigmas-agree nobody-altered-anything run-finished slice-fits : Premise
 
--- what each says of a smaller and a larger picture, a list of document 01's calls and a slice
+-- what each says of a smaller and a larger picture, a list of the Specification's calls and a slice
 abbrev pub Says : Premise → Handed → Handed → List DocumentCall → List Float → Type 0
 Says start-accepted small large cs out = StartAccepted 3 small
 Says unrefused small large cs out = Unrefused 3 large
@@ -42,7 +42,7 @@ abbrev pub PremisesSay : Type 0
 PremisesSay = (small large : Handed) (cs : List DocumentCall) (out : List Float)
     → Premises 3 (documentCalls 3) small large cs out ↔ ((p : Premise) → Says p small large cs out)
 
--- demand 3 with something else in the place of one premise
+-- the theorem on rectangles with something else in the place of one premise
 abbrev pub Demand3But : Premise → (Handed → Handed → List DocumentCall → List Float → Type 0) → Type 0
 Demand3But q Instead = (small large : Handed) (cs : List DocumentCall) (out : List Float)
     → ((p : Premise) → (p ≡ q → ⊥) → Says p small large cs out) → Instead small large cs out

@@ -1,4 +1,4 @@
--- Samples by their places, which count as left and top do, signed (document 01, "Runs"). Definitions only.
+-- Samples by their places, which count as left and top do, signed (Specification 2.1). Definitions only.
 use mathlib.Core.Path.{_≡_}
 use mathlib.Core.List.{List}
 use Prim.Native.Nat.{ℕ, _/_}
@@ -27,7 +27,7 @@ module _ (n : ℕ) (h : Handed) where
   abbrev pub input : Picture
   input = inner (layout (h .setup)) (startLeaves n h)
 
-  -- demand 2's samples, a term of document 01's own: that through all passes
+  -- the smoothed samples (Specification 12.3): that through all passes
   abbrev pub smoothed : Picture
   smoothed = passes (area (h .setup) (sigmasFilled n h)) (plan n (h .setup .settings)) input
 
@@ -35,7 +35,7 @@ module _ (n : ℕ) (h : Handed) where
   abbrev pub inputAt : ℕ → ℤ → ℤ → Float
   inputAt = at (h .setup .filter) input
 
-  -- demand 2's sample at a place of the filter region
+  -- the smoothed sample at a place of the filter region
   abbrev pub sampleAt : ℕ → ℤ → ℤ → Float
   sampleAt = at (h .setup .filter) smoothed
 
@@ -47,7 +47,7 @@ module _ (n : ℕ) (h : Handed) where
 abbrev pub resultAt : Setup → List Float → ℕ → ℤ → ℤ → Float
 resultAt s out = at (resultRegion s) (of (resultRegion s .width) (resultRegion s .height) out)
 
--- Between the place and each cut edge of the smaller region (a term of document 01, demand 3) lie at least m samples: an edge is cut if it does not lie on the same side of the larger region.
+-- Between the place and each cut edge of the smaller region (Specification 13.5) lie at least m samples: an edge is cut if it does not lie on the same side of the larger region.
 pub record Clear (m : ℕ) (small large : Region) (x y : ℤ) : Type 0 where
   pub left : (columns small .start ≡ columns large .start → ⊥) → T (leZ (columns small .start +ℤ pos m) x)
   pub right : (columns small .end ≡ columns large .end → ⊥) → T (ltZ (x +ℤ pos m) (columns small .end))

@@ -1,4 +1,4 @@
--- What is promised beside the contracts (document 01, demand 3 and what goes with it), each statement by its name. proofs/Promises.antt proves the whole of it.
+-- What is promised beside the contracts (Specification 13), each statement by its name. proofs/Promises.antt proves the whole of it.
 use Prim.Native.Nat.{ℕ}
 use Rattle.mirror.specs.Statements.{MirrorInside, MirrorPeriodic, MirrorLow, MirrorHigh, MirrorCut}
 use Rattle.region_arithmetic.specs.Laws.{IntersectionInside, IntersectionGreatest, AlignedContains, AlignedLeast, ShrunkHas, ShrunkTouched}
@@ -22,7 +22,7 @@ use Rattle.run_calls.specs.FourEdges.{FourEdgesMet, FourEdgesClear, Four
 use Rattle.run_calls.specs.Needed.{PremisesSay, EachNeeded, GaborMarginNeeded, StepMarginNeeded, InputsNeeded, SigmasNeeded, UnalteredNeeded}
 
 pub record Promises : Type 1 where
-  -- demand 3, for document 01's planes and calls, and for any
+  -- the theorem on rectangles (Specification 13.6), for three planes and the calls of 13.7, and for any
   pub document-demand-3 : DocumentDemand3
   pub demand-3 : (n : ℕ) (K : Calls n) → Demand3 n K
   -- of a state, by whatever calls, and lists lead to such states

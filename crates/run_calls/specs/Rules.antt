@@ -1,4 +1,4 @@
--- The run rule, the records to which accepted calls lead, and what refused calls leave (document 01, "Runs" and "Eleven numbers"). Statements only.
+-- The run rule, the records to which accepted calls lead, and what refused calls leave (Specification 3.3, 12.8, 12.13). Statements only.
 use mathlib.Core.Path.{_≡_}
 use mathlib.Core.Logic.{_↔_}
 use mathlib.Core.List.{List}
@@ -14,9 +14,9 @@ use Rattle.run_outcomes.specs.Band.{State, bandOutcome, advanceOutcome}
 use Rattle.run_outcomes.specs.Result.{resultOutcome}
 use Rattle.run_calls.specs.Calls.{StartAccepted, startState, DocumentCall, band, advance, result, start, other, answer, numberIn, leftBy, LentState, Calls, documentCalls, stateAfter, end, Unaltered, AllAccepted, bandsIn, advancesIn}
 
--- ---- document 01's calls
+-- ---- the calls (Specification 13.7)
 
--- the state that a start of n planes (document 01 has 3) leaves is that of its outcome, and the second set as it was handed over
+-- the state that a start of n planes (the Specification has 3) leaves is that of its outcome, and the second set as it was handed over
 abbrev pub StartTied : Type 0
 StartTied = (n : ℕ) (h : Handed) → let t = startState n h in
     let o = startOutcome n h in
@@ -57,7 +57,7 @@ module _ (n : ℕ) (K : Calls n) where
   EndFits = (h : Handed) → StartAccepted n h → (cs : List (K .Call)) → Unaltered n K (startState n h) cs
       → let r = end n K (startState n h) cs .run in (r .setup ≡ h .setup) × T (runFits r) × (length (r .done) ≡ maxBands)
 
--- document 01's three planes and its calls
+-- three planes and the calls of Specification 13.7
 abbrev pub DocumentCountRule : Type 0
 DocumentCountRule = CountRule 3 (documentCalls 3)
 
@@ -71,7 +71,7 @@ ReachedFits = (s : Setup) (r : Run) → T (setupFits s) → Reached s r → T (r
 abbrev pub FitsReached : Type 0
 FitsReached = (r : Run) → length (r .done) ≡ maxBands → T (runFits r) → Reached (r .setup) r
 
--- a list of document 01's calls after an accepted start, all accepted and lent what those before them left, that ends in the record r
+-- a list of calls (Specification 13.7) after an accepted start, all accepted and lent what those before them left, that ends in the record r
 pub record LeadsTo (n : ℕ) (h : Handed) (cs : List DocumentCall) (r : Run) : Type 0 where
   pub accepted : AllAccepted n (documentCalls n) cs
   pub unaltered : Unaltered n (documentCalls n) (startState n h) cs

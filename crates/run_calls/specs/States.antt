@@ -1,4 +1,4 @@
--- Demand 3 of a state, by whatever calls its run came to it, and that lists of calls lead to such states (document 01, demand 3). Statements only.
+-- The theorem on rectangles of a state, by whatever calls its run came to it, and that lists of calls lead to such states (the Specification, the theorem on rectangles). Statements only.
 use mathlib.Core.Path.{_≡_}
 use mathlib.Core.List.{List}
 use Prim.Native.Nat.{ℕ}
@@ -28,7 +28,7 @@ abbrev pub HandedOverAt : Type 0
 HandedOverAt = (n : ℕ) (h : Handed) → StartAccepted n h → (t : State) → StateReached n h t → T (finished (t .run))
     → (out : List Float) → length out ≡ resultLength n (h .setup) → (resultOn n t out .number ≡ 0) × (resultOn n t out .out ≡ resultOf n (layout (h .setup)) (source t))
 
--- demand 3, of which the theorem is the case of a list
+-- the theorem on rectangles, of which the theorem is the case of a list
 abbrev pub Demand3At : Type 0
 Demand3At = (n : ℕ) (small large : Handed) → StartAccepted n small → CutFrom n small large → (t : State) → StateReached n small t → T (finished (t .run))
     → (out : List Float) → length out ≡ resultLength n (small .setup) → Delivers n small large (resultOn n t out)

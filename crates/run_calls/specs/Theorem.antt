@@ -1,4 +1,4 @@
--- Demand 3: a rectangle cut from a larger picture, run by any list of calls, hands over the larger picture's samples beyond the margin. Statements only.
+-- The theorem on rectangles (Specification 13.6): a rectangle cut from a larger picture, run by any list of calls, hands over the larger picture's samples beyond the margin. Statements only.
 use mathlib.Core.Path.{_≡_}
 use mathlib.Core.List.{List}
 use Prim.Native.Nat.{ℕ, _<_}
@@ -17,7 +17,7 @@ use Rattle.run_outcomes.specs.Result.{ResultOutcome, resultOutcome}
 use Rattle.run_calls.specs.Calls.{StartAccepted, startState, Calls, documentCalls, end, Unaltered}
 use Rattle.run_calls.specs.Places.{Clear, inputAt, sampleAt, sigmaAt, resultAt}
 
--- a picture of n planes (document 01 has 3), given by all that start is handed, would not be refused under 4 to 9
+-- a picture of n planes (the Specification has 3), given by all that start is handed, would not be refused under 4 to 9
 abbrev pub Unrefused : ℕ → Handed → Type 0
 Unrefused n h = firstOf (pictureChecks n h) ≡ 0
 
@@ -47,13 +47,13 @@ pub record DeliversBeyond (m n : ℕ) (small large : Handed) (result : ResultOut
 abbrev pub Delivers : ℕ → Handed → Handed → ResultOutcome → Type 0
 Delivers n small large result = DeliversBeyond (margin (small .setup .settings)) n small large result
 
--- n is the number of planes, and K has the kinds of calls: 3 and `documentCalls 3` are document 01's.
+-- n is the number of planes, and K has the kinds of calls: 3 and `documentCalls 3` are those of Specification 13.6.
 module _ (n : ℕ) (K : Calls n) where
   -- the result call after a start and a list of calls, lent the state that they left and a slice
   abbrev pub resultAfter : Handed → List (K .Call) → List Float → ResultOutcome
   resultAfter h cs out = resultOn n (end n K (startState n h) cs) out
 
-  -- What demand 3 supposes of a smaller and a larger picture, a list of calls and a slice, in its own order.
+  -- What the theorem supposes of a smaller and a larger picture, a list of calls and a slice, in its own order.
   pub record Premises (small large : Handed) (cs : List (K .Call)) (out : List Float) : Type 0 where
     pub start-accepted : StartAccepted n small
     pub cut-from-larger : CutFrom n small large
@@ -64,6 +64,6 @@ module _ (n : ℕ) (K : Calls n) where
   abbrev pub Demand3 : Type 0
   Demand3 = (small large : Handed) (cs : List (K .Call)) (out : List Float) → Premises small large cs out → Delivers n small large (resultAfter small cs out)
 
--- that of document 01: three planes and its calls
+-- that of Specification 13.6: three planes and the calls of 13.7
 abbrev pub DocumentDemand3 : Type 0
 DocumentDemand3 = Demand3 3 (documentCalls 3)
