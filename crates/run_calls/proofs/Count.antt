@@ -21,8 +21,8 @@ use Rattle.run_record.specs.RunFits.{RunFits}
 use Rattle.run_outcomes.specs.Start.{startLeaves}
 use Rattle.run_outcomes.specs.Band.{State}
 use Rattle.run_outcomes.proofs.Laws.{BandFits, band-number, band-leaves, band-fits, AdvanceFits, advance-number, advance-leaves, advance-fits}
-use Rattle.run_calls.specs.Calls.{startState, Effect, oneBand, oneAdvance, nothing, Calls, documentCalls, stateAfter, end, Unaltered, bandsIn, advancesIn}
-use Rattle.run_calls.specs.Rules.{CountRule, DocumentCountRule}
+use Rattle.run_calls.specs.Calls.{startState, Effect, oneBand, oneAdvance, nothing, Calls, libraryCalls, stateAfter, end, Unaltered, bandsIn, advancesIn}
+use Rattle.run_calls.specs.Rules.{CountRule, LibraryCountRule}
 use Rattle.run_calls.proofs.Sound.{Sound}
 use Rattle.run_calls.proofs.Lists.{after-kept, start-state, start-sound, after-start}
 
@@ -139,5 +139,5 @@ count-rule n K h e cs u =
       λ w. rw (eq-eqb (r .pass) (passCount (r .setup)) (omega (arith, c .advances, first .1, w .1))) tt,
     )
 
-pub document-count-rule : DocumentCountRule
-document-count-rule = count-rule 3 (documentCalls 3)
+pub library-count-rule : LibraryCountRule
+library-count-rule = count-rule 3 (libraryCalls 3)

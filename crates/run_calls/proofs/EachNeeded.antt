@@ -36,7 +36,7 @@ use Rattle.run_setup.specs.Setup.{bandCount, numbersFit, setupFits, sized}
 use Rattle.run_record.specs.Record.{isDone, started, strayDone, runFits}
 use Rattle.run_outcomes.specs.Start.{Handed, pictureChecks, startChecks, startLeaves, sigmasFilled, noSetup, startOutcome}
 use Rattle.run_outcomes.specs.Result.{resultChecks, resultOutcome}
-use Rattle.run_calls.specs.Calls.{DocumentCall, documentCalls, end}
+use Rattle.run_calls.specs.Calls.{LibraryCall, libraryCalls, end}
 use Rattle.run_calls.specs.Places.{Clear, inputAt, sampleAt, sigmaAt}
 use Rattle.run_calls.specs.Theorem.{resultAfter}
 use Rattle.run_calls.specs.Corollaries.{FinishedRun}
@@ -99,7 +99,7 @@ start-others nobody-altered-anything n = tt
 start-others run-finished n = tt
 start-others slice-fits n = refl
 
-no-record : resultAfter 3 (documentCalls 3) unstarted [] zeros .number ≡ 9
+no-record : resultAfter 3 (libraryCalls 3) unstarted [] zeros .number ≡ 9
 unfolding startOutcome startChecks pictureChecks pictured measured place side inside badSides badSettings sizesOf tableFits gridsFit gridStart cells someBelow badGrid bandCount layoutOf setOf tab started end resultOutcome resultChecks sized runFits setupFits
 no-record = refl
 
@@ -117,7 +117,7 @@ finish-others nobody-altered-anything n = tt
 finish-others run-finished n = absurd (n refl)
 finish-others slice-fits n = refl
 
-unfinished : resultAfter 3 (documentCalls 3) blurred [] zeros .number ≡ 11
+unfinished : resultAfter 3 (libraryCalls 3) blurred [] zeros .number ≡ 11
 unfolding startOutcome startChecks startLeaves pictureChecks pictured measured place side inside badSides badSettings sizesOf tableFits gridsFit gridStart cells someBelow badGrid bandCount layoutOf setOf tab started end plan steps resultOutcome resultChecks runFits strayDone isDone numbersFit setupFits sized
 unfinished = refl
 
@@ -135,7 +135,7 @@ slice-others nobody-altered-anything n = tt
 slice-others run-finished n = tt
 slice-others slice-fits n = absurd (n refl)
 
-no-room : resultAfter 3 (documentCalls 3) plain [] [] .number ≡ 7
+no-room : resultAfter 3 (libraryCalls 3) plain [] [] .number ≡ 7
 unfolding startOutcome startChecks startLeaves pictureChecks pictured measured place side inside badSides badSettings sizesOf tableFits gridsFit gridStart cells someBelow badGrid bandCount layoutOf setOf tab started end resultOutcome resultChecks sized
 no-room = refl
 
@@ -153,7 +153,7 @@ passes-others nobody-altered-anything n = tt
 passes-others run-finished n = tt
 passes-others slice-fits n = refl
 
-plain-run : FinishedRun 3 (documentCalls 3) plain
+plain-run : FinishedRun 3 (libraryCalls 3) plain
 unfolding startOutcome startChecks pictureChecks pictured measured place side inside badSides badSettings sizesOf tableFits gridsFit gridStart cells someBelow badGrid bandCount layoutOf setOf tab started plan steps end
 plain-run = record { accepted = refl; calls = []; unaltered = tt; ended = tt; slice = zeros; room = refl }
 

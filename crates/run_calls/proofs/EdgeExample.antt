@@ -25,7 +25,7 @@ use Rattle.run_setup.specs.Setup.{bandCount, numbersFit, setupFits, sized}
 use Rattle.run_record.specs.Record.{isDone, started, marked, advanced, bandMissing, finished, strayDone, runFits}
 use Rattle.run_outcomes.specs.Start.{pictureChecks, startChecks, startLeaves, sigmasFilled, startOutcome}
 use Rattle.run_outcomes.specs.Band.{State, bandChecks, bandOutcome, advanceOutcome}
-use Rattle.run_calls.specs.Calls.{StartAccepted, DocumentCall, band, advance, documentCalls, stateAfter, end, Unaltered}
+use Rattle.run_calls.specs.Calls.{StartAccepted, LibraryCall, band, advance, libraryCalls, stateAfter, end, Unaltered}
 use Rattle.run_calls.specs.Places.{inputAt, sigmaAt}
 use Rattle.run_calls.specs.Theorem.{CutFrom, Unrefused, Premises}
 use Rattle.run_calls.specs.EdgeExample.{larger, smaller, calls, slice, EdgePremisesMet, EdgePlaceClear}
@@ -71,18 +71,18 @@ module _ (p : Picture) (scales : List Float) (border sigma : Float) where
   from = record { unrefused = unrefused; contained = tt; same-passes = refl; inputs-agree = λ c x y h held. inputs x y held c h; sigmas-agree = λ on x y held. sigmas x y held }
 
   -- the calls, after a state
-  abbrev after : State → List DocumentCall
+  abbrev after : State → List LibraryCall
   after t = band t 0 ∷ advance (marked (started (smaller p scales border sigma .setup)) 0) ∷ []
 
-  premises : Premises 3 (documentCalls 3) (smaller p scales border sigma) (larger p scales border sigma) (calls p scales border sigma) (slice p scales border sigma)
+  premises : Premises 3 (libraryCalls 3) (smaller p scales border sigma) (larger p scales border sigma) (calls p scales border sigma) (slice p scales border sigma)
   unfolding startLeaves bandOutcome advanceOutcome sigmasFilled blockSigmas tab stateAfter end started marked advanced bandChecks runFits strayDone bandMissing isDone numbersFit setupFits bandCount sized someBelow pictured measured place side inside layoutOf plan steps setOf
   premises =
       let begins = sym (start-state 3 (smaller p scales border sigma) accepted) in
       record {
         start-accepted = accepted;
         cut-from-larger = from;
-        nobody-altered-anything = subst (λ (t : State). Unaltered 3 (documentCalls 3) t (after t)) begins (λ e. refl, (λ e. refl, tt));
-        run-finished = subst (λ (t : State). T (finished (end 3 (documentCalls 3) t (after t) .run))) begins tt;
+        nobody-altered-anything = subst (λ (t : State). Unaltered 3 (libraryCalls 3) t (after t)) begins (λ e. refl, (λ e. refl, tt));
+        run-finished = subst (λ (t : State). T (finished (end 3 (libraryCalls 3) t (after t) .run))) begins tt;
         slice-fits = refl;
       }
 

@@ -22,7 +22,7 @@ use Rattle.run_setup.specs.Setup.{bandCount, numbersFit, setupFits, sized}
 use Rattle.run_record.specs.Record.{isDone, started, marked, advanced, bandMissing, strayDone, runFits}
 use Rattle.run_outcomes.specs.Start.{pictureChecks, startChecks, startLeaves, sigmasFilled, startOutcome}
 use Rattle.run_outcomes.specs.Band.{bandChecks, bandOutcome, advanceOutcome}
-use Rattle.run_calls.specs.Calls.{StartAccepted, documentCalls, stateAfter, end}
+use Rattle.run_calls.specs.Calls.{StartAccepted, libraryCalls, stateAfter, end}
 use Rattle.run_calls.specs.Places.{inputAt}
 use Rattle.run_calls.specs.Theorem.{CutFrom, Unrefused, Premises}
 use Rattle.run_calls.specs.Example.{larger, smaller, calls, slice, PremisesMet, PlaceClear}
@@ -51,7 +51,7 @@ module _ (p : Picture) (weights : List (List Float)) where
   unfolding inside
   from = record { unrefused = unrefused; contained = tt; same-passes = refl; inputs-agree = inputs; sigmas-agree = λ on. absurd on }
 
-  premises : Premises 3 (documentCalls 3) (smaller p weights) (larger p weights) (calls p weights) (slice p weights)
+  premises : Premises 3 (libraryCalls 3) (smaller p weights) (larger p weights) (calls p weights) (slice p weights)
   unfolding startOutcome startLeaves bandOutcome advanceOutcome startChecks pictureChecks badSides badSettings sizesOf tableFits gridsFit gridStart cells badGrid sigmasFilled stateAfter end started marked advanced bandChecks runFits strayDone bandMissing isDone numbersFit setupFits bandCount sized someBelow pictured measured place side inside layoutOf plan steps setOf tab
   premises = record {
     start-accepted = accepted;

@@ -32,14 +32,14 @@ use Rattle.run_record.proofs.Laws.{band-open, pass-over}
 use Rattle.run_outcomes.specs.Start.{pictureChecks, startChecks, startLeaves, sigmasFilled, startOutcome}
 use Rattle.run_outcomes.specs.Band.{State}
 use Rattle.run_outcomes.proofs.Laws.{band-number, band-leaves, band-accepted, advance-number, advance-leaves, advance-accepted}
-use Rattle.run_calls.specs.Calls.{StartAccepted, DocumentCall, band, advance, start, other, answer, numberIn, leftBy, documentCalls, stateAfter, end, Unaltered}
+use Rattle.run_calls.specs.Calls.{StartAccepted, LibraryCall, band, advance, start, other, answer, numberIn, leftBy, libraryCalls, stateAfter, end, Unaltered}
 use Rattle.run_calls.specs.Places.{inputAt, sigmaAt}
 use Rattle.run_calls.specs.Theorem.{CutFrom, Unrefused, Premises}
 use Rattle.run_calls.specs.FourEdges.{Given, larger, smaller, empty, begun, one, two, three, turned, four, five, six, accepted-calls, calls, slice, FourEdgesMet, FourEdgesClear, FourEdgesDelivered}
 use Rattle.run_calls.proofs.Sound.{Sound}
 use Rattle.run_calls.proofs.Lists.{after-kept, start-state, start-sound}
 use Rattle.run_calls.proofs.Places.{counted, counted-from}
-use Rattle.run_calls.proofs.Demand3.{document-demand-3}
+use Rattle.run_calls.proofs.Theorem.{library-theorem}
 
 -- ---- the calls
 
@@ -48,10 +48,10 @@ record Here (first : List Float) (t : State) (r : Run) : Type 0 where
   sound : Sound 3 first t
   run : t .run ≡ r
 
-abbrev next : State → DocumentCall → State
-next t c = stateAfter 3 (documentCalls 3) t c
+abbrev next : State → LibraryCall → State
+next t c = stateAfter 3 (libraryCalls 3) t c
 
-after-accepted : (t : State) (c : DocumentCall) → numberIn (answer 3 c) ≡ 0 → next t c ≡ leftBy t (answer 3 c)
+after-accepted : (t : State) (c : LibraryCall) → numberIn (answer 3 c) ≡ 0 → next t c ≡ leftBy t (answer 3 c)
 unfolding stateAfter
 after-accepted t c e = rw (eq-eqb (numberIn (answer 3 c)) 0 e)
 
@@ -61,7 +61,7 @@ band-here first t r k h o =
     let i = h .sound in
     let taken = band-number 3 t k ∙ band-accepted 3 t k (i .first-length) (i .second-length) (i .sigma-length) (i .run) (rw (h .run) (band-open r k o)) in
     record {
-      sound = after-kept 3 (documentCalls 3) first t (band t k) i (λ e. refl) .sound;
+      sound = after-kept 3 (libraryCalls 3) first t (band t k) i (λ e. refl) .sound;
       run = ap (λ (u : State). u .run) (after-accepted t (band t k) taken ∙ band-leaves 3 t k taken) ∙ ap (λ (q : Run). marked q k) (h .run);
     }
 
@@ -71,22 +71,22 @@ advance-here first t r h o =
     let i = h .sound in
     let taken = advance-number (t .run) ∙ advance-accepted (t .run) (i .run) (rw (h .run) (pass-over r o)) in
     record {
-      sound = after-kept 3 (documentCalls 3) first t (advance (t .run)) i (λ e. refl) .sound;
+      sound = after-kept 3 (libraryCalls 3) first t (advance (t .run)) i (λ e. refl) .sound;
       run = ap (λ (u : State). u .run) (after-accepted t (advance (t .run)) taken) ∙ advance-leaves (t .run) taken ∙ ap advanced (h .run);
     }
 
 -- a refused call before a list
-refused-first : (t : State) (c : DocumentCall) → (numberIn (answer 3 c) ≡ 0 → ⊥) → next t c ≡ t
+refused-first : (t : State) (c : LibraryCall) → (numberIn (answer 3 c) ≡ 0 → ⊥) → next t c ≡ t
 unfolding stateAfter
 refused-first t c e = rw (ne-eqb (numberIn (answer 3 c)) 0 e)
 
-module _ (t : State) (c : DocumentCall) (cs : List DocumentCall) (e : numberIn (answer 3 c) ≡ 0 → ⊥) where
-  unaltered-after : Unaltered 3 (documentCalls 3) t cs → Unaltered 3 (documentCalls 3) t (c ∷ cs)
-  unaltered-after u = (λ z. absurd (e z), subst (λ (s : State). Unaltered 3 (documentCalls 3) s cs) (sym (refused-first t c e)) u)
+module _ (t : State) (c : LibraryCall) (cs : List LibraryCall) (e : numberIn (answer 3 c) ≡ 0 → ⊥) where
+  unaltered-after : Unaltered 3 (libraryCalls 3) t cs → Unaltered 3 (libraryCalls 3) t (c ∷ cs)
+  unaltered-after u = (λ z. absurd (e z), subst (λ (s : State). Unaltered 3 (libraryCalls 3) s cs) (sym (refused-first t c e)) u)
 
-  end-after : end 3 (documentCalls 3) t (c ∷ cs) ≡ end 3 (documentCalls 3) t cs
+  end-after : end 3 (libraryCalls 3) t (c ∷ cs) ≡ end 3 (libraryCalls 3) t cs
   unfolding end
-  end-after = ap (λ (s : State). end 3 (documentCalls 3) s cs) (refused-first t c e)
+  end-after = ap (λ (s : State). end 3 (libraryCalls 3) s cs) (refused-first t c e)
 
 module _ (g : Given) where
   accepted : StartAccepted 3 (smaller g)
@@ -142,7 +142,7 @@ module _ (g : Given) where
       band-here leaves (five g) (marked (marked (advanced r3) 1) 2) 0
       (band-here leaves (four g) (marked (advanced r3) 1) 2 (band-here leaves (turned g) (advanced r3) 1 here-4 (open-1 .0)) (open-1 .1)) (open-1 .2)
 
-  ends : end 3 (documentCalls 3) (begun g) (accepted-calls g) .run ≡ advanced r6
+  ends : end 3 (libraryCalls 3) (begun g) (accepted-calls g) .run ≡ advanced r6
   unfolding end
   ends = advance-here leaves (six g) r6 here-6 (open-1 .3) .run
 
@@ -190,10 +190,10 @@ module _ (g : Given) where
   other-taken : numberIn (answer 3 (other 9)) ≡ 0 → ⊥
   other-taken e = omega (arith, e)
 
-  unaltered : Unaltered 3 (documentCalls 3) (begun g) (accepted-calls g)
+  unaltered : Unaltered 3 (libraryCalls 3) (begun g) (accepted-calls g)
   unaltered = (λ e. refl, (λ e. refl, (λ e. refl, (λ e. refl, (λ e. refl, (λ e. refl, (λ e. refl, (λ e. refl, tt))))))))
 
-  premises : Premises 3 (documentCalls 3) (smaller g) (larger g) (calls g) (slice g)
+  premises : Premises 3 (libraryCalls 3) (smaller g) (larger g) (calls g) (slice g)
   unfolding layoutOf setOf tab
   premises =
       let same = end-after (begun g) (start (empty g)) (other 9 ∷ accepted-calls g) start-taken ∙ end-after (begun g) (other 9) (accepted-calls g) other-taken in
@@ -244,4 +244,4 @@ four-edges-clear g = (
 
 -- what the theorem says of them
 pub four-edges-delivered : FourEdgesDelivered
-four-edges-delivered g = document-demand-3 (smaller g) (larger g) (calls g) (slice g) (four-edges-met g)
+four-edges-delivered g = library-theorem (smaller g) (larger g) (calls g) (slice g) (four-edges-met g)

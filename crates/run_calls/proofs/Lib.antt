@@ -6,7 +6,7 @@ pub mod Count
 pub mod Reached
 pub mod Places
 pub mod Finished
-pub mod Demand3
+pub mod Theorem
 pub mod Corollaries
 pub mod Example
 pub mod EdgeExample

@@ -33,7 +33,7 @@ use Rattle.run_record.proofs.Laws.{band-open}
 use Rattle.run_outcomes.specs.Start.{Handed, startLeaves, sigmasFilled}
 use Rattle.run_outcomes.specs.Band.{State, bandOutcome}
 use Rattle.run_outcomes.proofs.Laws.{band-number, band-accepted}
-use Rattle.run_calls.specs.Calls.{startState, DocumentCall, band, advance, answer, numberIn, leftBy, documentCalls, stateAfter, end, Unaltered}
+use Rattle.run_calls.specs.Calls.{startState, LibraryCall, band, advance, answer, numberIn, leftBy, libraryCalls, stateAfter, end, Unaltered}
 use Rattle.run_calls.specs.Places.{Clear, inputAt, sampleAt, sigmaAt, resultAt}
 use Rattle.run_calls.specs.Theorem.{DeliversBeyond, Premises, resultOn}
 use Rattle.run_calls.specs.Corollaries.{FinishedRun, handedOver}
@@ -48,7 +48,7 @@ use Rattle.run_calls.proofs.Places.{wider}
 
 -- ---- the premises one by one
 
-say : {small large : Handed} {cs : List DocumentCall} {out : List Float} → Premises 3 (documentCalls 3) small large cs out → (p : Premise) → Says p small large cs out
+say : {small large : Handed} {cs : List LibraryCall} {out : List Float} → Premises 3 (libraryCalls 3) small large cs out → (p : Premise) → Says p small large cs out
 say premises start-accepted = premises .start-accepted
 say premises unrefused = premises .cut-from-larger .unrefused
 say premises contained = premises .cut-from-larger .contained
@@ -73,7 +73,7 @@ premises-say small large cs out = (
 
 -- ---- what a run hands over are its own picture's samples
 
-abbrev pub run-of : {small large : Handed} {cs : List DocumentCall} {out : List Float} → Premises 3 (documentCalls 3) small large cs out → FinishedRun 3 (documentCalls 3) small
+abbrev pub run-of : {small large : Handed} {cs : List LibraryCall} {out : List Float} → Premises 3 (libraryCalls 3) small large cs out → FinishedRun 3 (libraryCalls 3) small
 run-of {small} {large} {cs} {out} p = record {
   accepted = p .start-accepted;
   calls = cs;
@@ -83,13 +83,13 @@ run-of {small} {large} {cs} {out} p = record {
   room = p .slice-fits;
 }
 
-own-sample : (small : Handed) (r : FinishedRun 3 (documentCalls 3) small) (x y : ℤ) → Holds (small .setup .filter) x y
-    → resultAt (small .setup) (handedOver 3 (documentCalls 3) small r .out) 0 x y ≡ sampleAt 3 small 0 x y
-own-sample small r x y held = whole-picture 3 (documentCalls 3) small r .1 0 x y (omega arith) held
+own-sample : (small : Handed) (r : FinishedRun 3 (libraryCalls 3) small) (x y : ℤ) → Holds (small .setup .filter) x y
+    → resultAt (small .setup) (handedOver 3 (libraryCalls 3) small r .out) 0 x y ≡ sampleAt 3 small 0 x y
+own-sample small r x y held = whole-picture 3 (libraryCalls 3) small r .1 0 x y (omega arith) held
 
--- so where these are not the larger picture's, clear of the cut edges, the theorem on rectangles's are not handed over
-pub not-delivered : (m : ℕ) (small large : Handed) (r : FinishedRun 3 (documentCalls 3) small) (x y : ℤ) → Holds (small .setup .filter) x y → Clear m (small .setup .filter) (large .setup .filter) x y
-    → (sampleAt 3 small 0 x y ≡ sampleAt 3 large 0 x y → ⊥) → DeliversBeyond m 3 small large (handedOver 3 (documentCalls 3) small r) → ⊥
+-- so where these are not the larger picture's, clear of the cut edges, the theorem's samples are not handed over
+pub not-delivered : (m : ℕ) (small large : Handed) (r : FinishedRun 3 (libraryCalls 3) small) (x y : ℤ) → Holds (small .setup .filter) x y → Clear m (small .setup .filter) (large .setup .filter) x y
+    → (sampleAt 3 small 0 x y ≡ sampleAt 3 large 0 x y → ⊥) → DeliversBeyond m 3 small large (handedOver 3 (libraryCalls 3) small r) → ⊥
 not-delivered m small large r x y held clear unlike delivers = unlike (sym (own-sample small r x y held) ∙ delivers .samples 0 x y (omega arith) held clear)
 
 -- samples of which one is less than the other are not the same
@@ -270,8 +270,8 @@ sigmas-needed claim =
 -- ---- one altered sample
 
 -- a first call that is accepted and leaves the same leads to the same end
-first-decides : (c : DocumentCall) (cs : List DocumentCall) (t u : State) → numberIn (answer 3 c) ≡ 0 → leftBy t (answer 3 c) ≡ leftBy u (answer 3 c)
-    → (stateAfter 3 (documentCalls 3) t c ≡ stateAfter 3 (documentCalls 3) u c) × (end 3 (documentCalls 3) t (c ∷ cs) ≡ end 3 (documentCalls 3) u (c ∷ cs))
+first-decides : (c : LibraryCall) (cs : List LibraryCall) (t u : State) → numberIn (answer 3 c) ≡ 0 → leftBy t (answer 3 c) ≡ leftBy u (answer 3 c)
+    → (stateAfter 3 (libraryCalls 3) t c ≡ stateAfter 3 (libraryCalls 3) u c) × (end 3 (libraryCalls 3) t (c ∷ cs) ≡ end 3 (libraryCalls 3) u (c ∷ cs))
 unfolding stateAfter end
 first-decides c cs t u e l = let same = eq-eqb (numberIn (answer 3 c)) 0 e in (rw (same, l), rw (same, l))
 
@@ -284,7 +284,7 @@ altered-is =
     ap (altered (bits 0x4180_0000)) a ∙ sym b
 
 -- the spot's calls after its first
-abbrev later : List DocumentCall
+abbrev later : List LibraryCall
 later =
     let t = startState 3 (smaller spot weights) in
     let done = marked (t .run) 0 in
@@ -305,13 +305,13 @@ first-taken =
 
 module _ (first : State) (same : first ≡ startState 3 (smaller spot weights)) where
   -- the blank picture's run with such a first band ends as the spot's
-  ends-alike : end 3 (documentCalls 3) (startState 3 (smaller blank weights)) (band first 0 ∷ later) ≡ end 3 (documentCalls 3) (startState 3 (smaller spot weights)) (calls spot weights)
+  ends-alike : end 3 (libraryCalls 3) (startState 3 (smaller blank weights)) (band first 0 ∷ later) ≡ end 3 (libraryCalls 3) (startState 3 (smaller spot weights)) (calls spot weights)
   ends-alike = rw same (first-decides (band (startState 3 (smaller spot weights)) 0) later (startState 3 (smaller blank weights)) (startState 3 (smaller spot weights)) first-taken refl .1)
 
-  then-alike : Unaltered 3 (documentCalls 3) (stateAfter 3 (documentCalls 3) (startState 3 (smaller blank weights)) (band first 0)) later
+  then-alike : Unaltered 3 (libraryCalls 3) (stateAfter 3 (libraryCalls 3) (startState 3 (smaller blank weights)) (band first 0)) later
   then-alike =
       let alike = first-decides (band (startState 3 (smaller spot weights)) 0) later (startState 3 (smaller blank weights)) (startState 3 (smaller spot weights)) first-taken refl .0 in
-      rw same (subst (λ (s : State). Unaltered 3 (documentCalls 3) s later) (sym alike) (premises-met spot weights .nobody-altered-anything .1))
+      rw same (subst (λ (s : State). Unaltered 3 (libraryCalls 3) s later) (sym alike) (premises-met spot weights .nobody-altered-anything .1))
 
   altered-others : (p : Premise) → (p ≡ nobody-altered-anything → ⊥) → Says p (smaller blank weights) (larger blank weights) (band first 0 ∷ later) (slice blank weights)
   altered-others start-accepted n = premises-met blank weights .start-accepted

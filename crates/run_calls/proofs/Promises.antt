@@ -11,7 +11,7 @@ use Rattle.epf_lanes.proofs.Divisors.{lane-divisor-bounds}
 use Rattle.run_passes.proofs.Bounds.{step-bounds, settings-bounds, bounds-reached}
 use Rattle.run_passes.proofs.Statements.{pass-near, cut-same, plan-reach}
 use Rattle.run_calls.specs.Promises.{Promises}
-use Rattle.run_calls.proofs.Demand3.{document-demand-3, demand-3, demand-3-at}
+use Rattle.run_calls.proofs.Theorem.{library-theorem, rectangle-theorem, rectangle-theorem-at}
 use Rattle.run_calls.proofs.Finished.{handed-over-at}
 use Rattle.run_calls.proofs.Example.{premises-met, place-clear}
 use Rattle.run_calls.proofs.EdgeExample.{edge-premises-met, edge-place-clear}
@@ -20,15 +20,15 @@ use Rattle.run_calls.proofs.Needed.{premises-say, gabor-margin-needed, 
 use Rattle.run_calls.proofs.EachNeeded.{each-needed}
 use Rattle.run_calls.proofs.Corollaries.{whole-picture, two-cuts-agree, outside-kept, bands-alike}
 use Rattle.run_calls.proofs.Refused.{start-tied, calls-tied, refused-untouched}
-use Rattle.run_calls.proofs.Count.{document-count-rule, count-rule}
+use Rattle.run_calls.proofs.Count.{library-count-rule, count-rule}
 use Rattle.run_calls.proofs.Lists.{end-reached, end-fits}
 use Rattle.run_calls.proofs.Reached.{can-finish, reached-fits, fits-reached, each-reached}
 
 pub promises : Promises
 promises = record {
-  document-demand-3 = document-demand-3;
-  demand-3 = demand-3;
-  demand-3-at = demand-3-at;
+  library-theorem = library-theorem;
+  rectangle-theorem = rectangle-theorem;
+  rectangle-theorem-at = rectangle-theorem-at;
   handed-over-at = handed-over-at;
   end-reached = end-reached;
   premises-met = premises-met;
@@ -52,7 +52,7 @@ promises = record {
   start-tied = start-tied;
   calls-tied = calls-tied;
   refused-untouched = refused-untouched;
-  document-count-rule = document-count-rule;
+  library-count-rule = library-count-rule;
   count-rule = count-rule;
   can-finish = can-finish;
   end-fits = end-fits;

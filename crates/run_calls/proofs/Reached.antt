@@ -23,7 +23,7 @@ use Rattle.run_record.proofs.Laws.{run-fits, fits-run, none-done, started-fits,
 use Rattle.run_outcomes.specs.Start.{Handed, startLeaves}
 use Rattle.run_outcomes.specs.Band.{State}
 use Rattle.run_outcomes.proofs.Laws.{band-number, band-leaves, band-accepted, advance-number, advance-leaves, advance-accepted}
-use Rattle.run_calls.specs.Calls.{StartAccepted, startState, DocumentCall, band, advance, Calls, documentCalls, stateAfter, end, Unaltered, AllAccepted}
+use Rattle.run_calls.specs.Calls.{StartAccepted, startState, LibraryCall, band, advance, Calls, libraryCalls, stateAfter, end, Unaltered, AllAccepted}
 use Rattle.run_calls.specs.Rules.{ReachedFits, FitsReached, LeadsTo, EachReached, CanFinish}
 use Rattle.run_calls.proofs.Sound.{Sound}
 use Rattle.run_calls.proofs.Lists.{picture-accepted, start-state, after-start}
@@ -170,33 +170,33 @@ module _ (n : ℕ) (K : Calls n) (c : K .Call) (ok : K .number (K .answer c) ≡
   accepted-more (d ∷ cs) a = (a .0, accepted-more cs (a .1))
 
 module _ (n : ℕ) (h : Handed) (start : StartAccepted n h) where
-  more : (cs : List DocumentCall) (q : Run) (c : DocumentCall) (r : Run) → LeadsTo n h cs q → documentCalls n .number (documentCalls n .answer c) ≡ 0
-      → documentCalls n .Lent (end n (documentCalls n) (startState n h) cs) c → documentCalls n .leaves (end n (documentCalls n) (startState n h) cs) (documentCalls n .answer c) .run ≡ r
-      → (ds : List DocumentCall) × LeadsTo n h ds r
+  more : (cs : List LibraryCall) (q : Run) (c : LibraryCall) (r : Run) → LeadsTo n h cs q → libraryCalls n .number (libraryCalls n .answer c) ≡ 0
+      → libraryCalls n .Lent (end n (libraryCalls n) (startState n h) cs) c → libraryCalls n .leaves (end n (libraryCalls n) (startState n h) cs) (libraryCalls n .answer c) .run ≡ r
+      → (ds : List LibraryCall) × LeadsTo n h ds r
   more cs q c r l ok lent ends = (
     cs ++ (c ∷ []),
     record {
-      accepted = accepted-more n (documentCalls n) c ok cs (l .accepted);
-      unaltered = unaltered-more n (documentCalls n) c ok (startState n h) cs (l .unaltered) lent;
-      ends = ap (λ (t : State). t .run) (end-more n (documentCalls n) c ok (startState n h) cs) ∙ ends;
+      accepted = accepted-more n (libraryCalls n) c ok cs (l .accepted);
+      unaltered = unaltered-more n (libraryCalls n) c ok (startState n h) cs (l .unaltered) lent;
+      ends = ap (λ (t : State). t .run) (end-more n (libraryCalls n) c ok (startState n h) cs) ∙ ends;
     },
   )
 
-  leads : (r : Run) → Reached (h .setup) r → (cs : List DocumentCall) × LeadsTo n h cs r
+  leads : (r : Run) → Reached (h .setup) r → (cs : List LibraryCall) × LeadsTo n h cs r
   unfolding end
   leads r atStart = ([], record { accepted = tt; unaltered = tt; ends = ap (λ (t : State). t .run) (start-state n h start) })
   leads r (byBand q k w e) =
       let l = leads q w in
-      let t : State = end n (documentCalls n) (startState n h) (l .0) in
-      let i : Sound n (startLeaves n h) t = after-start n (documentCalls n) h start (l .0) (l .1 .unaltered) .sound in
+      let t : State = end n (libraryCalls n) (startState n h) (l .0) in
+      let i : Sound n (startLeaves n h) t = after-start n (libraryCalls n) h start (l .0) (l .1 .unaltered) .sound in
       let same : t .run ≡ q = l .1 .ends in
       let o : Open (t .run) k = rw same (band-open q k e) in
       let taken = band-number n t k ∙ band-accepted n t k (i .first-length) (i .second-length) (i .sigma-length) (i .run) o in
       more (l .0) q (band t k) (marked q k) (l .1) taken refl (ap (λ (u : State). u .run) (band-leaves n t k taken) ∙ ap (λ (z : Run). marked z k) same)
   leads r (byAdvance q w e) =
       let l = leads q w in
-      let t : State = end n (documentCalls n) (startState n h) (l .0) in
-      let i : Sound n (startLeaves n h) t = after-start n (documentCalls n) h start (l .0) (l .1 .unaltered) .sound in
+      let t : State = end n (libraryCalls n) (startState n h) (l .0) in
+      let i : Sound n (startLeaves n h) t = after-start n (libraryCalls n) h start (l .0) (l .1 .unaltered) .sound in
       let same : t .run ≡ q = l .1 .ends in
       let o : Over (t .run) = rw same (pass-over q e) in
       let taken = advance-number (t .run) ∙ advance-accepted (t .run) (i .run) o in

@@ -27,22 +27,22 @@ startState n h = leftByStart (startOutcome n h) (h .second)
 -- ---- the calls after it (Specification 13.7)
 
 -- Each with everything that it is handed. Of functions other than these four only the number is told: whatever they are handed, the state itself included.
-pub data DocumentCall : Type 0 where
-  band : State → ℕ → DocumentCall
-  advance : Run → DocumentCall
-  result : Run → List Float → List Float → List Float → DocumentCall
-  start : Handed → DocumentCall
-  other : ℕ → DocumentCall
+pub data LibraryCall : Type 0 where
+  band : State → ℕ → LibraryCall
+  advance : Run → LibraryCall
+  result : Run → List Float → List Float → List Float → LibraryCall
+  start : Handed → LibraryCall
+  other : ℕ → LibraryCall
 
 -- the whole answer of a call, with what it leaves in what it is lent: the outcome that its contract cites
-pub data DocumentAnswer : Type 0 where
-  ofBand : BandOutcome → DocumentAnswer
-  ofAdvance : RunAnswer → DocumentAnswer
-  ofResult : ResultOutcome → DocumentAnswer
-  ofStart : StartOutcome → DocumentAnswer
-  ofOther : ℕ → DocumentAnswer
+pub data LibraryAnswer : Type 0 where
+  ofBand : BandOutcome → LibraryAnswer
+  ofAdvance : RunAnswer → LibraryAnswer
+  ofResult : ResultOutcome → LibraryAnswer
+  ofStart : StartOutcome → LibraryAnswer
+  ofOther : ℕ → LibraryAnswer
 
-abbrev pub answer : ℕ → DocumentCall → DocumentAnswer
+abbrev pub answer : ℕ → LibraryCall → LibraryAnswer
 answer n (band t k) = ofBand (bandOutcome n t k)
 answer n (advance r) = ofAdvance (advanceOutcome r)
 answer n (result r first second out) = ofResult (resultOutcome n r first second out)
@@ -50,7 +50,7 @@ answer n (start h) = ofStart (startOutcome n h)
 answer n (other k) = ofOther k
 
 -- the number in an answer
-abbrev pub numberIn : DocumentAnswer → ℕ
+abbrev pub numberIn : LibraryAnswer → ℕ
 numberIn (ofBand o) = o .number
 numberIn (ofAdvance o) = o .number
 numberIn (ofResult o) = o .number
@@ -58,7 +58,7 @@ numberIn (ofStart o) = o .answer .number
 numberIn (ofOther k) = k
 
 -- the state after an accepted call that was lent the state t: what the answer has of it, and the rest of t
-abbrev pub leftBy : State → DocumentAnswer → State
+abbrev pub leftBy : State → LibraryAnswer → State
 leftBy t (ofBand o) = o .state
 leftBy t (ofAdvance o) = record { run = o .run; sigmas = t .sigmas; first = t .first; second = t .second }
 leftBy t (ofResult o) = t
@@ -66,21 +66,21 @@ leftBy t (ofStart o) = leftByStart o (t .second)
 leftBy t (ofOther k) = t
 
 -- What the call got of record, block sigmas and both sets is the state's. After the start that begins the run no other start and no other function is accepted.
-abbrev pub LentState : State → DocumentCall → Type 0
+abbrev pub LentState : State → LibraryCall → Type 0
 LentState t (band u k) = u ≡ t
 LentState t (advance r) = r ≡ t .run
 LentState t (result r first second out) = (r ≡ t .run) × (first ≡ t .first) × (second ≡ t .second)
 LentState t (start h) = ⊥
 LentState t (other k) = ⊥
 
-abbrev pub asBands : DocumentCall → ℕ
+abbrev pub asBands : LibraryCall → ℕ
 asBands (band t k) = 1
 asBands (advance r) = 0
 asBands (result r first second out) = 0
 asBands (start h) = 0
 asBands (other k) = 0
 
-abbrev pub asAdvances : DocumentCall → ℕ
+abbrev pub asAdvances : LibraryCall → ℕ
 asAdvances (band t k) = 0
 asAdvances (advance r) = 1
 asAdvances (result r first second out) = 0
@@ -108,24 +108,24 @@ pub record Calls (n : ℕ) : Type 1 where
   pub advances : Call → ℕ
   pub effect : (t : State) (c : Call) → number (answer c) ≡ 0 → Lent t c → Effect n t (bands c) (advances c) (leaves t (answer c))
 
-unfoldable pub documentEffect : (n : ℕ) (t : State) (c : DocumentCall) → numberIn (answer n c) ≡ 0 → LentState t c → Effect n t (asBands c) (asAdvances c) (leftBy t (answer n c))
-documentEffect n t (band u k) e l = rw l (oneBand k (rw l at e))
-documentEffect n t (advance r) e l = rw l (oneAdvance (rw l at e))
-documentEffect n t (result r first second out) e l = nothing
-documentEffect n t (start h) e l = absurd l
-documentEffect n t (other k) e l = absurd l
+unfoldable pub libraryEffect : (n : ℕ) (t : State) (c : LibraryCall) → numberIn (answer n c) ≡ 0 → LentState t c → Effect n t (asBands c) (asAdvances c) (leftBy t (answer n c))
+libraryEffect n t (band u k) e l = rw l (oneBand k (rw l at e))
+libraryEffect n t (advance r) e l = rw l (oneAdvance (rw l at e))
+libraryEffect n t (result r first second out) e l = nothing
+libraryEffect n t (start h) e l = absurd l
+libraryEffect n t (other k) e l = absurd l
 
-abbrev pub documentCalls : (n : ℕ) → Calls n
-documentCalls n = record {
-  Call = DocumentCall;
-  Answer = DocumentAnswer;
+abbrev pub libraryCalls : (n : ℕ) → Calls n
+libraryCalls n = record {
+  Call = LibraryCall;
+  Answer = LibraryAnswer;
   answer = answer n;
   number = numberIn;
   leaves = leftBy;
   Lent = LentState;
   bands = asBands;
   advances = asAdvances;
-  effect = documentEffect n;
+  effect = libraryEffect n;
 }
 
 -- ---- lists of them: runs of n planes by calls of the kinds K

@@ -12,7 +12,7 @@ use Rattle.run_passes.specs.declared.Settings.{Settings}
 use Rattle.run_passes.specs.Plan.{margin}
 use Rattle.run_record.specs.Record.{started, marked}
 use Rattle.run_outcomes.specs.Start.{Handed}
-use Rattle.run_calls.specs.Calls.{startState, DocumentCall, band, advance, documentCalls}
+use Rattle.run_calls.specs.Calls.{startState, LibraryCall, band, advance, libraryCalls}
 use Rattle.run_calls.specs.Places.{Clear}
 use Rattle.run_calls.specs.Theorem.{Premises}
 
@@ -57,7 +57,7 @@ module _ (p : Picture) (scales : List Float) (border sigma : Float) where
     sigmas = b0 ∷ [];
   }
 
-  abbrev pub calls : List DocumentCall
+  abbrev pub calls : List LibraryCall
   calls = band (startState 3 smaller) 0 ∷ advance (marked (started (smaller .setup)) 0) ∷ []
 
   abbrev pub slice : List Float
@@ -65,7 +65,7 @@ module _ (p : Picture) (scales : List Float) (border sigma : Float) where
 
 abbrev pub EdgePremisesMet : Type 0
 EdgePremisesMet = (p : Picture) (scales : List Float) (border sigma : Float)
-    → Premises 3 (documentCalls 3) (smaller p scales border sigma) (larger p scales border sigma) (calls p scales border sigma) (slice p scales border sigma)
+    → Premises 3 (libraryCalls 3) (smaller p scales border sigma) (larger p scales border sigma) (calls p scales border sigma) (slice p scales border sigma)
 
 -- column 10 is clear of the cut edge, and column 9 is not
 abbrev pub EdgePlaceClear : Type 0

@@ -13,7 +13,7 @@ use Rattle.run_record.specs.declared.Run.{Run}
 use Rattle.run_record.specs.Record.{marked}
 use Rattle.run_outcomes.specs.Start.{Handed, noSetup}
 use Rattle.run_outcomes.specs.Band.{State}
-use Rattle.run_calls.specs.Calls.{startState, DocumentCall, band, advance, documentCalls}
+use Rattle.run_calls.specs.Calls.{startState, LibraryCall, band, advance, libraryCalls}
 use Rattle.run_calls.specs.Places.{Clear}
 use Rattle.run_calls.specs.Theorem.{Premises}
 
@@ -59,7 +59,7 @@ module _ (p : Picture) (weights : List (List Float)) where
   done = marked (begun .run) 0
 
   -- Band 0; band 0 again, lent the sets as they were before it (10); an advance that is lent the record before it (11); the advance.
-  abbrev pub calls : List DocumentCall
+  abbrev pub calls : List LibraryCall
   calls =
       band begun 0
       ∷ band (record { run = done; sigmas = begun .sigmas; first = begun .first; second = begun .second }) 0
@@ -71,7 +71,7 @@ module _ (p : Picture) (weights : List (List Float)) where
 
 -- they hold
 abbrev pub PremisesMet : Type 0
-PremisesMet = (p : Picture) (weights : List (List Float)) → Premises 3 (documentCalls 3) (smaller p weights) (larger p weights) (calls p weights) (slice p weights)
+PremisesMet = (p : Picture) (weights : List (List Float)) → Premises 3 (libraryCalls 3) (smaller p weights) (larger p weights) (calls p weights) (slice p weights)
 
 -- and there are places that the theorem speaks of: column 1 is clear of the cut edge
 abbrev pub PlaceClear : Type 0

@@ -16,7 +16,7 @@ use Rattle.run_passes.specs.declared.Settings.{Settings}
 use Rattle.run_passes.specs.Plan.{margin}
 use Rattle.run_outcomes.specs.Start.{Handed, noSetup}
 use Rattle.run_outcomes.specs.Band.{State}
-use Rattle.run_calls.specs.Calls.{startState, DocumentCall, band, advance, start, other, documentCalls, stateAfter}
+use Rattle.run_calls.specs.Calls.{startState, LibraryCall, band, advance, start, other, libraryCalls, stateAfter}
 use Rattle.run_calls.specs.Places.{Clear}
 use Rattle.run_calls.specs.Theorem.{Premises, Delivers, resultAfter}
 
@@ -85,8 +85,8 @@ module _ (g : Given) where
   abbrev pub empty : Handed
   empty = record { setup = noSetup; frame = frame; table = []; grids = []; first = smaller .first; second = smaller .second; sigmas = smaller .sigmas }
 
-  abbrev next : State → DocumentCall → State
-  next t c = stateAfter 3 (documentCalls 3) t c
+  abbrev next : State → LibraryCall → State
+  next t c = stateAfter 3 (libraryCalls 3) t c
 
   -- the states, one after another
   abbrev pub begun : State
@@ -114,17 +114,17 @@ module _ (g : Given) where
   six = next five (band five 0)
 
   -- bands 2, 0 and 1 of the first pass, and 1, 2 and 0 of the second
-  abbrev pub accepted-calls : List DocumentCall
+  abbrev pub accepted-calls : List LibraryCall
   accepted-calls = band begun 2 ∷ band one 0 ∷ band two 1 ∷ advance (three .run) ∷ band turned 1 ∷ band four 2 ∷ band five 0 ∷ advance (six .run) ∷ []
 
-  abbrev pub calls : List DocumentCall
+  abbrev pub calls : List LibraryCall
   calls = start empty ∷ other 9 ∷ accepted-calls
 
   abbrev pub slice : List Float
   slice = setOf 3 10 10 (λ c x y. b0)
 
 abbrev pub FourEdgesMet : Type 0
-FourEdgesMet = (g : Given) → Premises 3 (documentCalls 3) (smaller g) (larger g) (calls g) (slice g)
+FourEdgesMet = (g : Given) → Premises 3 (libraryCalls 3) (smaller g) (larger g) (calls g) (slice g)
 
 -- columns and rows 11 and 12, which have three samples between them and each of the four edges
 abbrev pub middle : Region
@@ -138,4 +138,4 @@ FourEdgesClear = (g : Given) → let small = smaller g .setup in
 
 -- so the theorem says of them
 abbrev pub FourEdgesDelivered : Type 0
-FourEdgesDelivered = (g : Given) → Delivers 3 (smaller g) (larger g) (resultAfter 3 (documentCalls 3) (smaller g) (calls g) (slice g))
+FourEdgesDelivered = (g : Given) → Delivers 3 (smaller g) (larger g) (resultAfter 3 (libraryCalls 3) (smaller g) (calls g) (slice g))

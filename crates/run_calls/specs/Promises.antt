@@ -12,9 +12,9 @@ use Rattle.epf_lanes.specs.Divisors.{LaneDivisorBounds}
 use Rattle.run_passes.specs.Statements.{PassNear, CutSame, PlanReach}
 use Rattle.run_passes.specs.Bounds.{StepBounds, SettingsBounds, BoundsReached}
 use Rattle.run_calls.specs.Calls.{Calls}
-use Rattle.run_calls.specs.Theorem.{Demand3, DocumentDemand3}
-use Rattle.run_calls.specs.States.{EndReached, HandedOverAt, Demand3At}
-use Rattle.run_calls.specs.Rules.{StartTied, CallsTied, RefusedUntouched, CanFinish, CountRule, DocumentCountRule, EndFits, ReachedFits, FitsReached, EachReached}
+use Rattle.run_calls.specs.Theorem.{RectangleTheorem, LibraryTheorem}
+use Rattle.run_calls.specs.States.{EndReached, HandedOverAt, RectangleTheoremAt}
+use Rattle.run_calls.specs.Rules.{StartTied, CallsTied, RefusedUntouched, CanFinish, CountRule, LibraryCountRule, EndFits, ReachedFits, FitsReached, EachReached}
 use Rattle.run_calls.specs.Corollaries.{WholePicture, TwoCutsAgree, OutsideKept, BandsAlike}
 use Rattle.run_calls.specs.Example.{PremisesMet, PlaceClear}
 use Rattle.run_calls.specs.EdgeExample.{EdgePremisesMet, EdgePlaceClear}
@@ -23,10 +23,10 @@ use Rattle.run_calls.specs.Needed.{PremisesSay, EachNeeded, GaborMarginN
 
 pub record Promises : Type 1 where
   -- the theorem on rectangles (Specification 13.6), for three planes and the calls of 13.7, and for any
-  pub document-demand-3 : DocumentDemand3
-  pub demand-3 : (n : ℕ) (K : Calls n) → Demand3 n K
+  pub library-theorem : LibraryTheorem
+  pub rectangle-theorem : (n : ℕ) (K : Calls n) → RectangleTheorem n K
   -- of a state, by whatever calls, and lists lead to such states
-  pub demand-3-at : Demand3At
+  pub rectangle-theorem-at : RectangleTheoremAt
   pub handed-over-at : HandedOverAt
   pub end-reached : (n : ℕ) (K : Calls n) → EndReached n K
   -- its premises are met, by four cut edges too
@@ -54,7 +54,7 @@ pub record Promises : Type 1 where
   pub start-tied : StartTied
   pub calls-tied : CallsTied
   pub refused-untouched : RefusedUntouched
-  pub document-count-rule : DocumentCountRule
+  pub library-count-rule : LibraryCountRule
   pub count-rule : (n : ℕ) (K : Calls n) → CountRule n K
   pub can-finish : CanFinish
   -- the records of runs

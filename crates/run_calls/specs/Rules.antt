@@ -12,7 +12,7 @@ use Rattle.run_record.specs.Record.{passCount, finished, runFits, Reached}
 use Rattle.run_outcomes.specs.Start.{Handed, startOutcome}
 use Rattle.run_outcomes.specs.Band.{State, bandOutcome, advanceOutcome}
 use Rattle.run_outcomes.specs.Result.{resultOutcome}
-use Rattle.run_calls.specs.Calls.{StartAccepted, startState, DocumentCall, band, advance, result, start, other, answer, numberIn, leftBy, LentState, Calls, documentCalls, stateAfter, end, Unaltered, AllAccepted, bandsIn, advancesIn}
+use Rattle.run_calls.specs.Calls.{StartAccepted, startState, LibraryCall, band, advance, result, start, other, answer, numberIn, leftBy, LentState, Calls, libraryCalls, stateAfter, end, Unaltered, AllAccepted, bandsIn, advancesIn}
 
 -- ---- the calls (Specification 13.7)
 
@@ -24,10 +24,10 @@ StartTied = (n : ℕ) (h : Handed) → let t = startState n h in
 
 -- where a call was lent the state, accepted or not, what its answer leaves is the state after it
 abbrev pub CallsTied : Type 0
-CallsTied = (n : ℕ) (t : State) (c : DocumentCall) → LentState t c → leftBy t (answer n c) ≡ stateAfter n (documentCalls n) t c
+CallsTied = (n : ℕ) (t : State) (c : LibraryCall) → LentState t c → leftBy t (answer n c) ≡ stateAfter n (libraryCalls n) t c
 
 -- what a call leaves of all that it was lent is as it was; functions other than these four say it of themselves
-abbrev pub Untouched : ℕ → DocumentCall → Type 0
+abbrev pub Untouched : ℕ → LibraryCall → Type 0
 Untouched n (band t k) = bandOutcome n t k .state ≡ t
 Untouched n (advance r) = advanceOutcome r .run ≡ r
 Untouched n (result r first second out) = resultOutcome n r first second out .out ≡ out
@@ -36,12 +36,12 @@ Untouched n (other k) = Unit {0}
 
 -- so with each refused call
 abbrev pub RefusedUntouched : Type 0
-RefusedUntouched = (n : ℕ) (c : DocumentCall) → (numberIn (answer n c) ≡ 0 → ⊥) → Untouched n c
+RefusedUntouched = (n : ℕ) (c : LibraryCall) → (numberIn (answer n c) ≡ 0 → ⊥) → Untouched n c
 
 -- from every accepted start some list of calls finishes the run
 abbrev pub CanFinish : Type 0
 CanFinish = (n : ℕ) (h : Handed) → StartAccepted n h
-    → (cs : List DocumentCall) × Unaltered n (documentCalls n) (startState n h) cs × T (finished (end n (documentCalls n) (startState n h) cs .run))
+    → (cs : List LibraryCall) × Unaltered n (libraryCalls n) (startState n h) cs × T (finished (end n (libraryCalls n) (startState n h) cs .run))
 
 -- ---- runs of n planes by calls of the kinds K
 
@@ -58,8 +58,8 @@ module _ (n : ℕ) (K : Calls n) where
       → let r = end n K (startState n h) cs .run in (r .setup ≡ h .setup) × T (runFits r) × (length (r .done) ≡ maxBands)
 
 -- three planes and the calls of Specification 13.7
-abbrev pub DocumentCountRule : Type 0
-DocumentCountRule = CountRule 3 (documentCalls 3)
+abbrev pub LibraryCountRule : Type 0
+LibraryCountRule = CountRule 3 (libraryCalls 3)
 
 -- ---- the records to which accepted calls lead
 
@@ -72,12 +72,12 @@ abbrev pub FitsReached : Type 0
 FitsReached = (r : Run) → length (r .done) ≡ maxBands → T (runFits r) → Reached (r .setup) r
 
 -- a list of calls (Specification 13.7) after an accepted start, all accepted and lent what those before them left, that ends in the record r
-pub record LeadsTo (n : ℕ) (h : Handed) (cs : List DocumentCall) (r : Run) : Type 0 where
-  pub accepted : AllAccepted n (documentCalls n) cs
-  pub unaltered : Unaltered n (documentCalls n) (startState n h) cs
-  pub ends : end n (documentCalls n) (startState n h) cs .run ≡ r
+pub record LeadsTo (n : ℕ) (h : Handed) (cs : List LibraryCall) (r : Run) : Type 0 where
+  pub accepted : AllAccepted n (libraryCalls n) cs
+  pub unaltered : Unaltered n (libraryCalls n) (startState n h) cs
+  pub ends : end n (libraryCalls n) (startState n h) cs .run ≡ r
 
 -- there is one for each sound record of that start: EndFits the other way round
 abbrev pub EachReached : Type 0
 EachReached = (n : ℕ) (h : Handed) → StartAccepted n h → (r : Run) → r .setup ≡ h .setup → T (runFits r) → length (r .done) ≡ maxBands
-    → (cs : List DocumentCall) × LeadsTo n h cs r
+    → (cs : List LibraryCall) × LeadsTo n h cs r

@@ -29,6 +29,6 @@ HandedOverAt = (n : ℕ) (h : Handed) → StartAccepted n h → (t : State) → 
     → (out : List Float) → length out ≡ resultLength n (h .setup) → (resultOn n t out .number ≡ 0) × (resultOn n t out .out ≡ resultOf n (layout (h .setup)) (source t))
 
 -- the theorem on rectangles, of which the theorem is the case of a list
-abbrev pub Demand3At : Type 0
-Demand3At = (n : ℕ) (small large : Handed) → StartAccepted n small → CutFrom n small large → (t : State) → StateReached n small t → T (finished (t .run))
+abbrev pub RectangleTheoremAt : Type 0
+RectangleTheoremAt = (n : ℕ) (small large : Handed) → StartAccepted n small → CutFrom n small large → (t : State) → StateReached n small t → T (finished (t .run))
     → (out : List Float) → length out ≡ resultLength n (small .setup) → Delivers n small large (resultOn n t out)

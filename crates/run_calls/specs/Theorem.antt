@@ -14,7 +14,7 @@ use Rattle.run_record.specs.Record.{finished}
 use Rattle.run_outcomes.specs.Start.{Handed, pictureChecks}
 use Rattle.run_outcomes.specs.Band.{State}
 use Rattle.run_outcomes.specs.Result.{ResultOutcome, resultOutcome}
-use Rattle.run_calls.specs.Calls.{StartAccepted, startState, Calls, documentCalls, end, Unaltered}
+use Rattle.run_calls.specs.Calls.{StartAccepted, startState, Calls, libraryCalls, end, Unaltered}
 use Rattle.run_calls.specs.Places.{Clear, inputAt, sampleAt, sigmaAt, resultAt}
 
 -- a picture of n planes (the Specification has 3), given by all that start is handed, would not be refused under 4 to 9
@@ -47,7 +47,7 @@ pub record DeliversBeyond (m n : ℕ) (small large : Handed) (result : ResultOut
 abbrev pub Delivers : ℕ → Handed → Handed → ResultOutcome → Type 0
 Delivers n small large result = DeliversBeyond (margin (small .setup .settings)) n small large result
 
--- n is the number of planes, and K has the kinds of calls: 3 and `documentCalls 3` are those of Specification 13.6.
+-- n is the number of planes, and K has the kinds of calls: 3 and `libraryCalls 3` are those of Specification 13.6.
 module _ (n : ℕ) (K : Calls n) where
   -- the result call after a start and a list of calls, lent the state that they left and a slice
   abbrev pub resultAfter : Handed → List (K .Call) → List Float → ResultOutcome
@@ -61,9 +61,9 @@ module _ (n : ℕ) (K : Calls n) where
     pub run-finished : T (finished (end n K (startState n small) cs .run))
     pub slice-fits : length out ≡ resultLength n (small .setup)
 
-  abbrev pub Demand3 : Type 0
-  Demand3 = (small large : Handed) (cs : List (K .Call)) (out : List Float) → Premises small large cs out → Delivers n small large (resultAfter small cs out)
+  abbrev pub RectangleTheorem : Type 0
+  RectangleTheorem = (small large : Handed) (cs : List (K .Call)) (out : List Float) → Premises small large cs out → Delivers n small large (resultAfter small cs out)
 
 -- that of Specification 13.6: three planes and the calls of 13.7
-abbrev pub DocumentDemand3 : Type 0
-DocumentDemand3 = Demand3 3 (documentCalls 3)
+abbrev pub LibraryTheorem : Type 0
+LibraryTheorem = RectangleTheorem 3 (libraryCalls 3)

@@ -20,10 +20,10 @@ use Rattle.run_setup.proofs.Laws.{setup-fits}
 use Rattle.run_outcomes.specs.Start.{Handed, sigmasFilled}
 use Rattle.run_outcomes.specs.Band.{source}
 use Rattle.run_outcomes.proofs.Laws.{PictureFits, picture-fits}
-use Rattle.run_calls.specs.Calls.{Calls, documentCalls}
+use Rattle.run_calls.specs.Calls.{Calls, libraryCalls}
 use Rattle.run_calls.specs.Places.{input, Clear}
-use Rattle.run_calls.specs.Theorem.{CutFrom, Demand3, DocumentDemand3}
-use Rattle.run_calls.specs.States.{Demand3At}
+use Rattle.run_calls.specs.Theorem.{CutFrom, RectangleTheorem, LibraryTheorem}
+use Rattle.run_calls.specs.States.{RectangleTheoremAt}
 use Rattle.run_calls.proofs.Lists.{picture-accepted, reached-kept, end-reached}
 use Rattle.run_calls.proofs.Finished.{filter-sample, run-samples, handed-over}
 use Rattle.run_calls.proofs.Places.{part-fits, counted, counted-from, deep, nth-held, nth-counted, blocks-apart, Covered, covered}
@@ -116,8 +116,8 @@ module _ (n : ℕ) (small large : Handed) (fits : PictureFits n small) (from : C
 -- ---- the theorem
 
 -- of any finished state, by whatever calls the run came to it
-pub demand-3-at : Demand3At
-demand-3-at n small large e from t r z out room =
+pub rectangle-theorem-at : RectangleTheoremAt
+rectangle-theorem-at n small large e from t r z out room =
     let s : Setup = small .setup in
     let fits = picture-accepted n small e in
     let kept = reached-kept n small e t r in
@@ -133,9 +133,9 @@ demand-3-at n small large e from t r z out room =
           ∙ beyond n small large fits from c x y h held clear);
     }
 
-pub demand-3 : (n : ℕ) (K : Calls n) → Demand3 n K
-demand-3 n K small large cs out p = demand-3-at n small large (p .start-accepted) (p .cut-from-larger) _ (end-reached n K small cs (p .nobody-altered-anything)) (p .run-finished) out (p .slice-fits)
+pub rectangle-theorem : (n : ℕ) (K : Calls n) → RectangleTheorem n K
+rectangle-theorem n K small large cs out p = rectangle-theorem-at n small large (p .start-accepted) (p .cut-from-larger) _ (end-reached n K small cs (p .nobody-altered-anything)) (p .run-finished) out (p .slice-fits)
 
 -- three planes and the calls of Specification 13.7
-pub document-demand-3 : DocumentDemand3
-document-demand-3 = demand-3 3 (documentCalls 3)
+pub library-theorem : LibraryTheorem
+library-theorem = rectangle-theorem 3 (libraryCalls 3)
