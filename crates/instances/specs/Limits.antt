@@ -16,7 +16,9 @@ use Rattle.mirror.specs.Outcome.{mirrorOutcome}
 use Rattle.frame.specs.Outcome.{frameOutcome, splitOutcome}
 use Rattle.sigma_blocks.specs.Measures.{badBlocks}
 use Rattle.sigma_grids.specs.Start.{startOutcome}
+use Rattle.run_passes.specs.Makers.{withIters}
 use Rattle.run_setup.specs.declared.Setup.{Setup}
+use Rattle.run_setup.specs.Makers.{withRegions, withSettings, withBandHeight}
 use Rattle.run_record.specs.Record.{started}
 use Rattle.run_outcomes.specs.Band.{advanceOutcome}
 use Rattle.instances.specs.Instances.{begun}
@@ -49,16 +51,7 @@ abbrev pub recordNumber : ℕ → ℕ → ℕ → ℕ → ℕ
 recordNumber w h iters height =
     let s = begun .run .setup in
     let r : Region = record { left = pos 0; top = pos 0; width = w; height = h } in
-    advanceOutcome (started (record {
-      image = r;
-      filter = r;
-      «preserve_outside» = s .«preserve_outside»;
-      settings = record {
-        gabor = s .settings .gabor;
-        epf = record { iters = iters; «channel_scale» = s .settings .epf .«channel_scale»; sigma = s .settings .epf .sigma; «sigma_for_modular» = s .settings .epf .«sigma_for_modular» };
-      };
-      «band_height» = height;
-    })) .number
+    advanceOutcome (started (withBandHeight height (withSettings (withIters iters (s .settings)) (withRegions r r s)))) .number
 
 -- ---- the table
 

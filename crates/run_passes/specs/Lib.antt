@@ -3,3 +3,4 @@ pub mod Plan
 pub mod Near
 pub mod Cut
 pub mod Bounds
+pub mod Makers
