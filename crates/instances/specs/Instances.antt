@@ -24,7 +24,9 @@ use Rattle.epf_step.specs.Steps.{kernel, dists, scaled, copied, standardLimit, 
 use Rattle.sigma.specs.Sigma.{blockSigmas}
 use Rattle.run_passes.specs.declared.GaborSettings.{GaborSettings}
 use Rattle.run_passes.specs.Plan.{oneIf}
+use Rattle.run_passes.specs.Makers.{gaborOf, epfSigmaOf, epfOf, noSettings, withGabor, withEpf}
 use Rattle.run_setup.specs.declared.Setup.{Setup}
+use Rattle.run_setup.specs.Makers.{setupWith}
 use Rattle.run_record.specs.Record.{started}
 use Rattle.run_outcomes.specs.Band.{State, bandOutcome, advanceOutcome}
 use Rattle.instances.specs.Any.{oneQuarter, CopiedBelow, NanSigma}
@@ -152,24 +154,12 @@ middleAs order step = summedAs order step (around 1 5 oneByFive 0 2)
 
 -- a bundle as settings have it
 abbrev settingsFrom : Gabor → GaborSettings
-settingsFrom g = record { enabled = oneIf (g .enabled); weights = g .weights }
+settingsFrom g = gaborOf (oneIf (g .enabled)) (g .weights)
 
 abbrev setupOf : ℕ → ℕ → Gabor → ℕ → ℕ → Setup
-setupOf w h gabor iters bandHeight = record {
-  image = record { left = pos 0; top = pos 0; width = w; height = h };
-  filter = record { left = pos 0; top = pos 0; width = w; height = h };
-  «preserve_outside» = 1;
-  settings = record {
-    gabor = settingsFrom gabor;
-    epf = record {
-      iters = iters;
-      «channel_scale» = b1 ∷ b0 ∷ b0 ∷ [];
-      sigma = record { «quant_mul» = b0; «pass0_sigma_scale» = b0; «pass2_sigma_scale» = b0; «border_sad_mul» = b2 };
-      «sigma_for_modular» = b16;
-    };
-  };
-  «band_height» = bandHeight;
-}
+setupOf w h gabor iters bandHeight =
+    let r : Region = record { left = pos 0; top = pos 0; width = w; height = h } in
+    setupWith r r 1 (withGabor (settingsFrom gabor) (withEpf (epfOf iters (b1 ∷ b0 ∷ b0 ∷ []) (epfSigmaOf b0 b0 b0 b2) b16) noSettings)) bandHeight
 
 -- 1 in column 0 and 0 in the others
 abbrev stripes : Picture

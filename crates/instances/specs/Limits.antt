@@ -22,7 +22,9 @@ use Rattle.planes.specs.Samples.{b0, b1}
 use Rattle.epf.specs.Outcome.{epfOutcome}
 use Rattle.run_passes.specs.declared.MarginAnswer.{MarginAnswer}
 use Rattle.run_passes.specs.Plan.{marginOutcome}
+use Rattle.run_passes.specs.Makers.{gaborOf, withGabor, withIters}
 use Rattle.run_setup.specs.declared.Setup.{Setup}
+use Rattle.run_setup.specs.Makers.{withRegions, withFull, withSettings, withBandHeight}
 use Rattle.run_record.specs.Record.{started}
 use Rattle.run_outcomes.specs.Start.{startOutcome}
 use Rattle.run_outcomes.specs.Band.{bandOutcome, advanceOutcome}
@@ -60,16 +62,8 @@ frameNumber side upsampling level shift =
 abbrev pub told : Region → Region → ℕ → ℕ → ℕ → ℕ → Setup
 told image filter full gabor iters height =
     let s = begun .run .setup in
-    record {
-      image = image;
-      filter = filter;
-      «preserve_outside» = full;
-      settings = record {
-        gabor = record { enabled = gabor; weights = s .settings .gabor .weights };
-        epf = record { iters = iters; «channel_scale» = s .settings .epf .«channel_scale»; sigma = s .settings .epf .sigma; «sigma_for_modular» = s .settings .epf .«sigma_for_modular» };
-      };
-      «band_height» = height;
-    }
+    let g = gaborOf gabor (s .settings .gabor .weights) in
+    withBandHeight height (withSettings (withGabor g (withIters iters (s .settings))) (withFull full (withRegions image filter s)))
 
 -- a record of w × h samples as start gives it, with so many iterations and bands of so many rows: 9, or 11 since no band is done
 abbrev pub recordNumber : ℕ → ℕ → ℕ → ℕ → ℕ

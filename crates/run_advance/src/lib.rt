@@ -13,13 +13,11 @@ fn advanced(run: Run) -> Run
     requires { ⌜ run .pass < 4 ⌝ }
     ensures { λ r. ⌜ r ≡ advanced run ⌝ }
 {
-    let setup = run.setup;
     let done = [0; MAX_BANDS];
-    Run {
-        setup,
-        pass: run.pass + 1,
-        done,
-    }
+    let mut r = run;
+    r.pass += 1;
+    r.done = done;
+    r
 }
 
 // The next pass, or the finish.

@@ -15,7 +15,7 @@ use Rattle.refusals.specs.Flags.{flagSet}
 use Rattle.run_setup.specs.declared.Setup.{Setup}
 use Rattle.run_record.specs.declared.Run.{Run}
 use Rattle.run_setup.specs.Setup.{bandCount, setupFits}
-use Rattle.run_record.specs.Record.{passCount, isDone, noneDone, started, marked, advanced, finished, Reached, atStart, byBand, byAdvance}
+use Rattle.run_record.specs.Record.{passCount, isDone, noneDone, runOf as at, started, marked, advanced, finished, Reached, atStart, byBand, byAdvance}
 use Rattle.run_setup.specs.SetupFits.{SetupFits}
 use Rattle.run_setup.proofs.Laws.{setup-fits}
 use Rattle.run_record.specs.RunFits.{RunFits}
@@ -85,9 +85,6 @@ part-below l f (suc m) k b h = go (flagSet (getD l m 0)) refl (λ (p : k < m). p
 -- all flags
 part-whole : (l : List ℕ) → Flags l → length l ≡ 256 → part l 256 ≡ l
 part-whole l f e = ext-getD 0 (part l 256) l (length-part l 256 ∙ sym e) (λ k h. part-below l f 256 k (omega arith) (omega (arith, length-part l 256)))
-
-abbrev at : Setup → ℕ → List ℕ → Run
-at s p l = record { setup = s; pass = p; done = l }
 
 -- the bands of a pass that l has set, one after another
 marks : (s : Setup) (p : ℕ) (l : List ℕ) → eqb p (passCount s) ≡ false → Reached s (at s p noneDone)

@@ -9,7 +9,9 @@ use Rattle.planes.specs.Samples.{b0, b1}
 use Rattle.planes.specs.Picture.{Picture}
 use Rattle.planes.specs.Sets.{setOf}
 use Rattle.run_passes.specs.declared.Settings.{Settings}
+use Rattle.run_passes.specs.Makers.{gaborOf, evenWeights, epfSigmaOf, epfOf, noSettings, withGabor, withEpf}
 use Rattle.run_passes.specs.Plan.{margin}
+use Rattle.run_setup.specs.Makers.{setupWith}
 use Rattle.run_record.specs.Record.{started, marked}
 use Rattle.run_outcomes.specs.Start.{Handed}
 use Rattle.run_calls.specs.Calls.{startState, LibraryCall, band, advance, libraryCalls}
@@ -19,15 +21,7 @@ use Rattle.run_calls.specs.Theorem.{Premises}
 module _ (p : Picture) (scales : List Float) (border sigma : Float) where
   -- `unread` stands where one iteration without Gabor reads nothing
   abbrev settingsOf : Float → Settings
-  settingsOf unread = record {
-    gabor = record { enabled = 0; weights = (unread ∷ unread ∷ []) ∷ (unread ∷ unread ∷ []) ∷ (unread ∷ unread ∷ []) ∷ [] };
-    epf = record {
-      iters = 1;
-      «channel_scale» = scales;
-      sigma = record { «quant_mul» = unread; «pass0_sigma_scale» = unread; «pass2_sigma_scale» = unread; «border_sad_mul» = border };
-      «sigma_for_modular» = sigma;
-    };
-  }
+  settingsOf unread = withGabor (gaborOf 0 (evenWeights unread unread)) (withEpf (epfOf 1 scales (epfSigmaOf unread unread unread border) sigma) noSettings)
 
   -- two rows
   abbrev rowsFrom : ℕ → ℕ → Region
@@ -36,7 +30,7 @@ module _ (p : Picture) (scales : List Float) (border sigma : Float) where
   -- columns 0 to 11, the filter region being the image region; no group has a grid, so each block has `sigma_for_modular`
   abbrev pub larger : Handed
   larger = record {
-    setup = record { image = rowsFrom 0 12; filter = rowsFrom 0 12; «preserve_outside» = 0; settings = settingsOf b0; «band_height» = 64 };
+    setup = setupWith (rowsFrom 0 12) (rowsFrom 0 12) 0 (settingsOf b0) 64;
     frame = record { width = 12; height = 2; upsampling = 1; «lf_level» = 0; «group_size_shift» = 0 };
     table = 0 ∷ 0 ∷ 0 ∷ [];
     grids = [];
@@ -48,7 +42,7 @@ module _ (p : Picture) (scales : List Float) (border sigma : Float) where
   -- columns 8 to 11 of them in an image region of columns 7 to 11: the left edge of the filter region is cut
   abbrev pub smaller : Handed
   smaller = record {
-    setup = record { image = rowsFrom 7 5; filter = rowsFrom 8 4; «preserve_outside» = 1; settings = settingsOf b1; «band_height» = 2 };
+    setup = setupWith (rowsFrom 7 5) (rowsFrom 8 4) 1 (settingsOf b1) 2;
     frame = record { width = 100; height = 100; upsampling = 2; «lf_level» = 0; «group_size_shift» = 1 };
     table = 0 ∷ 5 ∷ 5 ∷ [];
     grids = [];

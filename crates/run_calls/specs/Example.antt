@@ -3,15 +3,18 @@ use mathlib.Core.List.{List, [], _∷_}
 use Prim.Native.Nat.{ℕ, suc}
 use lib.IntN.{ℤ, pos, negsuc}
 use lib.Ieee.{Float}
+use Rattle.region.specs.declared.Region.{Region}
 use Rattle.region.specs.Regions.{Holds}
 use Rattle.planes.specs.Samples.{b0}
 use Rattle.planes.specs.Picture.{Picture}
 use Rattle.planes.specs.Sets.{setOf}
 use Rattle.run_passes.specs.Plan.{margin}
+use Rattle.run_passes.specs.Makers.{gaborOf, noSettings, withGabor}
 use Rattle.run_setup.specs.declared.Setup.{Setup}
+use Rattle.run_setup.specs.Makers.{setupWith}
 use Rattle.run_record.specs.declared.Run.{Run}
 use Rattle.run_record.specs.Record.{marked}
-use Rattle.run_outcomes.specs.Start.{Handed, noSetup}
+use Rattle.run_outcomes.specs.Start.{Handed}
 use Rattle.run_outcomes.specs.Band.{State}
 use Rattle.run_calls.specs.Calls.{startState, LibraryCall, band, advance, libraryCalls}
 use Rattle.run_calls.specs.Places.{Clear}
@@ -20,16 +23,9 @@ use Rattle.run_calls.specs.Theorem.{Premises}
 module _ (p : Picture) (weights : List (List Float)) where
   -- one row of so many columns: Gabor alone, the result the filter region or the full planes, bands of a height
   abbrev setupOf : ℤ → ℕ → ℕ → ℕ → Setup
-  setupOf left width full height = record {
-    image = record { left = left; top = pos 0; width = width; height = 1 };
-    filter = record { left = left; top = pos 0; width = width; height = 1 };
-    «preserve_outside» = full;
-    settings = record {
-      gabor = record { enabled = 1; weights = weights };
-      epf = noSetup .settings .epf;
-    };
-    «band_height» = height;
-  }
+  setupOf left width full height =
+      let r : Region = record { left = left; top = pos 0; width = width; height = 1 } in
+      setupWith r r full (withGabor (gaborOf 1 weights) noSettings) height
 
   -- a frame of one group that has no grid
   abbrev handedOf : Setup → List Float → List Float → Handed

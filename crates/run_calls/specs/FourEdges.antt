@@ -13,8 +13,10 @@ use Rattle.planes.specs.Samples.{b0}
 use Rattle.planes.specs.Picture.{Picture}
 use Rattle.planes.specs.Sets.{setOf, tab}
 use Rattle.run_passes.specs.declared.Settings.{Settings}
+use Rattle.run_passes.specs.Makers.{gaborOf, epfSigmaOf, epfOf, noSettings, withGabor, withEpf}
 use Rattle.run_passes.specs.Plan.{margin}
-use Rattle.run_outcomes.specs.Start.{Handed, noSetup}
+use Rattle.run_setup.specs.Makers.{noSetup, setupWith}
+use Rattle.run_outcomes.specs.Start.{Handed}
 use Rattle.run_outcomes.specs.Band.{State}
 use Rattle.run_calls.specs.Calls.{startState, LibraryCall, band, advance, start, other, libraryCalls, stateAfter}
 use Rattle.run_calls.specs.Places.{Clear}
@@ -31,15 +33,7 @@ pub record Given : Type 0 where
 
 module _ (g : Given) where
   abbrev settings : Settings
-  settings = record {
-    gabor = record { enabled = 1; weights = g .weights };
-    epf = record {
-      iters = 1;
-      «channel_scale» = g .scales;
-      sigma = record { «quant_mul» = g .modular; «pass0_sigma_scale» = g .modular; «pass2_sigma_scale» = g .modular; «border_sad_mul» = g .border };
-      «sigma_for_modular» = g .modular;
-    };
-  }
+  settings = withGabor (gaborOf 1 (g .weights)) (withEpf (epfOf 1 (g .scales) (epfSigmaOf (g .modular) (g .modular) (g .modular) (g .border)) (g .modular)) noSettings)
 
   -- a frame of one group, whose grid has three cells each way
   abbrev frame : Frame
@@ -48,13 +42,7 @@ module _ (g : Given) where
   -- columns and rows 0 to 23, in an image region of −1 to 24
   abbrev pub larger : Handed
   larger = record {
-    setup = record {
-      image = record { left = negsuc 0; top = negsuc 0; width = 26; height = 26 };
-      filter = record { left = pos 0; top = pos 0; width = 24; height = 24 };
-      «preserve_outside» = 0;
-      settings = settings;
-      «band_height» = 5;
-    };
+    setup = setupWith (record { left = negsuc 0; top = negsuc 0; width = 26; height = 26 }) (record { left = pos 0; top = pos 0; width = 24; height = 24 }) 0 settings 5;
     frame = frame;
     table = 1 ∷ 3 ∷ 3 ∷ [];
     grids = tab 9 (g .grid);
@@ -66,13 +54,7 @@ module _ (g : Given) where
   -- columns and rows 8 to 15 of them, in an image region of 7 to 16; ten rows of the full planes by bands of four
   abbrev pub smaller : Handed
   smaller = record {
-    setup = record {
-      image = record { left = pos 7; top = pos 7; width = 10; height = 10 };
-      filter = record { left = pos 8; top = pos 8; width = 8; height = 8 };
-      «preserve_outside» = 1;
-      settings = settings;
-      «band_height» = 4;
-    };
+    setup = setupWith (record { left = pos 7; top = pos 7; width = 10; height = 10 }) (record { left = pos 8; top = pos 8; width = 8; height = 8 }) 1 settings 4;
     frame = frame;
     table = 1 ∷ 3 ∷ 3 ∷ [];
     grids = tab 9 (g .grid);

@@ -27,7 +27,7 @@ use Rattle.run_record.proofs.Laws.{run-fits, fits-run, Open, band-open, open-ba
 use Rattle.run_outcomes.specs.Start.{Handed, blocksOf, regionSides, filterInside, filterOnBlocks, setLengths, sigmasLength, itersInRange, fullInRange, gaborInRange, heightInRange, countInRange, orElse, pictureChecks, tailChecks, startChecks, startNumber, startLeaves, sigmasFilled, startAccepted, startRefused, startOutcome}
 use Rattle.run_outcomes.specs.Band.{State, readsFirst, bandChecks, bandNumber, bandAccepted, bandOutcome, advanceNumber, advanceOutcome}
 use Rattle.run_outcomes.specs.Result.{resultChecks, resultNumber, resultOf, resultOutcome}
-use Rattle.run_outcomes.proofs.Rows.{Row, here, below, row-passed, first-joined, joined-none}
+use Rattle.run_outcomes.proofs.Rows.{here, below, row-passed, first-joined, joined-none}
 
 -- ---- start
 

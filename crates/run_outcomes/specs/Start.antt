@@ -7,9 +7,8 @@ use lib.ListN.{length}
 use lib.Ieee.{Float}
 use Rattle.refusals.specs.Numbers.{outOfMeasure, notInside, notOnBlocks, wrongLength, blockNotHeld, outOfRange}
 use Rattle.refusals.specs.Checks.{Check, always, given, firstOf}
-use Rattle.region.specs.Regions.{inside, zeroRegion}
+use Rattle.region.specs.Regions.{inside}
 use Rattle.region.specs.Measures.{pictured}
-use Rattle.planes.specs.Samples.{b0}
 use Rattle.frame.specs.declared.Frame.{Frame}
 use Rattle.sigma_blocks.specs.declared.Blocks.{Blocks}
 use Rattle.sigma_groups.specs.Held.{someNotHeld}
@@ -18,6 +17,7 @@ use Rattle.sigma.specs.Sigma.{blockSigmas}
 use Rattle.region_placement.specs.Blocks.{ahead, onBlocks}
 use Rattle.run_passes.specs.Plan.{gaborFits}
 use Rattle.run_setup.specs.declared.Setup.{Setup}
+use Rattle.run_setup.specs.Makers.{noSetup}
 use Rattle.run_record.specs.declared.Run.{Run}
 use Rattle.run_setup.specs.Setup.{epfOn, itersFit, fullFits, heightFits, countFits, setLength, sigmaLength}
 use Rattle.run_record.specs.Record.{started}
@@ -128,23 +128,6 @@ module _ (n : ℕ) (h : Handed) where
   sigmasFilled = cond (epfOn setup) (blockSigmas (h .frame) (blocksOf setup) (h .table) (h .grids) (setup .settings .epf .«sigma_for_modular»)) (h .sigmas)
 
 -- ---- a refused start has no record: zeros
-
-abbrev pub noSetup : Setup
-noSetup = record {
-  image = zeroRegion;
-  filter = zeroRegion;
-  «preserve_outside» = 0;
-  settings = record {
-    gabor = record { enabled = 0; weights = (b0 ∷ b0 ∷ []) ∷ (b0 ∷ b0 ∷ []) ∷ (b0 ∷ b0 ∷ []) ∷ [] };
-    epf = record {
-      iters = 0;
-      «channel_scale» = b0 ∷ b0 ∷ b0 ∷ [];
-      sigma = record { «quant_mul» = b0; «pass0_sigma_scale» = b0; «pass2_sigma_scale» = b0; «border_sad_mul» = b0 };
-      «sigma_for_modular» = b0;
-    };
-  };
-  «band_height» = 0;
-}
 
 -- that of `started`, since its pass is 0 and no band is done
 abbrev pub noRun : Run

@@ -4,3 +4,4 @@ pub mod Near
 pub mod Cut
 pub mod Bounds
 pub mod Statements
+pub mod Makers

@@ -27,17 +27,21 @@ noneDone = replicate maxBands 0
 
 -- ---- as calls make it
 
+-- a record is made here alone: a field that is added gets its value here
+abbrev pub runOf : Setup → ℕ → List ℕ → Run
+runOf s p d = record { setup = s; pass = p; done = d }
+
 -- as start gives it
 unfoldable pub started : Setup → Run
-started s = record { setup = s; pass = 0; done = noneDone }
+started s = runOf s 0 noneDone
 
 -- after an accepted band
 unfoldable pub marked : Run → ℕ → Run
-marked r k = record { setup = r .setup; pass = r .pass; done = set (r .done) k 1 }
+marked r k = runOf (r .setup) (r .pass) (set (r .done) k 1)
 
 -- after an accepted advance (Specification 12.10): the next pass, with no band done
 unfoldable pub advanced : Run → Run
-advanced r = record { setup = r .setup; pass = suc (r .pass); done = noneDone }
+advanced r = runOf (r .setup) (suc (r .pass)) noneDone
 
 -- ---- what a call asks of it
 

@@ -8,12 +8,11 @@ use borrow.Author.Tests.{le-leb, le-ltb, ne-eqb}
 use lib.Dec.{T, eqb}
 use lib.ListN.{length}
 use lib.Ieee.{Float}
-use Rattle.refusals.specs.Numbers.{outOfMeasure, notInside, notOnBlocks, wrongLength, blockNotHeld, outOfRange}
-use Rattle.refusals.specs.Checks.{Check, always, given, applies, firstOf}
+use Rattle.refusals.specs.Numbers.{outOfMeasure, notOnBlocks, wrongLength, outOfRange}
+use Rattle.refusals.specs.Checks.{Check, applies, firstOf}
 use Rattle.refusals.specs.Flags.{flagFits, flagSet}
 use Rattle.region_axis.proofs.Laws.{place-size}
 use Rattle.region.specs.declared.Region.{Region}
-use Rattle.region.specs.Regions.{inside}
 use Rattle.region.specs.Measures.{pictured}
 use Rattle.region.proofs.Laws.{pictured-measured, pictured-width, pictured-height, pictured-area, measured-left, measured-top, measured-width, measured-height}
 use Rattle.region_placement.specs.Placed.{placedChecks}
@@ -31,7 +30,7 @@ use Rattle.region_placement.specs.Blocks.{ahead, onBlocks}
 use Rattle.region_placement.proofs.BlockLaws.{ahead-small}
 use Rattle.run_setup.specs.declared.Setup.{Setup}
 use Rattle.run_record.specs.declared.Run.{Run}
-use Rattle.run_setup.specs.Setup.{layout, epfOn, itersFit, sized, setLength, sigmaLength}
+use Rattle.run_setup.specs.Setup.{layout, epfOn, itersFit, sized}
 use Rattle.run_record.specs.Record.{started}
 use Rattle.run_setup.proofs.Tests.{sized-by-area}
 use Rattle.run_outcomes.proofs.Tests.{blocks-same}

@@ -14,19 +14,22 @@ use Rattle.sigma_grids.specs.Table.{badGrid, cells, gridStart, lacks, someBelow
 use Rattle.sigma_groups.specs.Held.{notHeld, someNotHeld}
 use Rattle.frame.specs.Outcome.{badSides, badSettings}
 use Rattle.sigma_groups.specs.Outcome.{tableFits, gridsFit}
+use Rattle.planes.specs.Samples.{b0}
+use Rattle.run_passes.specs.Makers.{gaborOf, evenWeights, noSettings, withGabor, withIters}
 use Rattle.run_setup.specs.declared.Setup.{Setup}
+use Rattle.run_setup.specs.Makers.{setupWith}
 use Rattle.run_setup.specs.Setup.{bandCount}
-use Rattle.run_outcomes.specs.Start.{Handed, noSetup, pictureChecks, startChecks, startNumber}
+use Rattle.run_outcomes.specs.Start.{Handed, pictureChecks, startChecks, startNumber}
 
 -- an image of 8 by 8 samples whose filter region has the given left and width, with the result's flag and Gabor's
 abbrev flagged : ℕ → ℕ → ℤ → ℕ → ℕ → ℕ → Setup
-flagged full enabled left width iters height = record {
-  image = record { left = pos 0; top = pos 0; width = 8; height = 8 };
-  filter = record { left = left; top = pos 0; width = width; height = 8 };
-  «preserve_outside» = full;
-  settings = record { gabor = record { enabled = enabled; weights = noSetup .settings .gabor .weights }; epf = record { iters = iters; «channel_scale» = []; sigma = noSetup .settings .epf .sigma; «sigma_for_modular» = nan } };
-  «band_height» = height;
-}
+flagged full enabled left width iters height =
+    setupWith
+    (record { left = pos 0; top = pos 0; width = 8; height = 8 })
+    (record { left = left; top = pos 0; width = width; height = 8 })
+    full
+    (withIters iters (withGabor (gaborOf enabled (evenWeights b0 b0)) noSettings))
+    height
 
 -- full planes, Gabor off
 abbrev setup : ℤ → ℕ → ℕ → ℕ → Setup

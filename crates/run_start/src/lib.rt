@@ -28,8 +28,9 @@ ghost use Rattle.refusals.specs.Checks.{firstOf};
 ghost use Rattle.region.specs.Regions.{zeroRegion};
 ghost use Rattle.sigma_groups.specs.Outcome.{sigmaNumber};
 ghost use Rattle.region_placement.specs.Blocks.{onBlocks};
+ghost use Rattle.run_passes.specs.Makers.{noEpf, noSettings};
 ghost use Rattle.run_record.specs.Record.{started};
-ghost use Rattle.run_outcomes.specs.Start.{StartOutcome, blocksOf, runsEpf, noSetup, noRun, startOutcome};
+ghost use Rattle.run_outcomes.specs.Start.{StartOutcome, blocksOf, runsEpf, noRun, startOutcome};
 ghost use Rattle.run_start.specs.Lowest.{lowest};
 ghost use Rattle.run_start.specs.Pieces.{epfFlag, sigmasAsked, ownChecks, numberOf};
 
@@ -170,7 +171,7 @@ fn no_region() -> Region
 }
 
 fn no_edge_filter() -> EpfSettings
-    ensures { λ r. ⌜ r ≡ noSetup .settings .epf ⌝ }
+    ensures { λ r. ⌜ r ≡ noEpf ⌝ }
 {
     let channel_scale = [0.0; 3];
     let sigma = EpfSigma {
@@ -188,7 +189,7 @@ fn no_edge_filter() -> EpfSettings
 }
 
 fn no_settings() -> Settings
-    ensures { λ r. ⌜ r ≡ noSetup .settings ⌝ }
+    ensures { λ r. ⌜ r ≡ noSettings ⌝ }
 {
     let gabor = gabor_settings(0, [[0.0; 2]; 3]);
     Settings {

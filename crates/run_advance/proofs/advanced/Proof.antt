@@ -7,7 +7,7 @@ use Rattle.run_advance.proofs.advanced.Tie as tie
 
 returns : tie.Need-returns
 unfolding advanced
-returns c = rw (add-one (c .before .before .args .run .pass))
+returns c = rw (add-one (c .before .args .run .pass))
 
 pub advanced-spec : {M : Type 1} → statement M
 advanced-spec = tie.close (tie.spec (λ c. search needs) returns)
