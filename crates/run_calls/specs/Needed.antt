@@ -25,7 +25,7 @@ use Rattle.run_calls.specs.Theorem.{Unrefused, Delivers, DeliversBeyond,
 pub data Premise : Type 0 where
   start-accepted unrefused contained same-passes inputs-agree sigmas-agree nobody-altered-anything run-finished slice-fits : Premise
 
--- what each says of a smaller and a larger picture, a list of the Specification's calls and a slice
+-- what each says of a smaller and a larger picture, a list of the library's calls and a slice
 abbrev pub Says : Premise → Handed → Handed → List LibraryCall → List Float → Type 0
 Says start-accepted small large cs out = StartAccepted 3 small
 Says unrefused small large cs out = Unrefused 3 large
