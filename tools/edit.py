@@ -44,7 +44,7 @@ class Edit:
 
     def of_code(self):
         """Whether it replaces code, and not only a contract, a definition or what these cite."""
-        return any(file.startswith("src/") and not re.search(r"⌜|^ghost ", old) for file, old, _ in self.replaced)
+        return any(file.startswith("src/") and not re.search(r"[⌜⌝×]|^ghost ", old) for file, old, _ in self.replaced)
 
     def of(self, function):
         return function in self.names and self.of_code()

@@ -20,13 +20,13 @@ use Rattle.epf.specs.Outcome.{stepChecks, epfChecks, epfOutcome}
 use Rattle.run_passes.specs.Plan.{steps, plan, stepMargin, marginChecks, marginOutcome}
 use Rattle.run_setup.specs.Setup.{bandCount, sized, numbersFit, setupFits}
 use Rattle.run_record.specs.Record.{isDone, started, bandMissing, strayDone, runFits}
-use Rattle.run_outcomes.specs.Start.{pictureChecks, startOutcome}
+use Rattle.run_outcomes.specs.Start.{pictureChecks, startChecks, startOutcome}
 use Rattle.run_outcomes.specs.Band.{bandChecks, bandOutcome, advanceOutcome}
 use Rattle.run_outcomes.specs.Result.{resultChecks, resultOutcome}
 use Rattle.instances.specs.Limits.{Limits}
 
 pub limits : Limits
-unfolding u mirror powerBelow place side regionOf inside measured pictured shrunkBy alignedTo regionAnswer sizesOf badSides badSettings badBlocks badGrid cells gridStart lacks someBelow noEntries notHeld someNotHeld tableFits gridsFit layoutOf passOutcome stepChecks epfChecks epfOutcome steps plan stepMargin marginChecks marginOutcome bandCount sized numbersFit setupFits isDone started bandMissing strayDone runFits pictureChecks startOutcome bandChecks bandOutcome advanceOutcome resultChecks resultOutcome
+unfolding u mirror powerBelow place side regionOf inside measured pictured shrunkBy alignedTo regionAnswer sizesOf badSides badSettings badBlocks badGrid cells gridStart lacks someBelow noEntries notHeld someNotHeld tableFits gridsFit layoutOf passOutcome stepChecks epfChecks epfOutcome steps plan stepMargin marginChecks marginOutcome bandCount sized numbersFit setupFits isDone started bandMissing strayDone runFits pictureChecks startChecks startOutcome bandChecks bandOutcome advanceOutcome resultChecks resultOutcome
 limits = record {
   regionSide = (refl, refl);
   regionRight = (refl, refl);

@@ -34,7 +34,8 @@ use Rattle.run_passes.specs.Pass.{pass, passes}
 use Rattle.run_passes.specs.Plan.{plan, steps, stepOf, scaleOf, stepMargin}
 use Rattle.run_setup.specs.Setup.{bandCount, numbersFit, setupFits, sized}
 use Rattle.run_record.specs.Record.{isDone, started, strayDone, runFits}
-use Rattle.run_outcomes.specs.Start.{Handed, pictureChecks, startChecks, startLeaves, sigmasFilled, noSetup, startOutcome}
+use Rattle.run_setup.specs.Makers.{noSetup}
+use Rattle.run_outcomes.specs.Start.{Handed, pictureChecks, startChecks, startLeaves, sigmasFilled, startOutcome}
 use Rattle.run_outcomes.specs.Result.{resultChecks, resultOutcome}
 use Rattle.run_calls.specs.Calls.{LibraryCall, libraryCalls, end}
 use Rattle.run_calls.specs.Places.{Clear, inputAt, sampleAt, sigmaAt}

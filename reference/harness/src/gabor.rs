@@ -31,6 +31,9 @@ const NAME: &str = "gabor rows";
 /// The numbers that the pass can answer.
 const NUMBERS: [u32; 5] = [0, 4, 5, 7, 9];
 
+/// Values of `enabled`, which the pass ignores.
+const ENABLED: [u32; 4] = [0, 1, 2, u32::MAX];
+
 /// The inputs of a pass without the slices.
 #[derive(Debug, Clone, Copy)]
 struct Pass {
@@ -48,7 +51,10 @@ impl pass::Pass for Pass {
     fn ours(&self, (from, to): Rows, source: &[f32], target: &mut [f32]) -> u32 {
         let place = self.place;
         let (image, filter) = (region(place.image), region(place.filter));
-        let settings = GaborSettings::with_weights(self.weights);
+        let settings = GaborSettings {
+            enabled: ENABLED[from.wrapping_add(to) as usize % ENABLED.len()],
+            weights: self.weights,
+        };
         restoration::gabor_pass(image, filter, self.full, settings, from, to, source, target)
     }
 
