@@ -4,12 +4,12 @@ use mathlib.Core.Bool.{Bool, true, false, cond, not, _&&_}
 use mathlib.Core.List.{List, [], _∷_}
 use Prim.Native.Nat.{ℕ, _*_, _/_, _≤_}
 use native.Mathlib.Omega.{arith}
-use borrow.Author.Tests.{le-leb, le-ltb, ne-eqb}
+use borrow.Author.Tests.{le-leb, le-ltb, ne-eqb, not-false}
 use lib.Dec.{T, eqb}
 use lib.ListN.{length}
 use lib.Ieee.{Float}
-use Rattle.refusals.specs.Numbers.{outOfMeasure, notOnBlocks, wrongLength, outOfRange}
-use Rattle.refusals.specs.Checks.{Check, applies, firstOf}
+use Rattle.refusals.specs.Numbers.{outOfMeasure}
+use Rattle.refusals.specs.Checks.{Check, firstOf}
 use Rattle.refusals.specs.Flags.{flagFits, flagSet}
 use Rattle.region_axis.proofs.Laws.{place-size}
 use Rattle.region.specs.declared.Region.{Region}
@@ -26,7 +26,7 @@ use Rattle.sigma_groups.specs.Held.{someNotHeld}
 use Rattle.frame.specs.Outcome.{badSides, badSettings}
 use Rattle.sigma_groups.specs.Outcome.{frameFits, tableFits, tableRead, someGroup, gridsFit, frameSides, gridSides, tableLength, gridsLength, frameSettings, presences, sigmaChecks, sigmaNumber}
 use Rattle.sigma.specs.Outcome.{SigmasOutcome, leftIn, sigmasOutcome}
-use Rattle.region_placement.specs.Blocks.{ahead, onBlocks}
+use Rattle.region_placement.specs.Blocks.{ahead}
 use Rattle.region_placement.proofs.BlockLaws.{ahead-small}
 use Rattle.run_setup.specs.declared.Setup.{Setup}
 use Rattle.run_record.specs.declared.Run.{Run}
@@ -34,9 +34,8 @@ use Rattle.run_setup.specs.Setup.{layout, epfOn, itersFit, sized}
 use Rattle.run_record.specs.Record.{started}
 use Rattle.run_setup.proofs.Tests.{sized-by-area}
 use Rattle.run_outcomes.proofs.Tests.{blocks-same}
-use Rattle.run_outcomes.specs.Band.{setCheck}
-use Rattle.run_outcomes.specs.Start.{Handed, StartOutcome, blocksOf, runsEpf, regionSides, filterInside, filterOnBlocks, setLengths, sigmasLength, blocksHeld, pictureChecks, startNumber, startLeaves, sigmasFilled, noRun, startOutcome}
-use Rattle.run_outcomes.proofs.Rows.{or-zero}
+use Rattle.run_outcomes.specs.Start.{Handed, StartOutcome, blocksOf, runsEpf, regionSides, filterInside, filterOnBlocks, setLengths, sigmasLength, blocksHeld, itersInRange, pictureChecks, startNumber, startLeaves, sigmasFilled, noRun, startOutcome}
+use Rattle.run_outcomes.proofs.Rows.{here, below, row-passed, or-zero}
 use Rattle.run_outcomes.proofs.Laws.{start-parts}
 use Rattle.run_start.specs.Lowest.{lowest}
 use Rattle.run_start.proofs.LowestLaws.{Parted, none, left, right, first-lowest, lowest-left, lowest-none, ascending-from}
@@ -96,13 +95,6 @@ held-row true true some = refl
 held-row true false some = refl
 held-row false true some = refl
 held-row false false some = refl
-
--- a third row that does not apply
-third-row : (a b c : Bool) (rest : ℕ) → cond a notOnBlocks (cond b wrongLength (cond (not c) outOfRange rest)) ≡ 0 → c ≡ true
-third-row true b c rest e = absurd (omega arith)
-third-row false true c rest e = absurd (omega arith)
-third-row false false true rest e = refl
-third-row false false false rest e = absurd (omega arith)
 
 -- what accepted block sigmas are, iterations being in range
 left-is : (number : ℕ) (set iters on : Bool) (defined lent : List Float) → number ≡ 0 → set ≡ (iters && on) → iters ≡ true → leftIn number set defined lent ≡ cond on defined lent
@@ -209,7 +201,7 @@ module _ (n : ℕ) (h : Handed) where
       pieces = let b = lowest-none _ _ (sym e ∙ z) in (lowest-none _ _ (b .0) .1, b .1)
 
       iters : itersFit s ≡ true
-      iters = third-row (runsEpf s && not (onBlocks (s .filter))) (applies (setCheck n s (length (h .first)) (length (h .second)))) (itersFit s) _ (pieces .0)
+      iters = not-false (itersFit s) (row-passed (ownChecks n s (length (h .first)) (length (h .second))) tt (pieces .0) (itersInRange s) (search (here, below) depth 20))
 
       sigmas-fit : groupsNumber (length (h .sigmas)) ≡ 0
       sigmas-fit = let a : length (h .sigmas) ≡ sigmasAsked s (length (h .sigmas)) = rw iters in ap groupsNumber a ∙ pieces .1
