@@ -92,6 +92,15 @@ static void frames(void)
     RestorationSplitAnswer split = restoration_split_block(300, 0);
     COMPARE(split.group == 2 && split.inner == 44);
     REFUSED_NUMBER(restoration_block_sigmas(1, frame, blocks, table, GROUP, NULL, 0, 1, sigmas, 2), RESTORATION_WRONG_LENGTH, sigmas);
+    // A present grid 2,000 wide is out of measure, but no entry of a table of wrong length is read (Specification 7.4).
+    static const uint32_t too_wide[2 * GROUP] = {1, 2000, 1};
+    REFUSED_NUMBER(restoration_block_sigmas(1, frame, blocks, too_wide, GROUP, NULL, 0, 1, sigmas, 1), RESTORATION_OUT_OF_MEASURE, sigmas);
+    REFUSED_NUMBER(restoration_block_sigmas(1, frame, blocks, too_wide, 2 * GROUP, NULL, 0, 1, sigmas, 1), RESTORATION_WRONG_LENGTH, sigmas);
+    // The last left in measure, and the first that is not (Specification 7.9).
+    blocks.left = 131072;
+    REFUSED_NUMBER(restoration_block_sigmas(1, frame, blocks, table, GROUP, NULL, 0, 1, sigmas, 1), RESTORATION_BLOCK_NOT_HELD, sigmas);
+    blocks.left = 131073;
+    REFUSED_NUMBER(restoration_block_sigmas(1, frame, blocks, table, GROUP, NULL, 0, 1, sigmas, 1), RESTORATION_OUT_OF_MEASURE, sigmas);
 }
 
 static void headers(void)
@@ -213,6 +222,10 @@ static void epf_run(void)
     static const float means[] = {0, 8, 0, 8, 8, 8, 0, 8, 0};
     RestorationSettings settings = {.epf = {.iters = 1, .sigma = {.border_sad_mul = 1}}};
     run_calls(settings, 1, 40, means);
+    // No frame holds a block at column 16,384, but the record is valid: 8 is not among its checks (Specification 12.8).
+    RestorationRegion far = {.left = 16384, .width = SIDE, .height = SIDE};
+    RestorationRun run = {.setup = {.image = far, .filter = far, .settings = settings, .band_height = SIDE}, .done = {1}};
+    COMPARE(restoration_advance(run).number == RESTORATION_ACCEPTED);
 }
 
 int main(void)
