@@ -33,7 +33,7 @@ enum {
     RESTORATION_BITS_RUN_OUT = 1, // the header's bits run out
     RESTORATION_HALF_NOT_FINITE = 2, // a half-precision number of the header is not finite
     RESTORATION_KERNEL_NEAR_ZERO = 3, // the weights of a channel and its centre's 1 add up to nearly 0
-    RESTORATION_OUT_OF_MEASURE = 4, // a side, an area, a left or a top is outside the measures
+    RESTORATION_OUT_OF_MEASURE = 4, // a side, area, left or top is out of range
     RESTORATION_NOT_INSIDE = 5, // the filter region is not inside the image region
     RESTORATION_NOT_ON_BLOCKS = 6, // the filter region's left or top is negative or no multiple of 8
     RESTORATION_WRONG_LENGTH = 7, // a slice has a wrong length

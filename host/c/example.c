@@ -1,4 +1,4 @@
-// One refused call of each function of the C boundary, and a whole run. Prints how much was compared; exits with 1 where something differs.
+// One refused call of each function of the C boundary, and a whole run. Prints how many answers were compared; exits with 1 if one differs.
 #include "restoration.h"
 
 #include <stdio.h>
@@ -17,20 +17,20 @@ static void compare(bool same, const char *what)
 
 #define COMPARE(same) compare(same, #same)
 
-// A refused call that answers `a`: its number, and what holds of its other fields.
-#define REFUSED(Answer, call, due, others) \
+// A refused call with the answer `a`: its number, and a condition on its other fields.
+#define REFUSED(Answer, call, expected, others) \
     do { \
         Answer a = call; \
         refused++; \
-        compare(a.number == due, #call); \
+        compare(a.number == expected, #call); \
         COMPARE(others); \
     } while (0)
 
-// One that answers its number alone, and the buffer that it leaves.
-#define REFUSED_NUMBER(call, due, buffer) \
+// A refused call that answers a number alone and leaves the buffer unchanged.
+#define REFUSED_NUMBER(call, expected, buffer) \
     do { \
         refused++; \
-        compare(call == due, #call); \
+        compare(call == expected, #call); \
         COMPARE(buffer[0] == 5); \
     } while (0)
 
@@ -59,7 +59,7 @@ enum { SIDE = 3, PLANES = 3, SAMPLES = PLANES * SIDE * SIDE, GROUP = 3 };
 
 static const RestorationRegion image = {.width = SIDE, .height = SIDE}, wide = {.width = 16385, .height = 1};
 static const RestorationFrame frame = {.width = SIDE, .height = SIDE, .upsampling = 1};
-// The frame's one group has no grid.
+// The frame has one group, without a grid.
 static const uint32_t table[GROUP];
 
 static void regions(void)
@@ -73,7 +73,7 @@ static void regions(void)
     REFUSED(RestorationRegionAnswer, restoration_region_pad(image, 16384), RESTORATION_OUT_OF_MEASURE, ZEROS(a.region));
     REFUSED(RestorationRegionAnswer, restoration_region_downsample(image, 17), RESTORATION_OUT_OF_RANGE, ZEROS(a.region));
     REFUSED(RestorationRegionAnswer, restoration_region_container_aligned(image, 3), RESTORATION_OUT_OF_RANGE, ZEROS(a.region));
-    // Accepted calls in which exchanged parameters would show.
+    // Accepted calls whose answers depend on the order of the parameters.
     RestorationRegion moved = restoration_region_translate(image, 1, 2).region;
     COMPARE(moved.left == 1 && moved.top == 2 && moved.width == SIDE && moved.height == SIDE);
     RestorationRegion corner = {.width = 1, .height = 2};
@@ -122,7 +122,7 @@ static void passes(void)
         COMPARE(restoration_epf_pass(image, image, 1, step, &sigma, 1, 0, SIDE, from, SAMPLES, to, SAMPLES) == RESTORATION_ACCEPTED && ZEROS(to));
 }
 
-// Document 01, "Instances": weights 1/2, 1/4 on a single sample of 16; one band per row.
+// Specification 14.6: weights 1/2, 1/4 on a single sample of 16; one band per row.
 static void run_calls(void)
 {
     static const float smooth[] = {1, 2, 1, 2, 4, 2, 1, 2, 1};

@@ -1,5 +1,5 @@
-//! Links the proved library, `librestoration.a` in the folder `RESTORATION_STATICLIB_DIR` or, where that is
-//! not set, in the repository's `target/staticlib`, where `tools/library` writes it.
+//! Links the proved library, `librestoration.a`: from the folder `RESTORATION_STATICLIB_DIR` if that is set,
+//! else from the repository's `target/staticlib`, where `tools/library` writes it.
 
 use std::{env, path::PathBuf};
 

@@ -1,4 +1,5 @@
-//! Writes the modules that are compiled from the original's folder, `RESTORATION_RUST_SRC`, once its files have their digests.
+//! Checks the digests of the original's files in `RESTORATION_RUST_SRC`, and writes modules that compile
+//! them.
 
 use std::{env, fs, path::PathBuf};
 

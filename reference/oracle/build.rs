@@ -1,9 +1,8 @@
-//! Writes the modules that are compiled from the original's folder, `RESTORATION_RUST_SRC`, once its files
-//! have their digests.
+//! Checks the digests of the original's files in `RESTORATION_RUST_SRC`, and writes modules that compile
+//! them.
 //!
-//! Files of which only a part is wanted have that part's text taken out of them, into the build's
-//! own folder. The originals are laid out by rustfmt: an item ends at the first line that is its
-//! own indentation and a closing brace.
+//! If only a part of a file is needed, its text is extracted to the build folder. The originals are
+//! formatted by rustfmt: an item ends at the first line that has its indentation and a closing brace.
 
 use std::{
     env, fs,
@@ -35,7 +34,7 @@ fn main() {
     write(&out, "channels.rs", channels(&read(&folder, "image.rs")));
 }
 
-/// The files compiled whole, under the names that they use for each other.
+/// The files that are compiled whole, under the names that they use for each other.
 fn whole(folder: &Path) -> String {
     let region = folder.join("region.rs");
     let filter = folder.join("filter");

@@ -1,4 +1,4 @@
--- The outcome of an edge-preserving step over rows of its result, for every input: three planes, numbers of document 01. Definitions only; Fits.antt has their laws.
+-- The outcome of an edge-preserving step over rows of its result, for every input: three planes, numbers of Specification 9.4. Definitions only; Fits.antt has their laws.
 use mathlib.Core.Bool.{_&&_, not}
 use mathlib.Core.List.{List, [], _∷_, _++_}
 use Prim.Native.Nat.{ℕ, _*_}
@@ -19,7 +19,7 @@ use Rattle.epf_tiles.specs.Blocks.{blockColumns, sigmaOf, blockRows}
 use Rattle.epf.specs.declared.EpfStep.{EpfStep}
 use Rattle.region_placement.specs.Blocks.{ahead, onBlocks}
 
--- the settings that a step reads: n planes, and the copying limit of document 01
+-- the settings that a step reads: n planes, and the copying limit (Specification 11.4)
 abbrev pub settingsOf : ℕ → EpfStep → EpfPass
 settingsOf n s = record { step = s .step; limit = standardLimit; scales = scaled n (s .«channel_scale»); multiplier = s .multiplier; borderMul = s .«border_sad_mul» }
 
@@ -27,7 +27,7 @@ settingsOf n s = record { step = s .step; limit = standardLimit; scales = scaled
 abbrev pub epfOver : ℕ → Layout → EpfStep → ℕ → List Float → List Float → Picture
 epfOver n l s top sigmas src = epfPass (settingsOf n s) (l .width) (l .height) top (sigmaOf (blockColumns l) sigmas) (inner l src)
 
--- Which number a placed filter region gives (document 01): 6 for its corner, 7 for the two sets and the sigmas, 9 for the step, for the flag that says
+-- Which number a placed filter region gives (Specification 9.4): 6 for its corner, 7 for the two sets and the sigmas, 9 for the step, for the flag that says
 -- whether the result is the full planes, and for the rows, which need it.
 unfoldable pub stepChecks : ℕ → Layout → Region → ℕ → ℕ → ℕ → ℕ → ℕ → ℕ → ℕ → List Check
 stepChecks n l filter full step from to sigmas src dst =

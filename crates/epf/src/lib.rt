@@ -20,7 +20,7 @@ ghost use Prim.Native.Nat.{_≤_};
 ghost use lib.ListN.{length};
 ghost use Rattle.refusals.specs.Checks.{firstOf};
 ghost use Rattle.planes.specs.Band.{passed};
-ghost use Rattle.planes.specs.Stored.{LayoutFits, BandFits};
+ghost use Rattle.planes.specs.Fits.{LayoutFits, BandFits};
 ghost use Rattle.planes_layout.specs.Outcome.{PassOutcome};
 ghost use Rattle.epf_step.specs.Steps.{standardLimit};
 ghost use Rattle.epf_tiles.specs.Tile.{stepOver};
@@ -33,7 +33,7 @@ const BLOCK: usize = 8;
 
 const LAST_STEP: usize = 2;
 
-// Document 01: sigma under this copies the sample. Bits 3E99999A.
+// 0.3 (Specification 11.4): sigma under this copies the sample. Bits 3E99999A.
 const COPYING_LIMIT: f32 = 0.3;
 
 // The settings of a step that it reads besides samples and sigmas: `multiplier` is the step's scale.

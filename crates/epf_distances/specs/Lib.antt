@@ -1,4 +1,3 @@
-pub mod Runs
 pub mod Seen
 pub mod Taps
 pub mod Fields

@@ -1,1 +1,2 @@
 pub mod Divisor
+pub mod Inside

@@ -1,4 +1,4 @@
--- What is said of a divisor of step 2 where nothing is mirrored (document 01, "Edge-preserving steps": in 1 to 5). proofs/Divisor.antt proves it.
+-- What is said of a divisor of step 2 where nothing is mirrored (Specification 11.9: in 1 to 5). proofs/Divisor.antt proves it.
 use mathlib.Core.List.{List}
 use lib.Dec.{T}
 use lib.Ieee.{Float}

@@ -5,7 +5,7 @@ use Prim.Native.Nat.{ℕ, zero, suc, _+_, _^_, _≤_, _<_}
 use native.Mathlib.Omega.{arith}
 use lib.ListN.{length, getD}
 use lib.Ieee.{Float, nan}
-use Rattle.rounding.specs.Rounded.{Within}
+use Rattle.rounding.proofs.Rounded.{Within}
 use Rattle.epf_step.specs.Steps.{kernel, dists}
 use Rattle.epf_step.proofs.Bounds.{weight-within, one-within, sum-within, most-within, few-weights, distance-not-negative, slope-not-positive}
 use Rattle.epf_distances.specs.Taps.{neighbour}

@@ -1,1 +1,3 @@
 pub mod Divisors
+pub mod Lanes
+pub mod Meaning

@@ -1,4 +1,4 @@
--- What is said of the divisors of a row of lanes (document 01, "Edge-preserving steps": in 1 to 5 in steps 1 and 2, in 1 to 13 in step 0).
+-- What is said of the divisors of a row of lanes (Specification 11.9: in 1 to 5 in steps 1 and 2, in 1 to 13 in step 0).
 -- proofs/Divisors.antt proves these statements.
 use mathlib.Core.Path.{_≡_}
 use mathlib.Core.Bool.{false}

@@ -16,8 +16,8 @@ use lib.Ieee.Positive.{above}
 use lib.Ieee.Exact.{HasValue}
 use Rattle.planes.specs.Samples.{_⊕_, _⊖_, _⊗_, _⊘_, b0, b1}
 use Rattle.planes.specs.Picture.{Around}
-use Rattle.rounding.specs.Rounded.{Within, round-within, round-signed, add-within, within-le}
-use Rattle.rounding.specs.Side.{Side, of-signed, add-side, mul-side, div-side, not-negative, not-under, either, wider}
+use Rattle.rounding.proofs.Rounded.{Within, round-within, round-signed, add-within, within-le}
+use Rattle.rounding.proofs.Side.{Side, of-signed, add-side, mul-side, div-side, not-negative, not-under, either, wider}
 use Rattle.rounding.specs.Magnitude.{magnitude}
 use Rattle.epf_step.specs.Steps.{Offset, Scaled, kernel, dists, along, apart, distance, positive, falloff, weightBy, copied, weightAt, divisor, border, multiplier}
 use Rattle.epf_step.specs.Bounds.{notNegative, notPositive, ScalesNotNegative, Between, most, WeightBounded, DistanceNotNegative, SlopeNotPositive, WeightBounds, DivisorBounds, MultiplierNotNegative, PassBounds}

@@ -1,4 +1,4 @@
--- Bounds of weights and divisors where no scale and no multiplier is negative (document 01, "Edge-preserving steps"), for every sample, infinities and NaN included,
+-- Bounds of weights and divisors where no scale and no multiplier is negative (Specification 11.9), for every sample, infinities and NaN included,
 -- and every limit above zero. proofs/Bounds.antt proves these statements.
 use mathlib.Core.Path.{_≡_}
 use mathlib.Core.Bool.{Bool, false, not}

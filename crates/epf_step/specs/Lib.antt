@@ -1,4 +1,4 @@
 pub mod Steps
 pub mod Offsets
 pub mod Bounds
-pub mod Local
+pub mod Channels

@@ -1,4 +1,4 @@
--- The rule behind the lists of offsets (ISO/IEC 18181-1, edge-preserving filter; document 01, "Edge-preserving steps"): which offsets a step has, each exactly once.
+-- The rule behind the lists of offsets (ISO/IEC 18181-1, edge-preserving filter; Specification 11.10): which offsets a step has, each exactly once.
 -- The lists, `kernel` and `dists`, have them in the Rust's order. proofs/Offsets.antt proves the statements.
 use mathlib.Core.Path.{_≡_}
 use mathlib.Core.Bool.{Bool, false, cond, _&&_}

@@ -1,4 +1,4 @@
--- One sample of an edge-preserving step (document 01, "Edge-preserving steps"; ISO/IEC 18181-1, the edge-preserving filter), and a step over a picture.
+-- One sample of an edge-preserving step (Specification 11; ISO/IEC 18181-1, the edge-preserving filter), and a step over a picture.
 -- Everything is over the step, a reader of samples, the channels with their scales and the copying limit. Each operation is rounded once. Definitions only.
 use mathlib.Core.Bool.{Bool, cond, _||_}
 use mathlib.Core.List.{List, [], _∷_}
@@ -85,7 +85,7 @@ weight sigma m d = weightBy (falloff ⊘ sigma ⊗ m) d
 unfoldable pub copied : Float → Float → Bool
 copied sigma limit = lt sigma limit
 
--- 0.3, bits 3E99999A: the limit of document 01
+-- 0.3, bits 3E99999A: the copying limit (Specification 11.4)
 abbrev pub standardLimit : Float
 standardLimit = bits 0x3e99_999a
 

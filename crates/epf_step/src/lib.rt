@@ -1,4 +1,4 @@
-// The parts of one sample of an edge-preserving step (document 01, "Edge-preserving steps").
+// The parts of one sample of an edge-preserving step (Specification 11).
 ghost use mathlib.Core.Path.{_≡_};
 ghost use lib.ListN.{length};
 ghost use Rattle.planes.specs.Samples.{_⊘_};

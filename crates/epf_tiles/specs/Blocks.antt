@@ -1,4 +1,4 @@
--- The blocks of a filter region (document 01, "Block sigmas"): how many lie beside and below each other, and the sigma of each. Definitions only.
+-- The blocks of a filter region (Specification 2.3, 7.8): how many lie beside and below each other, and the sigma of each. Definitions only.
 use mathlib.Core.List.{List}
 use Prim.Native.Nat.{ℕ, _+_, _*_}
 use lib.ListN.{getD}

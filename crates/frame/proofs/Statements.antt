@@ -1,6 +1,6 @@
 -- What specs/Statements.antt promises of a frame's sizes. Assumes nothing.
-use Rattle.frame.specs.Laws.{divided-up-covers as covers, divided-up-least as least, split-whole as whole, inner-lt}
-use Rattle.frame.specs.Statements.{DividedUpCovers, DividedUpLeast, SplitWhole, InnerBelow}
+use Rattle.frame.proofs.Laws.{divided-up-covers as covers, divided-up-least as least, split-whole as whole, inner-lt, group-below as below}
+use Rattle.frame.specs.Statements.{DividedUpCovers, DividedUpLeast, SplitWhole, InnerBelow, GroupBelow}
 
 pub divided-up-covers : DividedUpCovers
 divided-up-covers = covers
@@ -13,3 +13,6 @@ split-whole = whole
 
 pub inner-below : InnerBelow
 inner-below = inner-lt
+
+pub group-below : GroupBelow
+group-below = below

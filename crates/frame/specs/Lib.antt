@@ -1,5 +1,5 @@
 pub mod Sizes
 pub mod Outcome
-pub mod Laws
+pub mod Sound
 pub mod Statements
 pub mod Examples

@@ -1,4 +1,4 @@
--- What `group_sizes` and `split_block` answer (document 01, "Block sigmas"): the tables of their checks, and the outcome for every input.
+-- What `group_sizes` and `split_block` answer (Specification 7.3): the tables of their checks, and the outcome for every input.
 use mathlib.Core.Bool.{Bool, cond, not, _||_}
 use mathlib.Core.List.{List, [], _∷_}
 use Prim.Native.Nat.{ℕ}
@@ -19,11 +19,11 @@ badSide side = ltb side 1 || ltb 16384 side
 abbrev pub badUpsampling : ℕ → Bool
 badUpsampling u = not (eqb u 1 || eqb u 2 || eqb u 4 || eqb u 8)
 
--- Document 01, "Measures": frame sides outside 1 to 16,384
+-- Specification 4.1: frame sides outside 1 to 16,384
 unfoldable pub badSides : Frame → Bool
 badSides f = badSide (f .width) || badSide (f .height)
 
--- Document 01, "Block sigmas": upsampling none of 1, 2, 4, 8; LF level over 4; group size shift over 3
+-- Specification 4.1: upsampling none of 1, 2, 4, 8; LF level over 4; group size shift over 3
 unfoldable pub badSettings : Frame → Bool
 badSettings f = badUpsampling (f .upsampling) || ltb 4 (f .«lf_level») || ltb 3 (f .«group_size_shift»)
 
@@ -43,7 +43,7 @@ sizesAnswered number sizes = record { number = number; sizes = cond (eqb number 
 abbrev pub frameOutcome : Frame → FrameAnswer
 frameOutcome f = sizesAnswered (firstOf (frameChecks f)) (sizesOf f)
 
--- Document 01, "Block sigmas": group size shift 0 to 3, else 9.
+-- Specification 7.3: group size shift 0 to 3, else 9.
 abbrev pub splitChecks : ℕ → List Check
 splitChecks shift = always outOfRange (ltb 3 shift) ∷ []
 

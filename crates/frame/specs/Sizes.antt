@@ -1,4 +1,4 @@
--- The sizes of document 01, "Block sigmas": sample sides, group dimension and shift, LF groups, and which group and inner cell a block has.
+-- The sizes of Specification 7.1 and 7.2: sample sides, group dimension and shift, LF groups, and which group and inner cell a block has.
 use Prim.Native.Nat.{ℕ, _+_, _-_, _*_, _/_, _%_, _^_}
 use lib.Count.{trailingZeros}
 use Rattle.frame.specs.declared.Frame.{Frame}

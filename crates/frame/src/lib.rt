@@ -1,10 +1,10 @@
-// Sample sides, group dimension and shift, LF groups of a frame, and which group and inner cell a block has (document 01, "Block sigmas").
+// Sample sides, group dimension and shift, LF groups of a frame, and which group and inner cell a block has (Specification 7.1, 7.2).
 ghost use mathlib.Core.Path.{_≡_};
 ghost use Prim.Native.Nat.{_<_, _≤_};
 ghost use Rattle.refusals.specs.Checks.{firstOf};
 ghost use Rattle.frame.specs.Sizes.{dividedUp, sampleSide, groupDim, groupsAlong, sizesOf};
 ghost use Rattle.frame.specs.Outcome.{frameChecks, frameOutcome, splitOutcome, badSide, badSides, badUpsampling, badSettings, noSizes};
-ghost use Rattle.frame.specs.Laws.{Sound};
+ghost use Rattle.frame.specs.Sound.{Sound};
 
 const MAX_SIDE: u32 = 16_384;
 

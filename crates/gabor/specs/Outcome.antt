@@ -1,4 +1,4 @@
--- The outcome of the Gabor-like pass over rows of its result, for every input (document 01, "Gabor pass", "Eleven numbers"). Definitions only; Fits.antt has its laws.
+-- The outcome of the Gabor-like pass over rows of its result, for every input (Specification 9.3, 9.4). Definitions only; Fits.antt has its laws.
 use mathlib.Core.List.{List}
 use Prim.Native.Nat.{ℕ}
 use lib.Ieee.{Float}

@@ -1,72 +1,12 @@
--- What the loops over rows and planes leave is the pass over the filter region. Assumes nothing.
-use mathlib.Core.Path.{_≡_, sym, ap, _∙_}
+-- Rows of a Gabor-like pass in a set of planes. Definitions only.
 use mathlib.Core.List.{List}
-use Prim.Native.Nat.{ℕ, _+_, _-_, _*_, _<_, _≤_}
-use native.Mathlib.Nat.{add-mul}
-use native.Mathlib.Omega.{arith}
-use lib.ListN.{length, getD}
-use lib.IntN.{pos, _+ℤ_}
-use lib.Ieee.{Float, nan}
-use Rattle.mirror.specs.Mirror.{mirror}
+use Prim.Native.Nat.{ℕ, _+_}
+use lib.Ieee.{Float}
 use Rattle.planes.specs.declared.Layout.{Layout}
-use Rattle.planes.specs.Picture.{Picture, around}
-use Rattle.planes.specs.Sets.{of}
-use Rattle.planes.specs.Rect.{planesFill, planes-turn, rows-cong}
-use Rattle.planes.specs.Band.{inner, passed, copiedOutside, filterRow}
-use Rattle.planes.specs.Stored.{LayoutFits, BandFits, passed-over, fits-copied}
-use Rattle.planes.specs.Room.{regionStart, region-index, PlaneRoom}
-use Rattle.gabor_kernel.specs.Ends.{stands}
-use Rattle.gabor_kernel.specs.Gabor.{total, gabor, sideWeight, diagonalWeight, gaborPass}
-use Rattle.gabor_kernel.specs.Local.{gaborBy-same}
-use Rattle.gabor_plane.specs.Rows.{region, regionSample, RegionFits, row-above}
-use Rattle.gabor_plane.specs.Plane.{regionRows, planeOutcome, region-true, plane-rows}
+use Rattle.planes.specs.Picture.{Picture}
+use Rattle.planes.specs.Band.{inner}
+use Rattle.gabor_kernel.specs.Gabor.{gaborPass}
 
 -- the pass over the filter region of a set, its rows counted from row `from`
 unfoldable pub passRows : List (List Float) → Layout → List Float → ℕ → Picture
 passRows ws l s from = λ c x i. gaborPass ws (l .width) (l .height) (inner l s) c x (from + i)
-
--- the filter region of plane c is a region of the list
-module _ (l : Layout) (s : List Float) (c : ℕ) where
-  pub region-sample : (w0 w1 : Float) (y x : ℕ)
-      → regionSample s (regionStart l c) (l .image .width) (l .width) (l .height) w0 w1 (total w0 w1) y x
-      ≡ gabor w0 w1 (around (l .width) (l .height) (inner l s) x y c) (stands (l .width) x) (stands (l .height) y)
-  unfolding regionSample region around inner of
-  region-sample w0 w1 y x = gaborBy-same w0 w1 _ _
-      (λ dx dy p q. ap (λ (i : ℕ). getD s i nan) (region-index l c (mirror (pos x +ℤ dx) (l .width)) (mirror (pos y +ℤ dy) (l .height)))) (total w0 w1) (stands (l .width) x) (stands (l .height) y)
-
--- a turn of the loop over planes
-pub plane-next : (l : Layout) (ws : List (List Float)) (s d a b : List Float) (k at from m : ℕ)
-    → a ≡ planesFill (l .image .width) (l .image .height) (l .left) (l .width) (l .top + from) m (passRows ws l s from) d k → at ≡ regionStart l k
-    → RegionFits at (l .image .width) (l .width) (l .height) (length s) → length a ≡ length s → from + m ≤ l .height
-    → b ≡ planeOutcome at (l .image .width) (l .width) (l .height) from m (sideWeight ws k) (diagonalWeight ws k) s a
-    → b ≡ planesFill (l .image .width) (l .image .height) (l .left) (l .width) (l .top + from) m (passRows ws l s from) d (k + 1)
-unfolding regionRows passRows gaborPass
-plane-next l ws s d a b k at from m p e f len rows q =
-    let z : at + from * l .image .width ≡ (k * l .image .height + (l .top + from)) * l .image .width + l .left =
-    let r : k * l .image .height + (l .top + from) ≡ k * l .image .height + l .top + from = omega arith in
-    rw r (omega (arith, add-mul (k * l .image .height + l .top) from (l .image .width))) in
-    planes-turn (l .image .width) (l .image .height) (l .left) (l .width) (l .top + from) m _ d a b k p
-    (q ∙ sym (plane-rows at (l .image .width) (l .width) (l .height) from m (sideWeight ws k) (diagonalWeight ws k) s a (region-true at (l .image .width) (l .width) (l .height) (length s) f) len rows)
-    ∙ rw (z, e) (rows-cong a _ (l .image .width) (l .width) m _ _ (λ i x h t. region-sample l s k (sideWeight ws k) (diagonalWeight ws k) (from + i) x)))
-
--- plane c's part of the filter region is a region of the n planes
-pub plane-region : (l : Layout) (n c : ℕ) → LayoutFits l → PlaneRoom l n c → 0 < l .width → 0 < l .height
-    → RegionFits (regionStart l c) (l .image .width) (l .width) (l .height) (n * l .image .height * l .image .width)
-plane-region l n c f r w h = record {
-  wide = w;
-  high = h;
-  apart = omega (arith, f .across);
-  short = f .wide;
-  low = omega (arith, f .down, f .high);
-  ends = omega (arith, f .across, r .ends, row-above (l .height) (l .image .width) h);
-}
-
--- a band: copied outside the filter region, then filtered inside it
-pub band-passed : (l : Layout) (n from to f t : ℕ) (ws : List (List Float)) (src dst a b : List Float) → BandFits l n from to src dst
-    → a ≡ copiedOutside l n from to src dst → f ≡ filterRow l from → t ≡ filterRow l to
-    → b ≡ planesFill (l .image .width) (l .image .height) (l .left) (l .width) (l .top + f) (t - f) (passRows ws l src f) a n
-    → b ≡ passed n l from to (gaborPass ws (l .width) (l .height) (inner l src)) src dst
-unfolding passRows
-band-passed l n from to f t ws src dst a b fits e p q h =
-    passed-over l n from to src dst fits (gaborPass ws (l .width) (l .height) (inner l src)) b
-    (h ∙ rw (e, fits-copied l n from to src dst fits, p, q))

@@ -8,7 +8,7 @@ ghost use Prim.Native.Nat.{_+_, _*_, _<_, _≤_};
 ghost use lib.ListN.{length};
 ghost use Rattle.planes.specs.Rect.{planesFill};
 ghost use Rattle.planes.specs.Band.{inner, passed};
-ghost use Rattle.planes.specs.Stored.{LayoutFits, BandFits};
+ghost use Rattle.planes.specs.Fits.{LayoutFits, BandFits};
 ghost use Rattle.gabor_kernel.specs.Gabor.{gaborPass};
 ghost use Rattle.gabor.specs.Pass.{passRows};
 

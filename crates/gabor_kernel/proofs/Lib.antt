@@ -1,2 +1,4 @@
 pub mod Mirrored
 pub mod Exact
+pub mod EndLaws
+pub mod Local

@@ -7,7 +7,7 @@ use borrow.Author.Tests.{le-ltb}
 use lib.IntN.{pos, negsuc, _+ℤ_}
 use Rattle.mirror.specs.Mirror.{mirror}
 use Rattle.gabor_kernel.specs.Ends.{only, first, last, inner, stands}
-use Rattle.gabor_kernel.specs.EndLaws.{stands-only, stands-first, stands-last, stands-inner, before-first, before-other, after-last, after-other, itself}
+use Rattle.gabor_kernel.proofs.EndLaws.{stands-only, stands-first, stands-last, stands-inner, before-first, before-other, after-last, after-other, itself}
 use Rattle.gabor_kernel.specs.Formula.{formula}
 use Rattle.gabor_kernel.specs.Mirrored.{fold, expand, KernelMirrored, SingleRowDiffers, AloneCopied, FoldMirrors}
 

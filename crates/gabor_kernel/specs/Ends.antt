@@ -1,4 +1,4 @@
--- Where a place stands among n places in a line: which of the formulas of document 01, "Gabor pass", it has. Definitions only.
+-- Where a place stands among n places in a line: which of the formulas of Specification 10.4 it has. Definitions only.
 use mathlib.Core.Bool.{cond}
 use Prim.Native.Nat.{ℕ, _+_}
 use lib.Dec.{eqb}

@@ -1,4 +1,4 @@
--- The sixteen formulas of document 01, "Gabor pass", one for each place of a column among the columns and of a row among the rows, in the order of sums of the Rust:
+-- The sixteen formulas of Specification 10.4, one for each place of a column among the columns and of a row among the rows, in the order of sums of the Rust:
 -- `run_gabor_row_generic` for a row with rows on both sides, `gabor_row_edge` for the first, the last and the only row.
 use lib.IntN.{ℤ, pos, negsuc}
 use lib.Ieee.{Float}

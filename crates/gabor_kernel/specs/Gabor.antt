@@ -1,4 +1,4 @@
--- The Gabor-like pass (document 01, "Gabor pass"): one sample from what it sees, and the pass over a picture.
+-- The Gabor-like pass (Specification 10): one sample from what it sees, and the pass over a picture.
 use mathlib.Core.Bool.{Bool, true, false, cond}
 use mathlib.Core.List.{List, []}
 use Prim.Native.Nat.{ℕ}

@@ -1,8 +1,6 @@
 pub mod Ends
-pub mod EndLaws
 pub mod Formula
 pub mod Gabor
 pub mod Nine
 pub mod Mirrored
 pub mod Exact
-pub mod Local

@@ -9,6 +9,7 @@ ghost use Rattle.gabor_kernel.specs.Formula.{evaluate, soloCentre, soloS
 ghost use Rattle.gabor_kernel.specs.Gabor.{total, gaborBy};
 ghost use Rattle.gabor_kernel.specs.Nine.{nine};
 
+// The reciprocal of the kernel's sum.
 pub fn global_weight(w0: f32, w1: f32) -> f32
     ensures { λ r. ⌜ r ≡ total w0 w1 ⌝ }
 {
@@ -82,6 +83,7 @@ fn solo_side(w0: f32, w1: f32) -> f32
     w0 + 2.0 * w1
 }
 
+// A sample of the only row.
 pub fn solo3(c0: f32, c1: f32, c2: f32, w0: f32, w1: f32, g: f32) -> f32
     ensures { λ v. ⌜ v ≡ gaborBy g w0 w1 (nine c0 c1 c2 c0 c1 c2 c0 c1 c2) inner only ⌝ }
 {

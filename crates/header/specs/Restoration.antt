@@ -1,4 +1,4 @@
--- Both bundles in sequence (document 01, "Header bits"), as `RestorationFilter` has them (without `all_default` and extensions).
+-- Both bundles in sequence (Specification 5.10), as `RestorationFilter` has them (without `all_default` and extensions).
 use Prim.Native.Nat.{ℕ}
 use mathlib.Core.List.{List}
 use Rattle.header_bits.specs.Outcome.{Outcome, number, value, next}

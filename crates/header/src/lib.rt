@@ -33,6 +33,7 @@ fn restoration_refused(number: u32) -> RestorationAnswer
 }
 
 impl RestorationFilter {
+    // Both bundles in sequence, or 7, 1, 2, 3.
     pub fn parse(bytes: &[u8], at: usize, encoding: Encoding) -> RestorationAnswer
         ensures { λ r. ⌜ r ≡ restorationAnswer (restorationAt encoding (now (bytes .entry)) at) ⌝ }
     {

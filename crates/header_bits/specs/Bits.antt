@@ -1,4 +1,4 @@
--- Bits of a header, and fields of bits (document 01, "Header bits").
+-- Bits of a header, and fields of bits (Specification 5.1, 5.2).
 use Prim.Native.Nat.{ℕ, zero, suc, _+_, _*_, _/_, _%_, _^_}
 use mathlib.Core.List.{List, [], _∷_}
 use lib.Dec.{ltb}
@@ -26,7 +26,7 @@ fieldChecks s p n = always wrongLength (ltb 65536 (length s)) ∷ always bitsRun
 unfoldable pub u : ℕ → List ℕ → ℕ → Outcome ℕ
 u n s p = judged (firstOf (fieldChecks s p n)) (field s p n) (p + n)
 
--- the document's number and values for each case of the code's enum
+-- number and values for each case of the code's enum (Specification 1.5)
 abbrev pub bitsOutcome : Bits → Outcome ℕ
 bitsOutcome (Value v next) = accepted v next
 bitsOutcome (Refused n) = refused n

@@ -1,4 +1,4 @@
--- What a reader of the header comes to. Document 01: an accepted reading has number 0, what was read and the next bit place; a refusal has its number and 0 in all else.
+-- What a reader of the header comes to (Specification 3.3, 5.3): an accepted reading has number 0, what was read and the next bit place; a refusal has its number and 0 in all else.
 use Prim.Native.Nat.{ℕ}
 use mathlib.Core.Bool.{cond}
 use lib.Dec.{eqb}
@@ -7,7 +7,7 @@ pub data Outcome (A : Type 0) : Type 0 where
   accepted : A → ℕ → Outcome A
   refused : ℕ → Outcome A
 
--- the document's three answers, `zero` standing for 0 in all fields of what is read
+-- number, value and next position (Specification 5.3), `zero` standing for 0 in all fields of what is read
 abbrev pub number : {A : Type 0} → Outcome A → ℕ
 number (accepted a next) = 0
 number (refused n) = n

@@ -54,24 +54,28 @@ fn read_bits(bytes: &[u8], at: usize, width: usize) -> Bits
     Bits::Value(value, at + width)
 }
 
+// A bit and the next place, or 7, 1.
 pub fn read_u1(bytes: &[u8], at: usize) -> Bits
     ensures { λ r. ⌜ bitsOutcome r ≡ u 1 (now (bytes .entry)) at ⌝ }
 {
     read_bits(bytes, at, 1)
 }
 
+// Two bits and the next place, or 7, 1.
 pub fn read_u2(bytes: &[u8], at: usize) -> Bits
     ensures { λ r. ⌜ bitsOutcome r ≡ u 2 (now (bytes .entry)) at ⌝ }
 {
     read_bits(bytes, at, 2)
 }
 
+// 16 bits and the next place, or 7, 1.
 pub fn read_u16(bytes: &[u8], at: usize) -> Bits
     ensures { λ r. ⌜ bitsOutcome r ≡ u 16 (now (bytes .entry)) at ⌝ }
 {
     read_bits(bytes, at, 16)
 }
 
+// 32 bits and the next place, or 7, 1.
 pub fn read_u32(bytes: &[u8], at: usize) -> Bits
     ensures { λ r. ⌜ bitsOutcome r ≡ u 32 (now (bytes .entry)) at ⌝ }
 {

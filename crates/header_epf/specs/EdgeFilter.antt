@@ -1,4 +1,4 @@
--- The edge-preserving filter bundle (document 01, "Header bits"; ISO/IEC 18181-1, restoration filter, the fields `epf_iters` to `epf_sigma_for_modular`).
+-- The edge-preserving filter bundle (Specification 5.6–5.8; ISO/IEC 18181-1, restoration filter, the fields `epf_iters` to `epf_sigma_for_modular`).
 use Prim.Native.Nat.{ℕ}
 use mathlib.Core.Bool.{Bool, true, false, cond, _&&_}
 use mathlib.Core.List.{List, [], _∷_}

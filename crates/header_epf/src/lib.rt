@@ -163,6 +163,7 @@ impl EdgePreservingFilter {
         }
     }
 
+    // The bundle by its table, or 7, 1, 2.
     pub fn parse(bytes: &[u8], at: usize, encoding: Encoding) -> EpfAnswer
         ensures { λ r. ⌜ r ≡ epfAnswer (epfAt encoding (now (bytes .entry)) at) ⌝ }
     {

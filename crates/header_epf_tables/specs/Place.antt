@@ -1,4 +1,4 @@
--- A reading that fills in values, as the code goes along halves (document 01, "Header bits").
+-- A reading that fills in values, as the code goes along halves (Specification 5.3).
 use mathlib.Core.List.{List}
 use lib.Ieee.{Float}
 use Rattle.header_bits.specs.Outcome.{Outcome, accepted, refused}

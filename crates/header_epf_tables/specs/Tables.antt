@@ -1,4 +1,4 @@
--- The rows of the bundle that fill in an array (document 01, "Header bits"): each has its defaults, and says whether the header has its own.
+-- The rows of the bundle that fill in an array (Specification 5.6, 5.7): each has its defaults, and says whether the header has its own.
 use mathlib.Core.Bool.{Bool, true}
 use mathlib.Core.List.{List, [], _∷_}
 use lib.Ieee.{Float}

@@ -1,4 +1,4 @@
--- Document 01: a header gives 7, then the first refusal in bit order. The rows of a table are read one after the other; this says what comes first of all.
+-- Specification 5.3: a header gives 7, then the first refusal in bit order. The rows of a table are read one after the other; this says what comes first of all.
 use Prim.Native.Nat.{ℕ, _+_, _*_, _<_, _≤_}
 use mathlib.Core.Bool.{true}
 use mathlib.Core.List.{List}

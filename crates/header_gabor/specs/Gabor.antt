@@ -1,4 +1,4 @@
--- The Gabor bundle (document 01, "Header bits"; ISO/IEC 18181-1, restoration filter, the fields `gab` to `gab_b_weight2`).
+-- The Gabor bundle (Specification 5.4, 5.8; ISO/IEC 18181-1, restoration filter, the fields `gab` to `gab_b_weight2`).
 use Prim.Native.Nat.{ℕ}
 use mathlib.Core.Bool.{Bool, true, false, cond}
 use mathlib.Core.List.{List, [], _∷_}

@@ -27,12 +27,14 @@ const SIDE: f32 = 0.115169525;
 
 const CORNER: f32 = 0.061248592;
 
+// The settings of a yes or no and the weights.
 pub fn gabor_of(enabled: bool, weights: [[f32; 2]; 3]) -> Gabor
     ensures { λ r. ⌜ r ≡ record { enabled = enabled; weights = weights } ⌝ }
 {
     Gabor { enabled, weights }
 }
 
+// Their weights.
 pub fn weights(gabor: Gabor) -> [[f32; 2]; 3]
     ensures { λ r. ⌜ r ≡ gabor .weights ⌝ }
 {
@@ -103,6 +105,7 @@ impl Gabor {
         gabor_of(false, [[0.0; 2]; 3])
     }
 
+    // The bundle by its table, or 7, 1, 2, 3.
     pub fn parse(bytes: &[u8], at: usize) -> GaborAnswer
         ensures { λ r. ⌜ r ≡ gaborAnswer (gaborAt (now (bytes .entry)) at) ⌝ }
     {

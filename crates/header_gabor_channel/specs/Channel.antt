@@ -1,4 +1,4 @@
--- The two weights of a channel in the Gabor bundle (document 01, "Header bits"; ISO/IEC 18181-1, restoration filter, `gab_x_weight1` and those after it).
+-- The two weights of a channel in the Gabor bundle (Specification 5.4, 5.5; ISO/IEC 18181-1, restoration filter, `gab_x_weight1` and those after it).
 use mathlib.Core.Bool.{Bool, _&&_}
 use mathlib.Core.List.{List, [], _∷_}
 use lib.Ieee.{Float, add, mul, lt, ofBits, binary32}
@@ -31,7 +31,7 @@ channelFields custom =
     refuse (custom && nearZero w0 w1) kernelNearZero
     (bundle (w0 ∷ w1 ∷ []))
 
--- the document's number and values for each case of the code's enum
+-- number and values for each case of the code's enum (Specification 1.5)
 abbrev pub channelOutcome : Channel → Outcome (List Float)
 channelOutcome (Weights w0 w1 next) = accepted (w0 ∷ w1 ∷ []) next
 channelOutcome (Refused n) = refused n

@@ -36,6 +36,7 @@ fn judged_channel(w0: f32, w1: f32, next: usize) -> Channel
     Channel::Weights(w0, w1, next)
 }
 
+// A channel's two weights and the next place, or 7, 1, 2, 3.
 pub fn read_channel(bytes: &[u8], at: usize) -> Channel
     ensures { λ r. ⌜ channelOutcome r ≡ read (channelFields true) (now (bytes .entry)) at ⌝ }
 {

@@ -1,4 +1,4 @@
--- Reading a half-precision number (document 01, "Header bits").
+-- Reading a half-precision number (Specification 5.2, 5.3).
 use Prim.Native.Nat.{ℕ}
 use mathlib.Core.List.{List, [], _∷_}
 use lib.Dec.{eqb}
@@ -24,7 +24,7 @@ finite h next = judged (firstOf (halfChecks h)) (halfOf h) next
 unfoldable pub f16 : List ℕ → ℕ → Outcome Float
 f16 s p = andThen (u 16 s p) finite
 
--- the document's number and values for each case of the code's enum
+-- number and values for each case of the code's enum (Specification 1.5)
 abbrev pub halfOutcome : Half → Outcome Float
 halfOutcome (Value v next) = accepted v next
 halfOutcome (Refused n) = refused n

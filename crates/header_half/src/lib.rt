@@ -59,6 +59,7 @@ fn finite_half(half: u32, next: usize) -> Half
     Half::Value(value, next)
 }
 
+// The half's exact value and the next place, or 7, 1, 2, as an enum.
 pub fn read_f16_as_f32(bytes: &[u8], at: usize) -> Half
     ensures { λ r. ⌜ halfOutcome r ≡ f16 (now (bytes .entry)) at ⌝ }
 {
@@ -68,6 +69,7 @@ pub fn read_f16_as_f32(bytes: &[u8], at: usize) -> Half
     }
 }
 
+// Number, value and next place of each case.
 pub fn half_answer(reading: Half) -> HalfAnswer
     ensures { λ r. ⌜ r ≡ halfAnswer (halfOutcome reading) ⌝ }
 {
@@ -85,6 +87,7 @@ pub fn half_answer(reading: Half) -> HalfAnswer
     }
 }
 
+// The same reading as a struct.
 pub fn read_half(bytes: &[u8], at: usize) -> HalfAnswer
     ensures { λ r. ⌜ r ≡ halfAnswer (f16 (now (bytes .entry)) at) ⌝ }
 {

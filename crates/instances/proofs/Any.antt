@@ -8,11 +8,11 @@ use lib.IntN.{ℤ, pos, _+ℤ_}
 use lib.Ieee.{Float, Format, nan, inf, fin, binary32, unlike, up, down, add, mul, div, lt, ofBits}
 use lib.Ieee.Fits.{down-pos}
 use Rattle.mirror.specs.Mirror.{mirror}
-use Rattle.mirror.specs.Laws.{mirror-lt}
-use Rattle.rounding.specs.Rounded.{round-zero}
+use Rattle.mirror.proofs.Laws.{mirror-lt}
+use Rattle.rounding.proofs.Rounded.{round-zero}
 use Rattle.planes.specs.Samples.{_⊕_, _⊗_, _⊘_, b0, b1}
 use Rattle.planes.specs.Picture.{Picture, Around, around}
-use Rattle.gabor_kernel.specs.EndLaws.{itself}
+use Rattle.gabor_kernel.proofs.EndLaws.{itself}
 use Rattle.epf_step.specs.Steps.{Offset, Scaled, kernel, dists, along, distance, positive, falloff, weight, weightBy, copied, standardLimit, weightAt, blend, divisor, epf, multiplier, epfPass}
 use Rattle.epf.specs.declared.EpfStep.{EpfStep}
 use Rattle.epf.specs.Outcome.{settingsOf}

@@ -1,4 +1,4 @@
--- Two instances of document 01 that speak of any picture ("Instances": step 2, one block sigma 0.25: copied; sigma NaN, finite samples, centre 5: 5).
+-- The two instances that speak of any picture (Specification 14.8: sigma 0.25 copies; sigma NaN, finite samples, centre 5: 5).
 -- They hold for each step, whatever its scales, and for a picture of any size. Definitions only.
 use mathlib.Core.Path.{_≡_}
 use Prim.Native.Nat.{ℕ, _<_}

@@ -1,4 +1,4 @@
--- Document 01's constants ("Header bits", "Edge-preserving steps"), each pinned by an answer that another value would change.
+-- The constants of Specification 5.6, 5.7, 11.4 and 11.7, each pinned by an answer that another value would change.
 -- Each row is an equation in the definitions that the contracts cite. Definitions only.
 use mathlib.Core.Path.{_≡_}
 use mathlib.Core.Bool.{false, cond}

@@ -1,4 +1,4 @@
--- The instances of document 01 ("Instances") in one table, and others that tell its smooth-looking mistakes apart.
+-- The instances of Specification 14 in one table, and others that tell mistakes apart (Specification 14.11).
 -- Each row is an equation in the definitions that the contracts cite. Definitions only.
 use mathlib.Core.Path.{_≡_}
 use mathlib.Core.Bool.{true, false, cond}

@@ -1,4 +1,4 @@
--- Document 01's limits ("Measures", "Header bits", "Regions", "Mirror", "Block sigmas", "Runs"): the last value that is accepted beside the first that is refused.
+-- The limits of Specification 4.1: the last value that is accepted beside the first that is refused.
 -- Each row is an equation in the definitions that the contracts cite. Definitions only.
 use mathlib.Core.Path.{_≡_}
 use mathlib.Core.Bool.{true, false}

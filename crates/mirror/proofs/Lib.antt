@@ -1,1 +1,4 @@
+pub mod Cut
+pub mod Laws
+pub mod Offset
 pub mod Statements

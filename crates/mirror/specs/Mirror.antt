@@ -1,4 +1,4 @@
--- The mirror (document 01, "Mirror"): the place that an offset has in a row of n samples, mirrored at both edges. Definitions only.
+-- The mirror (Specification 8.1): the place that an offset has in a row of n samples, mirrored at both edges. Definitions only.
 use mathlib.Core.Bool.{cond}
 use Prim.Native.Nat.{ℕ, _-_, _*_, _%_}
 use lib.Dec.{ltb}

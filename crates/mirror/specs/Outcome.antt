@@ -1,4 +1,4 @@
--- What `mirror` answers (document 01, "Mirror"): the table of its checks, and the outcome for every offset and length.
+-- What `mirror` answers (Specification 8.3): the table of its checks, and the outcome for every offset and length.
 use mathlib.Core.Bool.{cond}
 use mathlib.Core.List.{List, [], _∷_}
 use Prim.Native.Nat.{ℕ}
@@ -10,7 +10,7 @@ use Rattle.refusals.specs.Checks.{Check, always, firstOf}
 use Rattle.mirror.specs.declared.MirrorAnswer.{MirrorAnswer}
 use Rattle.mirror.specs.Mirror.{mirror}
 
--- Document 01, number 9: a mirror length outside 1 to 16,384, or an offset outside the range of left.
+-- Specification 8.3: 9 for a mirror length outside 1 to 16,384, or an offset outside the range of left.
 abbrev pub mirrorChecks : ℤ → ℕ → List Check
 mirrorChecks offset len =
     always outOfRange (ltb len 1)

@@ -1,4 +1,4 @@
--- What is promised of the mirror (document 01, "Mirror", and demand 3 for a cut). proofs/Statements.antt proves it.
+-- What is promised of the mirror (Specification 8.1), and of a cut of its row (Specification 13.5). proofs/Statements.antt proves it.
 use mathlib.Core.Path.{_≡_}
 use Prim.Native.Nat.{ℕ, _+_, _*_, _<_, _≤_}
 use lib.IntN.{ℤ, pos, negsuc, natAbs, _+ℤ_, _-ℤ_}

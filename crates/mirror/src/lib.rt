@@ -1,4 +1,4 @@
-// The place of an offset in a row of samples, mirrored at both edges (document 01, "Mirror").
+// The place of an offset in a row of samples, mirrored at both edges (Specification 8.1).
 ghost use mathlib.Core.Path.{_≡_};
 ghost use lib.Signed.{mag};
 ghost use lib.IntN.{pos, subℕ};
@@ -62,7 +62,7 @@ fn refused() -> MirrorAnswer
     }
 }
 
-// The place of an offset in a row of len samples, for the lengths and offsets of document 01.
+// The place of an offset in a row of len samples, for the lengths and offsets of Specification 4.1.
 pub fn mirror(offset: isize, len: usize) -> MirrorAnswer
     ensures { λ r. ⌜ r ≡ mirrorOutcome offset len ⌝ }
 {

@@ -1,4 +1,4 @@
--- One pass over rows of its result (document 01, "Runs"; bands and the two kinds of result are its own terms): which samples it writes, and what it leaves.
+-- One pass over rows of its result (Specification 9.2, 9.3): which samples it writes, and what it leaves.
 -- Definitions only; Stored.antt has their laws.
 use mathlib.Core.Bool.{Bool, cond, _&&_}
 use mathlib.Core.List.{List}
@@ -10,7 +10,7 @@ use Rattle.planes.specs.declared.Layout.{Layout}
 use Rattle.planes.specs.Picture.{Picture, inRect}
 use Rattle.planes.specs.Sets.{of, setOf}
 
--- ---- the result: the full planes or the filter region (document 01, "Runs")
+-- ---- the result: the full planes or the filter region (Specification 9.2)
 
 abbrev pub resultLeft : Layout → ℕ
 resultLeft l = cond (l .full) 0 (l .left)
@@ -46,7 +46,7 @@ passed n l from to p src dst = setOf n (l .image .width) (l .image .height) (λ 
 
 -- ---- which layouts, sets and rows there are
 
--- sides of at most 16,384 (document 01, "Measures"), and the filter region inside the image region
+-- sides of at most 16,384 (Specification 4.1), and the filter region inside the image region
 abbrev pub layoutFits : Layout → Bool
 layoutFits l = (leb (l .image .width) 16384 && leb (l .image .height) 16384) && (leb (l .left + l .width) (l .image .width) && leb (l .top + l .height) (l .image .height))
 

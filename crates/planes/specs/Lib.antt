@@ -1,13 +1,9 @@
 pub mod Samples
 pub mod Picture
 pub mod Sets
-pub mod SetLaws
 pub mod Fill
 pub mod Rect
-pub mod Join
 pub mod Band
 pub mod Outside
-pub mod Stored
-pub mod Loop
-pub mod Room
+pub mod Fits
 pub mod Copy

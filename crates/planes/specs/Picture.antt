@@ -1,4 +1,4 @@
--- A picture, what a filter sees around one of its samples (document 01, "Mirror"), and rectangles. Definitions only.
+-- A picture, what a filter sees around one of its samples (Specification 8.2), and rectangles. Definitions only.
 use Prim.Native.Nat.{ℕ, _+_}
 use lib.IntN.{ℤ, pos, _+ℤ_}
 use lib.Ieee.{Float}
@@ -14,7 +14,7 @@ Picture = ℕ → ℕ → ℕ → Float
 abbrev pub Around : Type 0
 Around = ℕ → ℤ → ℤ → Float
 
--- around column x and row y of a picture of w columns and h rows, mirrored at its edges (document 01, "Mirror")
+-- around column x and row y of a picture of w columns and h rows, mirrored at its edges (Specification 8.2)
 unfoldable pub around : ℕ → ℕ → Picture → ℕ → ℕ → Around
 around w h g x y = λ c dx dy. g c (mirror (pos x +ℤ dx) w) (mirror (pos y +ℤ dy) h)
 

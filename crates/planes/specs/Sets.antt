@@ -1,4 +1,4 @@
--- A set of planes as a list, plane after plane and row after row without gaps (document 01, "Measures"), and as a picture. Definitions only.
+-- A set of planes as a list, plane after plane and row after row without gaps (Specification 9.1), and as a picture. Definitions only.
 use mathlib.Core.List.{List, [], _∷_}
 use Prim.Native.Nat.{ℕ, zero, suc, _+_, _*_, _/_, _%_}
 use lib.ListN.{getD}

@@ -50,6 +50,7 @@ fn inside(at: usize, n: usize, end: usize) -> bool
     at <= end - n
 }
 
+// Whether the sides are in measure and the filter region in the image.
 pub fn layout_fits(l: Layout) -> bool
     ensures { λ r. ⌜ r ≡ layoutFits l ⌝ }
 {
@@ -91,6 +92,7 @@ pub fn rows_fit(l: Layout, from: usize, to: usize) -> bool
     to <= l.height
 }
 
+// The filter region's row for a row of the result.
 pub fn filter_row(l: Layout, y: usize) -> usize
     ensures { λ r. ⌜ r ≡ filterRow l y ⌝ }
 {

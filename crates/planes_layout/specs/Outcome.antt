@@ -1,4 +1,4 @@
--- The layout of a filter region in an image region, and the outcome of a pass (document 01, "Measures", "Eleven numbers"). Definitions only; Fits.antt has their laws.
+-- The layout of a filter region in an image region, and the outcome of a pass (Specification 9.1, 9.4). Definitions only; Fits.antt has their laws.
 use mathlib.Core.Bool.{Bool, false, cond, _&&_, not}
 use mathlib.Core.List.{List, [], _∷_, _++_}
 use Prim.Native.Nat.{ℕ, _*_}
@@ -32,13 +32,13 @@ noLayout = record { image = record { width = 0; height = 0 }; left = 0; top = 0;
 unfoldable pub layoutAnswer : ℕ → Layout → LayoutAnswer
 layoutAnswer n l = record { number = n; layout = cond (eqb n 0) l noLayout }
 
--- document 01: 4, then 5
+-- Specification 9.4: 4, then 5
 abbrev pub layoutOutcome : Region → Region → Bool → LayoutAnswer
 layoutOutcome image filter full = layoutAnswer (firstOf (placedChecks image filter)) (layoutOf image filter full)
 
 -- ---- a pass over rows from `from` up to `to` of its result, from one set of n planes to another
 
--- document 01: 4, 5, then 7 for the two sets, then 9 for the flag that says whether the result is the full planes, and for the rows, which need it
+-- Specification 9.4: 4, 5, then 7 for the two sets, then 9 for the flag that says whether the result is the full planes, and for the rows, which need it
 unfoldable pub passChecks : Region → Region → ℕ → ℕ → ℕ → ℕ → List Float → List Float → List Check
 passChecks image filter full n from to src dst =
     placedChecks image filter

@@ -10,7 +10,7 @@ ghost use lib.Dec.{eqb};
 ghost use lib.ListN.{length};
 ghost use Rattle.planes.specs.Fill.{fill};
 ghost use Rattle.planes.specs.Rect.{rowsFill, planesFill};
-ghost use Rattle.planes.specs.Stored.{LayoutFits};
+ghost use Rattle.planes.specs.Fits.{LayoutFits};
 ghost use Rattle.planes.specs.Outside.{rowOutside, rowsOutside, planesOutside};
 ghost use Rattle.planes.specs.Band.{copiedOutside};
 

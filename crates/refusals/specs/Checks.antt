@@ -1,5 +1,5 @@
 -- Which number a call gives: the first that applies in an ordered table of checks.
--- Document 01's order is ascending; a check that needs a setting which is itself out of range is passed over.
+-- The order is ascending (Specification 3.2); a check that needs a setting which is itself out of range is passed over.
 use mathlib.Core.Bool.{Bool, true, cond, _&&_}
 use mathlib.Core.List.{List, [], _∷_}
 use Prim.Native.Nat.{ℕ}

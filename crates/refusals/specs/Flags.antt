@@ -1,4 +1,4 @@
--- A yes or no that a caller passes in is a number, so that no byte pattern is without a meaning (document 01, demand 1 and "Eleven numbers", 9). Definitions only.
+-- A yes or no that a caller passes in is a number, so that no byte pattern is without a meaning (Specification 2.6). Definitions only.
 use mathlib.Core.Bool.{Bool}
 use Prim.Native.Nat.{ℕ}
 use lib.Dec.{eqb, leb}

@@ -1,4 +1,3 @@
 pub mod Numbers
 pub mod Checks
-pub mod Tables
 pub mod Flags

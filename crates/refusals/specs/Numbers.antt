@@ -1,4 +1,4 @@
--- Document 01, "Eleven numbers", for definitions and contracts; src/lib.rt has the same names for code.
+-- The numbers of Specification 3.1, for definitions and contracts; src/lib.rt has the same names for code.
 use Prim.Native.Nat.{ℕ}
 
 abbrev pub accepted : ℕ

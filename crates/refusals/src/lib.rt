@@ -1,4 +1,4 @@
-// The numbers of document 01, by who brings them about. Everything else cites these names; specs/Numbers.antt has the same names for definitions.
+// The numbers of Specification 3.1, by what they come from. Everything else cites these names; specs/Numbers.antt has the same names for definitions.
 ghost use mathlib.Core.Path.{_≡_};
 ghost use Rattle.refusals.specs.Flags.{flagFits, flagSet};
 
@@ -33,6 +33,7 @@ pub const PASS_NOT_DONE: u32 = 11;
 // A yes or no that a caller passes in is a flag: 0 is no, 1 is yes, and any other number is out of range.
 const YES: u32 = 1;
 
+// Whether a yes or no is 0 or 1.
 pub fn flag_fits(flag: u32) -> bool
     ensures { λ r. ⌜ r ≡ flagFits flag ⌝ }
 {

@@ -1,6 +1,5 @@
--- What each method answers (document 01, "Regions"): the first number that applies, and the value, or zeros where it refuses.
-use mathlib.Core.Path.{_≡_}
-use mathlib.Core.Bool.{Bool, true, false, cond, _&&_, not}
+-- What each method answers (Specification 6.1, 6.4): the first number that applies, and the value, or zeros where it refuses.
+use mathlib.Core.Bool.{Bool, false, cond, _&&_, not}
 use mathlib.Core.List.{List, [], _∷_}
 use Prim.Native.Nat.{ℕ}
 use lib.Dec.{eqb}
@@ -42,22 +41,3 @@ bottomOutcome r = edgeAnswer (firstOf (givenChecks r)) (rows r .end)
 
 abbrev pub containsOutcome : Region → Region → BoolAnswer
 containsOutcome r target = boolAnswer (firstOf (pairChecks r target)) (contains r target)
-
--- ---- laws: the number given, by which test failed first
-
-module _ (r : Region) where
-  pub given-fails : measured r ≡ false → firstOf (givenChecks r) ≡ outOfMeasure
-  given-fails e = rw e
-
-  pub given-holds : measured r ≡ true → firstOf (givenChecks r) ≡ 0
-  given-holds e = rw e
-
-module _ (a b : Region) where
-  pub pair-first : measured a ≡ false → firstOf (pairChecks a b) ≡ outOfMeasure
-  pair-first e = rw e
-
-  pub pair-second : measured a ≡ true → measured b ≡ false → firstOf (pairChecks a b) ≡ outOfMeasure
-  pair-second e f = rw (e, f)
-
-  pub pair-holds : measured a ≡ true → measured b ≡ true → firstOf (pairChecks a b) ≡ 0
-  pair-holds e f = rw (e, f)

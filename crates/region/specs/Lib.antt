@@ -1,4 +1,3 @@
 pub mod Regions
 pub mod Measures
-pub mod Laws
 pub mod Answers

@@ -1,4 +1,4 @@
--- Document 01, "Measures", for regions. Definitions only.
+-- The limits of regions (Specification 4.1). Definitions only.
 use mathlib.Core.Bool.{Bool, _&&_}
 use Prim.Native.Nat.{ℕ, _*_}
 use lib.Dec.{leb}

@@ -1,11 +1,9 @@
--- A region as its columns and rows, and what it has and contains (document 01, "Regions").
-use mathlib.Core.Path.{_≡_}
+-- A region as its columns and rows, and what it has and contains (Specification 2.1, 6.1).
 use mathlib.Core.Bool.{Bool, _&&_, _||_}
 use lib.Dec.{eqb}
 use lib.IntN.{ℤ, pos}
 use Rattle.region_interval.specs.Interval.{spanOf, extent}
 use Rattle.region_overlap.specs.Overlap.{covers, In}
-use Rattle.region_axis.specs.Laws.{extent-back}
 use Rattle.region_interval.specs.declared.Span.{Span}
 use Rattle.region.specs.declared.Region.{Region}
 
@@ -38,10 +36,3 @@ inside r t = covers (columns r) (columns t) && covers (rows r) (rows t)
 -- an empty target is contained
 abbrev pub contains : Region → Region → Bool
 contains r t = isEmpty t || inside r t
-
--- ---- laws
-
--- a region is the region of its columns and rows, and has them
-pub region-back : (r : Region) → regionOf (columns r) (rows r) ≡ r
-unfolding regionOf
-region-back r = rw (extent-back (r .left) (r .width), extent-back (r .top) (r .height))

@@ -1,4 +1,4 @@
-// Region, and what it tells of itself (region.rs). Each method judges the regions that it is given by document 01's measures.
+// Region, and what it tells of itself (region.rs). Each method judges the regions that it is given by the limits of Specification 4.1.
 use refusals::ACCEPTED;
 use refusals::OUT_OF_MEASURE;
 use region_interval::Span;
@@ -141,6 +141,7 @@ impl Region {
         edge_of(self, rows(self))
     }
 
+    // An empty target or each place inside, or 4.
     pub fn contains(self, target: Region) -> BoolAnswer
         ensures { λ r. ⌜ r ≡ containsOutcome self target ⌝ }
     {

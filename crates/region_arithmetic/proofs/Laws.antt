@@ -11,8 +11,9 @@ use lib.Signed.{leZ}
 use Rattle.region_interval.specs.Integers.{floorDiv}
 use Rattle.region_interval.specs.Interval.{shrunk, aligned}
 use Rattle.region_overlap.specs.Overlap.{vacant, covers, meet, In}
-use Rattle.region_overlap.specs.Laws.{OnGrid, held-not-vacant, first-place, not-turned, span-not-vacant, covering-not-vacant, covering-not-turned, span-not-turned, meet-left, meet-right, meet-most, aligned-on-grid, aligned-covers, aligned-least, cell-in, cell-touched}
-use Rattle.region_axis.specs.Laws.{span-back}
+use Rattle.region_overlap.specs.Grid.{OnGrid}
+use Rattle.region_overlap.proofs.Laws.{held-not-vacant, first-place, not-turned, span-not-vacant, covering-not-vacant, covering-not-turned, span-not-turned, meet-left, meet-right, meet-most, aligned-on-grid, aligned-covers, aligned-least, cell-in, cell-touched}
+use Rattle.region_axis.proofs.Laws.{span-back}
 use Rattle.region_interval.specs.declared.Span.{Span}
 use Rattle.region_arithmetic.specs.Laws.{Aligned, IntersectionInside, IntersectionGreatest, AlignedContains, AlignedLeast, ShrunkHas, ShrunkTouched}
 use Rattle.region.specs.Regions.{columns, rows, regionOf, zeroRegion, isEmpty, inside, contains}

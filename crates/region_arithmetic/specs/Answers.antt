@@ -1,6 +1,5 @@
--- What each function answers (document 01, "Regions"): the first number that applies, and the region, or zeros where it refuses.
-use mathlib.Core.Path.{_≡_}
-use mathlib.Core.Bool.{Bool, true, false, cond, not}
+-- What each function answers (Specification 6.1, 6.4): the first number that applies, and the region, or zeros where it refuses.
+use mathlib.Core.Bool.{Bool, cond, not}
 use mathlib.Core.List.{List, [], _∷_}
 use Prim.Native.Nat.{ℕ}
 use lib.Dec.{eqb, leb}
@@ -56,24 +55,3 @@ downsampleOutcome r factor = regionAnswer (firstOf (settingChecks r (isFactor fa
 
 abbrev pub alignedOutcome : Region → ℕ → RegionAnswer
 alignedOutcome r dim = regionAnswer (firstOf (settingChecks r (isAlignment dim) (alignedTo dim r))) (alignedTo dim r)
-
--- ---- laws: the number given, by which test failed first
-
-module _ (r made : Region) where
-  pub result-fails : measured r ≡ false → firstOf (madeChecks r made) ≡ outOfMeasure
-  result-fails e = rw e
-
-  pub result-judged : measured r ≡ true → firstOf (madeChecks r made) ≡ judgedNumber made
-  unfolding judgedNumber
-  result-judged e = rw e
-
-  module _ (sound : Bool) where
-    pub setting-given : measured r ≡ false → firstOf (settingChecks r sound made) ≡ outOfMeasure
-    setting-given e = rw e
-
-    pub setting-fails : measured r ≡ true → sound ≡ false → firstOf (settingChecks r sound made) ≡ outOfRange
-    setting-fails e f = rw (e, f)
-
-    pub setting-judged : measured r ≡ true → sound ≡ true → firstOf (settingChecks r sound made) ≡ judgedNumber made
-    unfolding judgedNumber
-    setting-judged e f = rw (e, f)

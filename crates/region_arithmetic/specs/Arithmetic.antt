@@ -1,8 +1,7 @@
--- The arithmetic of regions (document 01, "Regions"): that of intervals, on both axes.
-use mathlib.Core.Path.{_≡_, refl}
+-- The arithmetic of regions (Specification 6.1–6.3): that of intervals, on both axes.
 use mathlib.Core.Bool.{cond, _||_}
 use Prim.Native.Nat.{ℕ, _^_}
-use lib.IntN.{ℤ, pos, negsuc}
+use lib.IntN.{ℤ}
 use Rattle.region_interval.specs.Interval.{moved, padded, shrunk, aligned}
 use Rattle.region_overlap.specs.Overlap.{vacant, meet}
 use Rattle.region.specs.Regions.{columns, rows, regionOf, zeroRegion}
@@ -31,21 +30,3 @@ downsampled f r = shrunkBy (2 ^ f) r
 -- `container_aligned`: widened to multiples of m
 unfoldable pub alignedTo : ℕ → Region → Region
 alignedTo m r = regionOf (aligned m (columns r)) (aligned m (rows r))
-
--- ---- document 01, "Instances": left −3, width 5
-
-abbrev instance : Region
-instance = record { left = negsuc 2; top = negsuc 2; width = 5; height = 5 }
-
-instance-downsampled : downsampled 1 instance ≡ record { left = negsuc 1; top = negsuc 1; width = 3; height = 3 }
-unfolding shrunkBy regionOf
-instance-downsampled = refl
-
-instance-aligned : alignedTo 8 instance ≡ record { left = negsuc 7; top = negsuc 7; width = 16; height = 16 }
-unfolding alignedTo regionOf
-instance-aligned = refl
-
--- an empty region may become one that is not: left −3, width 0, aligned to 8
-empty-aligned : alignedTo 8 (record { left = negsuc 2; top = pos 0; width = 0; height = 8 }) ≡ record { left = negsuc 7; top = pos 0; width = 8; height = 8 }
-unfolding alignedTo regionOf
-empty-aligned = refl

@@ -1,3 +1,4 @@
 pub mod Arithmetic
 pub mod Answers
 pub mod Laws
+pub mod Examples

@@ -1,4 +1,4 @@
-// Regions made from regions (region.rs). Each function judges the regions that it is given, and the one that results, by document 01's measures.
+// Regions made from regions (region.rs). Each function judges the regions that it is given, and the one that results, by the limits of Specification 4.1.
 use refusals::ACCEPTED;
 use refusals::OUT_OF_MEASURE;
 use refusals::OUT_OF_RANGE;
@@ -71,6 +71,7 @@ fn is_alignment(grid_dim: u32) -> bool
     1u32 << exponent == grid_dim
 }
 
+// Both corners moved, or 4.
 pub fn translate(r: Region, x: i32, y: i32) -> RegionAnswer
     ensures { λ a. ⌜ a ≡ translateOutcome r x y ⌝ }
 {
@@ -109,6 +110,7 @@ fn common(a: Region, b: Region) -> RegionAnswer
     judged(x, y)
 }
 
+// The common places, the zero region where there are none, or 4.
 pub fn intersection(a: Region, b: Region) -> RegionAnswer
     ensures { λ r. ⌜ r ≡ intersectionOutcome a b ⌝ }
 {
@@ -121,6 +123,7 @@ pub fn intersection(a: Region, b: Region) -> RegionAnswer
     common(a, b)
 }
 
+// So many places on every side, or 4.
 pub fn pad(r: Region, size: u32) -> RegionAnswer
     ensures { λ a. ⌜ a ≡ padOutcome r size ⌝ }
 {
@@ -133,6 +136,7 @@ pub fn pad(r: Region, size: u32) -> RegionAnswer
     )
 }
 
+// The cells touched, or 4, 9.
 pub fn downsample(r: Region, factor: u32) -> RegionAnswer
     ensures { λ a. ⌜ a ≡ downsampleOutcome r factor ⌝ }
 {
@@ -148,6 +152,7 @@ pub fn downsample(r: Region, factor: u32) -> RegionAnswer
     )
 }
 
+// The least aligned region around it, or 4, 9.
 pub fn container_aligned(r: Region, grid_dim: u32) -> RegionAnswer
     ensures { λ a. ⌜ a ≡ alignedOutcome r «grid_dim» ⌝ }
 {

@@ -1,4 +1,4 @@
--- Document 01, "Measures", for one axis. Definitions only.
+-- The limits of one axis (Specification 4.1). Definitions only.
 use mathlib.Core.Bool.{Bool, true, false, cond, _&&_}
 use Prim.Native.Nat.{ℕ}
 use lib.Dec.{leb}

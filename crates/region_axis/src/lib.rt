@@ -1,4 +1,4 @@
-// The measures of one axis: an interval as a start and a length, if document 01 takes it, and how far two places are apart.
+// The measures of one axis: an interval as a start and a length, if they are within Specification 4.1, and how far two places are apart.
 use region_interval::Span;
 ghost use mathlib.Core.Path.{_≡_};
 ghost use mathlib.Core.Bool.{false};
@@ -79,6 +79,7 @@ fn judged(start: i64, end: i64) -> Axis
     }
 }
 
+// Start and length where they are within the measures, else zeros.
 pub fn judge(s: Span) -> Axis
     ensures { λ r. ⌜ r ≡ axisOf s ⌝ }
 {

@@ -1,2 +1,5 @@
 pub mod Signed
 pub mod Flags
+pub mod Division
+pub mod Order
+pub mod Powers

@@ -13,7 +13,7 @@ use mir.Syntax.{Width, w32, w64}
 use mir.Val.{SFits, toZ, ofZ}
 use mir.Facts.{toZ-ofZ}
 use Rattle.region_interval.specs.Integers.{floorDiv, ceilDiv}
-use Rattle.region_interval.specs.Order.{mag-add, mag-neg}
+use Rattle.region_interval.proofs.Order.{mag-add, mag-neg}
 
 pub mag-floor : (z : ℤ) (m : ℕ) → mag (floorDiv z m) ≤ mag z
 mag-floor (pos a) m = div-le-self a m

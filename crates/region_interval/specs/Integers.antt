@@ -1,5 +1,4 @@
--- Division of an integer by a natural number, rounded down and rounded up, and the lesser and the greater of two integers, for the arithmetic of document 01, "Regions".
-use mathlib.Core.Path.{_≡_, refl}
+-- Division of an integer by a natural number, rounded down and rounded up, and the lesser and the greater of two integers, for the arithmetic of Specification 6.1–6.3.
 use mathlib.Core.Bool.{cond}
 use Prim.Native.Nat.{ℕ, _/_}
 use lib.IntN.{ℤ, pos, negsuc, negℤ}
@@ -19,19 +18,3 @@ least a b = cond (leZ a b) a b
 
 abbrev pub greatest : ℤ → ℤ → ℤ
 greatest a b = cond (leZ a b) b a
-
--- toward minus infinity, at and around zero
-floor-below : floorDiv (negsuc 2) 2 ≡ negsuc 1
-floor-below = refl
-
-floor-zero : floorDiv (pos 0) 8 ≡ pos 0
-floor-zero = refl
-
-floor-minus-one : floorDiv (negsuc 0) 8 ≡ negsuc 0
-floor-minus-one = refl
-
-ceil-minus-one : ceilDiv (negsuc 0) 8 ≡ pos 0
-ceil-minus-one = refl
-
-ceil-one : ceilDiv (pos 1) 8 ≡ pos 1
-ceil-one = refl

@@ -1,4 +1,4 @@
--- What a region covers of one axis: the places p with start ≤ p < end. The arithmetic of document 01, "Regions", an axis at a time, over the integers.
+-- What a region covers of one axis: the places p with start ≤ p < end. The arithmetic of Specification 6.1, an axis at a time, over the integers.
 -- Interval, cell and place are terms of this project.
 use Prim.Native.Nat.{ℕ, zero, suc, _^_}
 use lib.IntN.{ℤ, pos, natAbs, _+ℤ_, _-ℤ_, _*ℤ_}

@@ -1,5 +1,3 @@
 pub mod Integers
-pub mod Order
 pub mod Interval
-pub mod Powers
-pub mod Division
+pub mod Examples

@@ -81,6 +81,7 @@ pub fn span_of(start: i32, len: u32) -> Span
     }
 }
 
+// Both ends moved.
 pub fn moved(start: i32, len: u32, d: i32) -> Span
     ensures { λ r. ⌜ r ≡ moved d (spanOf start len) ⌝ }
 {
@@ -91,6 +92,7 @@ pub fn moved(start: i32, len: u32, d: i32) -> Span
     }
 }
 
+// N places more at either end.
 pub fn padded(start: i32, len: u32, n: u32) -> Span
     ensures { λ r. ⌜ r ≡ padded n (spanOf start len) ⌝ }
 {

@@ -1,2 +1,2 @@
 pub mod Overlap
-pub mod Laws
+pub mod Grid

@@ -1,4 +1,4 @@
--- What intervals have in common: none, all, or the meet (document 01, "Regions"). Definitions only.
+-- What intervals have in common: none, all, or the meet (Specification 2.1, 6.2). Definitions only.
 use mathlib.Core.Bool.{Bool, _&&_}
 use lib.Signed.{leZ, ltZ}
 use Rattle.region_interval.specs.Integers.{least, greatest}

@@ -27,6 +27,7 @@ pub fn meet(a: Span, b: Span) -> Span
     }
 }
 
+// Whether there is no place.
 pub fn vacant(s: Span) -> bool
     ensures { λ r. ⌜ r ≡ vacant s ⌝ }
 {

@@ -1,4 +1,4 @@
--- Where a filter region lies on blocks (document 01, "Eleven numbers", 6). Definitions only.
+-- Where a filter region lies on blocks (Specification 3.1, number 6). Definitions only.
 use mathlib.Core.Bool.{Bool, false, _&&_}
 use Prim.Native.Nat.{ℕ, _%_}
 use lib.Dec.{eqb}
@@ -15,6 +15,6 @@ abbrev pub onBlock : ℤ → Bool
 onBlock (pos k) = eqb (k % 8) 0
 onBlock (negsuc k) = false
 
--- document 01, number 6
+-- Specification 3.1, number 6
 abbrev pub onBlocks : Region → Bool
 onBlocks r = onBlock (r .left) && onBlock (r .top)

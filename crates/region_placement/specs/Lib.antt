@@ -1,3 +1,2 @@
 pub mod Placed
 pub mod Blocks
-pub mod BlockLaws

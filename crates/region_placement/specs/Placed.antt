@@ -1,6 +1,5 @@
--- Where a filter region lies in an image region (document 01, "Eleven numbers", 4 and 5): columns and rows from the image's corner, or zeros where it is refused.
-use mathlib.Core.Path.{_≡_}
-use mathlib.Core.Bool.{true, false, cond, _&&_, not}
+-- Where a filter region lies in an image region (Specification 3.1, numbers 4 and 5): columns and rows from the image's corner, or zeros where it is refused.
+use mathlib.Core.Bool.{cond, _&&_, not}
 use mathlib.Core.List.{List, [], _∷_}
 use Prim.Native.Nat.{ℕ}
 use lib.Dec.{eqb}
@@ -26,18 +25,3 @@ placedAnswer n image filter = record {
 
 abbrev pub placedOutcome : Region → Region → PlacedAnswer
 placedOutcome image filter = placedAnswer (firstOf (placedChecks image filter)) image filter
-
--- ---- laws: the number given, by which test failed first
-
-module _ (image filter : Region) where
-  pub placed-image : pictured image ≡ false → firstOf (placedChecks image filter) ≡ outOfMeasure
-  placed-image e = rw e
-
-  pub placed-filter : pictured image ≡ true → pictured filter ≡ false → firstOf (placedChecks image filter) ≡ outOfMeasure
-  placed-filter e f = rw (e, f)
-
-  pub placed-outside : pictured image ≡ true → pictured filter ≡ true → inside image filter ≡ false → firstOf (placedChecks image filter) ≡ notInside
-  placed-outside e f g = rw (e, f, g)
-
-  pub placed-inside : pictured image ≡ true → pictured filter ≡ true → inside image filter ≡ true → firstOf (placedChecks image filter) ≡ 0
-  placed-inside e f g = rw (e, f, g)

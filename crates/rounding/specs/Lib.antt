@@ -1,4 +1,1 @@
-pub mod Rounded
-pub mod Side
 pub mod Magnitude
-pub mod MagnitudeLaws

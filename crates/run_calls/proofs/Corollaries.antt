@@ -14,22 +14,23 @@ use lib.Ieee.Fits.{and-i}
 use lib.Signed.{leZ, ltZ}
 use Rattle.region_interval.specs.declared.Span.{Span}
 use Rattle.region_overlap.specs.Overlap.{covers, In}
-use Rattle.region_interval.specs.Order.{le-refl}
+use Rattle.region_interval.proofs.Order.{le-refl}
 use Rattle.region.specs.declared.Region.{Region}
 use Rattle.region.specs.Regions.{columns, rows, inside, Holds}
 use Rattle.planes_layout.specs.Outcome.{layoutOf}
 use Rattle.planes.specs.Sets.{of}
-use Rattle.planes.specs.SetLaws.{length-setOf, sets-ext}
-use Rattle.planes.specs.Rect.{Between, between}
+use Rattle.planes.proofs.SetLaws.{length-setOf, sets-ext}
+use Rattle.planes.proofs.Rect.{Between, between}
 use Rattle.planes.specs.Picture.{inRect}
 use Rattle.planes.specs.Band.{inFilter}
 use Rattle.run_setup.specs.declared.Setup.{Setup}
 use Rattle.run_setup.specs.Setup.{fullPlanes, layout, epfOn, resultRegion, resultLength}
-use Rattle.run_setup.specs.Laws.{SetupFits, setup-fits}
+use Rattle.run_setup.specs.SetupFits.{SetupFits}
+use Rattle.run_setup.proofs.Laws.{setup-fits}
 use Rattle.run_outcomes.specs.Start.{Handed, sigmasFilled}
 use Rattle.run_outcomes.specs.Band.{State, source}
 use Rattle.run_outcomes.specs.Result.{resultOf}
-use Rattle.run_outcomes.specs.Laws.{PictureFits, leaves-same}
+use Rattle.run_outcomes.proofs.Laws.{PictureFits, leaves-same}
 use Rattle.run_calls.specs.Calls.{StartAccepted, startState, Calls, end}
 use Rattle.run_calls.specs.Places.{Clear, resultAt, sampleAt}
 use Rattle.run_calls.specs.Theorem.{CutFrom, Delivers}

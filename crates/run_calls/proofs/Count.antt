@@ -14,13 +14,13 @@ use Rattle.run_setup.specs.declared.Setup.{Setup}
 use Rattle.run_record.specs.declared.Run.{Run}
 use Rattle.run_setup.specs.Setup.{bandCount}
 use Rattle.run_record.specs.Record.{passCount, isDone, started, marked, advanced, finished}
-use Rattle.run_record.specs.Done.{started-none, marked-same, marked-other, advanced-none}
-use Rattle.refusals.specs.Tables.{is-true}
-use Rattle.run_setup.specs.Laws.{setup-fits}
-use Rattle.run_record.specs.Laws.{RunFits}
+use Rattle.run_record.proofs.Done.{started-none, marked-same, marked-other, advanced-none}
+use Rattle.refusals.proofs.Tables.{is-true}
+use Rattle.run_setup.proofs.Laws.{setup-fits}
+use Rattle.run_record.specs.RunFits.{RunFits}
 use Rattle.run_outcomes.specs.Start.{startLeaves}
 use Rattle.run_outcomes.specs.Band.{State}
-use Rattle.run_outcomes.specs.Laws.{BandFits, band-number, band-leaves, band-fits, AdvanceFits, advance-number, advance-leaves, advance-fits}
+use Rattle.run_outcomes.proofs.Laws.{BandFits, band-number, band-leaves, band-fits, AdvanceFits, advance-number, advance-leaves, advance-fits}
 use Rattle.run_calls.specs.Calls.{startState, Effect, oneBand, oneAdvance, nothing, Calls, documentCalls, stateAfter, end, Unaltered, bandsIn, advancesIn}
 use Rattle.run_calls.specs.Rules.{CountRule, DocumentCountRule}
 use Rattle.run_calls.proofs.Sound.{Sound}

@@ -10,15 +10,16 @@ use Rattle.region.specs.declared.Region.{Region}
 use Rattle.region.specs.Regions.{columns, rows, Holds}
 use Rattle.region_placement.specs.Blocks.{onBlock}
 use Rattle.run_passes.specs.Pass.{Area, passes}
-use Rattle.run_passes.specs.Cut.{Fits, SameBlocks, SomeStep, cut-same, plan-sound, plan-some-step}
+use Rattle.run_passes.specs.Cut.{Fits, SameBlocks, SomeStep}
+use Rattle.run_passes.proofs.Cut.{cut-same, plan-sound, plan-some-step}
 use Rattle.run_passes.specs.Plan.{plan, margin}
-use Rattle.run_passes.specs.PlanLaws.{plan-reach}
+use Rattle.run_passes.proofs.PlanLaws.{plan-reach}
 use Rattle.run_setup.specs.declared.Setup.{Setup}
 use Rattle.run_setup.specs.Setup.{epfOn, area}
-use Rattle.run_setup.specs.Laws.{setup-fits}
+use Rattle.run_setup.proofs.Laws.{setup-fits}
 use Rattle.run_outcomes.specs.Start.{Handed, sigmasFilled}
 use Rattle.run_outcomes.specs.Band.{source}
-use Rattle.run_outcomes.specs.Laws.{PictureFits, picture-fits}
+use Rattle.run_outcomes.proofs.Laws.{PictureFits, picture-fits}
 use Rattle.run_calls.specs.Calls.{Calls, documentCalls}
 use Rattle.run_calls.specs.Places.{input, Clear}
 use Rattle.run_calls.specs.Theorem.{CutFrom, Demand3, DocumentDemand3}

@@ -7,7 +7,7 @@ use native.Mathlib.Omega.{arith}
 use lib.Dec.{eqb}
 use lib.IntN.{ℤ, pos, negsuc, natAbs, _-ℤ_}
 use lib.Ieee.{Float, ofBits, lt, add, sub, mul, div}
-use Rattle.region_interval.specs.Order.{lt-to}
+use Rattle.region_interval.proofs.Order.{lt-to}
 use Rattle.region.specs.declared.Region.{Region}
 use Rattle.region.specs.Regions.{inside, Holds}
 use Rattle.region.specs.Measures.{measured, pictured}
@@ -15,7 +15,7 @@ use Rattle.region_axis.specs.Measures.{place, side}
 use Rattle.planes.specs.Samples.{bits, b0, b1}
 use Rattle.planes.specs.Picture.{Picture, around}
 use Rattle.planes.specs.Sets.{of, setOf, tab}
-use Rattle.planes.specs.SetLaws.{of-setOf}
+use Rattle.planes.proofs.SetLaws.{of-setOf}
 use Rattle.planes.specs.Band.{inner}
 use Rattle.planes_layout.specs.Outcome.{layoutOf}
 use Rattle.mirror.specs.Mirror.{mirror}

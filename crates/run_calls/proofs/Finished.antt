@@ -10,21 +10,22 @@ use lib.Ieee.{Float}
 use lib.IntN.{ℤ, natAbs, _-ℤ_}
 use Rattle.planes.specs.Picture.{Picture}
 use Rattle.planes.specs.Sets.{of, setOf}
-use Rattle.planes.specs.SetLaws.{of-setOf}
+use Rattle.planes.proofs.SetLaws.{of-setOf}
 use Rattle.planes.specs.Band.{inFilter, inner}
 use Rattle.region.specs.Regions.{Holds}
 use Rattle.planes_layout.specs.Outcome.{layoutOf}
 use Rattle.run_passes.specs.Pass.{Pass}
-use Rattle.run_passes.specs.Stages.{stage, stage-last}
+use Rattle.run_passes.proofs.Stages.{stage, stage-last}
 use Rattle.run_passes.specs.Plan.{plan}
 use Rattle.run_setup.specs.declared.Setup.{Setup}
 use Rattle.run_setup.specs.Setup.{fullPlanes, layout, area, resultRegion, resultLength}
 use Rattle.run_record.specs.Record.{passCount, finished}
-use Rattle.run_setup.specs.Laws.{SetupFits, setup-layout}
+use Rattle.run_setup.specs.SetupFits.{SetupFits}
+use Rattle.run_setup.proofs.Laws.{setup-layout}
 use Rattle.run_outcomes.specs.Start.{Handed, startLeaves, sigmasFilled}
 use Rattle.run_outcomes.specs.Band.{State, source}
 use Rattle.run_outcomes.specs.Result.{resultOf}
-use Rattle.run_outcomes.specs.Laws.{result-accepted, result-number, result-leaves}
+use Rattle.run_outcomes.proofs.Laws.{result-accepted, result-number, result-leaves}
 use Rattle.run_calls.specs.Places.{at, input, smoothed, resultAt}
 use Rattle.run_calls.specs.Theorem.{resultOn}
 use Rattle.run_calls.specs.States.{HandedOverAt}

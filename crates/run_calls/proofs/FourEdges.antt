@@ -10,7 +10,7 @@ use lib.Dec.{T}
 use lib.IntN.{ℤ, pos, natAbs, _+ℤ_, _-ℤ_}
 use lib.Signed.{ltZ}
 use lib.Ieee.{Float}
-use Rattle.region_interval.specs.Order.{lt-to, lt-of, sum-is}
+use Rattle.region_interval.proofs.Order.{lt-to, lt-of, sum-is}
 use Rattle.region.specs.Regions.{inside, Holds}
 use Rattle.region.specs.Measures.{measured, pictured}
 use Rattle.region_axis.specs.Measures.{place, side}
@@ -22,16 +22,16 @@ use Rattle.sigma_groups.specs.Outcome.{tableFits, gridsFit}
 use Rattle.sigma.specs.Sigma.{sigmaIn, frameSigma, aboveAt, blockSigma, blockSigmas}
 use Rattle.planes_layout.specs.Outcome.{layoutOf}
 use Rattle.planes.specs.Sets.{setOf, tab}
-use Rattle.planes.specs.SetLaws.{of-setOf}
+use Rattle.planes.proofs.SetLaws.{of-setOf}
 use Rattle.planes.specs.Band.{inner}
 use Rattle.run_passes.specs.Plan.{plan, steps, stepMargin}
 use Rattle.run_setup.specs.Setup.{bandCount}
 use Rattle.run_record.specs.declared.Run.{Run}
 use Rattle.run_record.specs.Record.{isDone, started, marked, advanced, finished, bandMissing, notOpen, notOver}
-use Rattle.run_record.specs.Laws.{band-open, pass-over}
+use Rattle.run_record.proofs.Laws.{band-open, pass-over}
 use Rattle.run_outcomes.specs.Start.{pictureChecks, startChecks, startLeaves, sigmasFilled, startOutcome}
 use Rattle.run_outcomes.specs.Band.{State}
-use Rattle.run_outcomes.specs.Laws.{band-number, band-leaves, band-accepted, advance-number, advance-leaves, advance-accepted}
+use Rattle.run_outcomes.proofs.Laws.{band-number, band-leaves, band-accepted, advance-number, advance-leaves, advance-accepted}
 use Rattle.run_calls.specs.Calls.{StartAccepted, DocumentCall, band, advance, start, other, answer, numberIn, leftBy, documentCalls, stateAfter, end, Unaltered}
 use Rattle.run_calls.specs.Places.{inputAt, sigmaAt}
 use Rattle.run_calls.specs.Theorem.{CutFrom, Unrefused, Premises}

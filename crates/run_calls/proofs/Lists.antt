@@ -7,10 +7,10 @@ use borrow.Author.Tests.{eqb-true}
 use lib.Dec.{eqb}
 use lib.Ieee.{Float}
 use Rattle.run_record.specs.Record.{started, marked, advanced}
-use Rattle.run_record.specs.Laws.{fits-run}
+use Rattle.run_record.proofs.Laws.{fits-run}
 use Rattle.run_outcomes.specs.Start.{Handed, StartOutcome, startLeaves, sigmasFilled}
 use Rattle.run_outcomes.specs.Band.{State}
-use Rattle.run_outcomes.specs.Laws.{PictureFits, picture-fits, start-picture, start-number, start-accepted, band-number, band-leaves, band-fits, advance-number, advance-leaves, advance-fits}
+use Rattle.run_outcomes.proofs.Laws.{PictureFits, picture-fits, start-picture, start-number, start-accepted, band-number, band-leaves, band-fits, advance-number, advance-leaves, advance-fits}
 use Rattle.run_calls.specs.Calls.{StartAccepted, leftByStart, startState, Effect, oneBand, oneAdvance, nothing, Calls, stateAfter, end, Unaltered}
 use Rattle.run_calls.specs.Theorem.{Unrefused}
 use Rattle.run_calls.specs.States.{StateReached, fromStart, byEffect, EndReached}

@@ -9,7 +9,7 @@ use borrow.Author.Tests.{eq-eqb}
 use lib.Dec.{T, eqb}
 use lib.IntN.{ℤ, pos, negsuc}
 use lib.Ieee.{Float, ofBits, lt, add, sub, mul, div}
-use Rattle.region_interval.specs.Order.{lt-to}
+use Rattle.region_interval.proofs.Order.{lt-to}
 use Rattle.region.specs.Regions.{Holds}
 use Rattle.planes.specs.Samples.{bits, b0, b1}
 use Rattle.planes.specs.Picture.{Picture, around}
@@ -29,10 +29,10 @@ use Rattle.run_passes.specs.Pass.{pass, passes}
 use Rattle.run_passes.specs.Plan.{plan, steps, stepOf, scaleOf, stepMargin}
 use Rattle.run_setup.specs.Setup.{bandCount}
 use Rattle.run_record.specs.Record.{isDone, started, marked, finished, notOpen}
-use Rattle.run_record.specs.Laws.{band-open}
+use Rattle.run_record.proofs.Laws.{band-open}
 use Rattle.run_outcomes.specs.Start.{Handed, startLeaves, sigmasFilled}
 use Rattle.run_outcomes.specs.Band.{State, bandOutcome}
-use Rattle.run_outcomes.specs.Laws.{band-number, band-accepted}
+use Rattle.run_outcomes.proofs.Laws.{band-number, band-accepted}
 use Rattle.run_calls.specs.Calls.{startState, DocumentCall, band, advance, answer, numberIn, leftBy, documentCalls, stateAfter, end, Unaltered}
 use Rattle.run_calls.specs.Places.{Clear, inputAt, sampleAt, sigmaAt, resultAt}
 use Rattle.run_calls.specs.Theorem.{DeliversBeyond, Premises, resultOn}

@@ -2,7 +2,7 @@
 use Rattle.mirror.proofs.Statements.{mirror-inside, mirror-periodic, mirror-low, mirror-high, mirror-cut}
 use Rattle.region_arithmetic.proofs.Laws.{intersection-inside, intersection-greatest, aligned-contains, aligned-smallest, shrunk-has, shrunk-touched}
 use Rattle.header_fields.proofs.Order.{too-long, runs-out}
-use Rattle.frame.proofs.Statements.{divided-up-covers, divided-up-least, split-whole, inner-below}
+use Rattle.frame.proofs.Statements.{divided-up-covers, divided-up-least, split-whole, inner-below, group-below}
 use Rattle.gabor_kernel.proofs.Mirrored.{fold-mirrors, kernel-mirrored, single-row-differs, alone-copied}
 use Rattle.gabor_kernel.proofs.Exact.{expansion-sums, coefficients-weigh, rows-mirrored, integers-exact}
 use Rattle.epf_step.proofs.Offsets.{kernel-offsets, distance-offsets}
@@ -99,4 +99,5 @@ promises = record {
   divided-up-least = divided-up-least;
   split-whole = split-whole;
   inner-below = inner-below;
+  group-below = group-below;
 }

@@ -16,11 +16,13 @@ use Rattle.run_setup.specs.declared.Setup.{Setup}
 use Rattle.run_record.specs.declared.Run.{Run}
 use Rattle.run_setup.specs.Setup.{bandCount, setupFits}
 use Rattle.run_record.specs.Record.{passCount, isDone, noneDone, started, marked, advanced, finished, Reached, atStart, byBand, byAdvance}
-use Rattle.run_setup.specs.Laws.{SetupFits, setup-fits}
-use Rattle.run_record.specs.Laws.{RunFits, run-fits, fits-run, none-done, started-fits, marked-fits, advanced-fits, Open, band-open, open-band, Over, pass-over, over-pass}
+use Rattle.run_setup.specs.SetupFits.{SetupFits}
+use Rattle.run_setup.proofs.Laws.{setup-fits}
+use Rattle.run_record.specs.RunFits.{RunFits}
+use Rattle.run_record.proofs.Laws.{run-fits, fits-run, none-done, started-fits, marked-fits, advanced-fits, Open, band-open, open-band, Over, pass-over, over-pass}
 use Rattle.run_outcomes.specs.Start.{Handed, startLeaves}
 use Rattle.run_outcomes.specs.Band.{State}
-use Rattle.run_outcomes.specs.Laws.{band-number, band-leaves, band-accepted, advance-number, advance-leaves, advance-accepted}
+use Rattle.run_outcomes.proofs.Laws.{band-number, band-leaves, band-accepted, advance-number, advance-leaves, advance-accepted}
 use Rattle.run_calls.specs.Calls.{StartAccepted, startState, DocumentCall, band, advance, Calls, documentCalls, stateAfter, end, Unaltered, AllAccepted}
 use Rattle.run_calls.specs.Rules.{ReachedFits, FitsReached, LeadsTo, EachReached, CanFinish}
 use Rattle.run_calls.proofs.Sound.{Sound}

@@ -7,7 +7,7 @@ use lib.Dec.{eqb}
 use Rattle.run_record.specs.declared.Run.{Run}
 use Rattle.run_outcomes.specs.Start.{StartOutcome}
 use Rattle.run_outcomes.specs.Band.{State}
-use Rattle.run_outcomes.specs.Laws.{start-refused, band-refused, advance-refused, result-refused}
+use Rattle.run_outcomes.proofs.Laws.{start-refused, band-refused, advance-refused, result-refused}
 use Rattle.run_calls.specs.Calls.{DocumentCall, band, advance, result, start, other, answer, numberIn, leftBy, LentState, stateAfter}
 use Rattle.run_calls.specs.Rules.{StartTied, CallsTied, RefusedUntouched}
 

@@ -9,9 +9,9 @@ use lib.Ieee.{Float}
 use Rattle.planes.specs.declared.Layout.{Layout}
 use Rattle.planes.specs.Picture.{Picture, inRect}
 use Rattle.planes.specs.Sets.{of}
-use Rattle.planes.specs.SetLaws.{of-setOf}
+use Rattle.planes.proofs.SetLaws.{of-setOf}
 use Rattle.planes.specs.Band.{resultLeft, resultTop, resultWidth, resultHeight, inFilter, written, passed}
-use Rattle.planes.specs.Stored.{LayoutFits}
+use Rattle.planes.specs.Fits.{LayoutFits}
 
 -- a set's samples by columns and rows of the image
 abbrev pub sampleOf : Layout → List Float → Picture

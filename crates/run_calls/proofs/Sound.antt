@@ -13,26 +13,29 @@ use lib.ListN.{length, getD}
 use lib.Ieee.{Float}
 use Rattle.planes.specs.declared.Layout.{Layout}
 use Rattle.planes.specs.Picture.{Picture, inRect}
-use Rattle.planes.specs.Rect.{Between, between}
-use Rattle.planes.specs.SetLaws.{length-setOf}
-use Rattle.planes.specs.Stored.{LayoutFits}
+use Rattle.planes.proofs.Rect.{Between, between}
+use Rattle.planes.proofs.SetLaws.{length-setOf}
+use Rattle.planes.specs.Fits.{LayoutFits}
 use Rattle.planes.specs.Band.{resultTop, inFilter, written, inner, passed}
 use Rattle.planes_layout.specs.Outcome.{layoutOf}
 use Rattle.run_passes.specs.Pass.{Area, Pass, gaborLike, pass}
-use Rattle.run_passes.specs.Near.{sound, pass-cong}
-use Rattle.run_passes.specs.Cut.{AllSound, plan-sound}
-use Rattle.run_passes.specs.Stages.{stage}
+use Rattle.run_passes.specs.Near.{sound}
+use Rattle.run_passes.proofs.Near.{pass-cong}
+use Rattle.run_passes.specs.Cut.{AllSound}
+use Rattle.run_passes.proofs.Cut.{plan-sound}
+use Rattle.run_passes.proofs.Stages.{stage}
 use Rattle.run_passes.specs.Plan.{plan}
-use Rattle.run_passes.specs.PlanLaws.{plan-length}
+use Rattle.run_passes.proofs.PlanLaws.{plan-length}
 use Rattle.run_setup.specs.declared.Setup.{Setup}
 use Rattle.run_setup.specs.Setup.{layout, area, bandFrom, bandTo, setLength, sigmaLength}
 use Rattle.run_record.specs.Record.{passCount, isDone, started, marked, advanced}
-use Rattle.run_record.specs.Done.{started-none, started-flags, marked-other, marked-flags, advanced-none, advanced-flags}
-use Rattle.run_setup.specs.Laws.{setup-fits, setup-layout, band-of}
-use Rattle.run_record.specs.Laws.{RunFits, Open, Over, pass-left, started-fits, marked-fits, advanced-fits}
+use Rattle.run_record.proofs.Done.{started-none, started-flags, marked-other, marked-flags, advanced-none, advanced-flags}
+use Rattle.run_setup.proofs.Laws.{setup-fits, setup-layout, band-of}
+use Rattle.run_record.specs.RunFits.{RunFits}
+use Rattle.run_record.proofs.Laws.{Open, Over, pass-left, started-fits, marked-fits, advanced-fits}
 use Rattle.run_outcomes.specs.Start.{Handed, startLeaves, sigmasFilled}
 use Rattle.run_outcomes.specs.Band.{State, readsFirst, source, target, nextPass, banded, bandAccepted}
-use Rattle.run_outcomes.specs.Laws.{PictureFits, leaves-length, sigmas-length}
+use Rattle.run_outcomes.proofs.Laws.{PictureFits, leaves-length, sigmas-length}
 use Rattle.run_calls.proofs.Rows.{sampleOf, filtered, InResult, filter-in-result, filtered-inside, written-at, sample-after}
 
 abbrev areaOf : State → Area

@@ -1,5 +1,5 @@
--- What demand 3 supposes is needed: without any one of its premises, or with a margin one smaller, it is false. One thing in them is idle: what an accepted result
--- among the calls was lent, since it leaves the state as it was. Statements only.
+-- What demand 3 supposes is needed: without any one of its premises, or with a margin one smaller, it is false. Two premises, in document 01's words, say more than the
+-- proof uses: what an accepted result among the calls was lent does not matter, since it leaves the state, and of the larger picture's numbers 4 to 9 only 6 does. Statements only.
 use mathlib.Core.Path.{_≡_}
 use mathlib.Core.Logic.{_↔_}
 use mathlib.Core.List.{List, _∷_}

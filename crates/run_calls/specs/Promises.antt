@@ -3,7 +3,7 @@ use Prim.Native.Nat.{ℕ}
 use Rattle.mirror.specs.Statements.{MirrorInside, MirrorPeriodic, MirrorLow, MirrorHigh, MirrorCut}
 use Rattle.region_arithmetic.specs.Laws.{IntersectionInside, IntersectionGreatest, AlignedContains, AlignedLeast, ShrunkHas, ShrunkTouched}
 use Rattle.header_fields.specs.Order.{TooLong, RunsOut}
-use Rattle.frame.specs.Statements.{DividedUpCovers, DividedUpLeast, SplitWhole, InnerBelow}
+use Rattle.frame.specs.Statements.{DividedUpCovers, DividedUpLeast, SplitWhole, InnerBelow, GroupBelow}
 use Rattle.gabor_kernel.specs.Mirrored.{FoldMirrors, KernelMirrored, SingleRowDiffers, AloneCopied}
 use Rattle.gabor_kernel.specs.Exact.{ExpansionSums, CoefficientsWeigh, RowsMirrored, IntegersExact}
 use Rattle.epf_step.specs.Offsets.{KernelOffsets, DistanceOffsets}
@@ -112,3 +112,4 @@ pub record Promises : Type 1 where
   pub divided-up-least : DividedUpLeast
   pub split-whole : SplitWhole
   pub inner-below : InnerBelow
+  pub group-below : GroupBelow

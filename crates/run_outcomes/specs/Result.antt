@@ -1,4 +1,4 @@
--- The result: which number it gives, and what it leaves in the lent slice (document 01, "Runs"). Definitions only.
+-- The result: which number it gives, and what it leaves in the slice passed in (Specification 12.11, 12.12). Definitions only.
 use mathlib.Core.Bool.{cond, not, _&&_}
 use mathlib.Core.List.{List, _∷_}
 use Prim.Native.Nat.{ℕ, _+_}

@@ -1,7 +1,7 @@
 -- What specs/Statements.antt promises of passes. Assumes nothing.
-use Rattle.run_passes.specs.Near.{pass-near as near}
-use Rattle.run_passes.specs.Cut.{cut-same as same}
-use Rattle.run_passes.specs.PlanLaws.{plan-reach as reach-is}
+use Rattle.run_passes.proofs.Near.{pass-near as near}
+use Rattle.run_passes.proofs.Cut.{cut-same as same}
+use Rattle.run_passes.proofs.PlanLaws.{plan-reach as reach-is}
 use Rattle.run_passes.specs.Statements.{PassNear, CutSame, PlanReach}
 
 pub pass-near : PassNear

@@ -1,4 +1,4 @@
--- Bounds of weights and divisors in the steps that settings ask for, at the standard copying limit (document 01, "Edge-preserving steps").
+-- Bounds of weights and divisors in the steps that settings ask for, at the standard copying limit (Specification 11.9).
 -- proofs/Bounds.antt proves these statements.
 use mathlib.Core.Path.{_≡_}
 use mathlib.Core.Bool.{false}

@@ -1,4 +1,4 @@
--- A pass with all that it reads, and passes one after another (document 01, "Runs": Gabor, then the steps). Definitions only.
+-- A pass with all that it reads, and passes one after another (Specification 12.2: Gabor, then the steps). Definitions only.
 use mathlib.Core.List.{List, [], _∷_}
 use Prim.Native.Nat.{ℕ, _+_}
 use lib.Ieee.{Float}
@@ -18,7 +18,7 @@ pub data Pass : Type 0 where
   gaborLike : List (List Float) → Pass
   edgePreserving : EpfPass → Pass
 
--- demand 2's sample after one pass
+-- the sample after one pass (Specification 12.3)
 unfoldable pub pass : Area → Pass → Picture → Picture
 pass a (gaborLike weights) g = gaborPass weights (a .width) (a .height) g
 pass a (edgePreserving e) g = epfPass e (a .width) (a .height) (a .top) (a .sigma) g

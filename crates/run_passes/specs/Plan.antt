@@ -1,4 +1,4 @@
--- The passes that settings ask for (document 01, "Edge-preserving steps" and "Runs"), and the margin of document 01's demand 3. Definitions only.
+-- The passes that settings ask for (Specification 11.1, 12.2), and the margin (Specification 12.14). Definitions only.
 use mathlib.Core.Bool.{Bool, cond, not, _&&_}
 use mathlib.Core.List.{List, [], _∷_}
 use Prim.Native.Nat.{ℕ, zero, suc, _+_, _-_, min}
@@ -60,7 +60,7 @@ stepMargin (suc (suc (suc i))) = 6
 abbrev pub oneIf : Bool → ℕ
 oneIf b = cond b 1 0
 
--- the margin, a term of document 01's own: 1 for Gabor, if on, plus that of the iterations
+-- the margin (Specification 12.14): 1 for Gabor, if on, plus that of the iterations
 abbrev pub margin : Settings → ℕ
 margin s = oneIf (gaborOn s) + stepMargin (s .epf .iters)
 

@@ -1,4 +1,4 @@
--- What is promised of passes (document 01, demand 3): how far they read, and what a cut leaves of them. proofs/Statements.antt proves it.
+-- What is promised of passes (Specification 12.14, 13.6): how far they read, and what a cut leaves of them. proofs/Statements.antt proves it.
 use mathlib.Core.Path.{_≡_}
 use mathlib.Core.List.{List}
 use Prim.Native.Nat.{ℕ, _+_, _<_}

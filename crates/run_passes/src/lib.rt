@@ -45,12 +45,14 @@ pub const MAX_ITERS: u32 = 3;
 // Three iterations have all steps; fewer begin with step 1.
 const ALL_STEPS: u32 = 3;
 
+// A flag and weights as the settings have them.
 pub fn gabor_settings(enabled: u32, weights: [[f32; 2]; 3]) -> GaborSettings
     ensures { λ r. ⌜ r ≡ record { enabled = enabled; weights = weights } ⌝ }
 {
     GaborSettings { enabled, weights }
 }
 
+// The settings' weights.
 pub fn weights(gabor: GaborSettings) -> [[f32; 2]; 3]
     ensures { λ r. ⌜ r ≡ gabor .weights ⌝ }
 {

@@ -1,4 +1,4 @@
--- The record of a run, a term of document 01's own ("Runs"): as start gives it, as calls change it, and which pass and done bands accepted calls lead to. Definitions only.
+-- The record of a run (Specification 12.5, 12.8): as start gives it, as calls change it, and which pass and done bands accepted calls lead to. Definitions only.
 use mathlib.Core.Path.{_≡_}
 use mathlib.Core.Bool.{Bool, false, cond, not, _&&_, _||_}
 use mathlib.Core.List.{List, [], _∷_}
@@ -35,13 +35,13 @@ started s = record { setup = s; pass = 0; done = noneDone }
 unfoldable pub marked : Run → ℕ → Run
 marked r k = record { setup = r .setup; pass = r .pass; done = set (r .done) k 1 }
 
--- after an accepted advance, a term of document 01's own: the next pass, with no band done
+-- after an accepted advance (Specification 12.10): the next pass, with no band done
 unfoldable pub advanced : Run → Run
 advanced r = record { setup = r .setup; pass = suc (r .pass); done = noneDone }
 
 -- ---- what a call asks of it
 
--- finished, a term of document 01's own: all passes are over
+-- finished (Specification 12.5): all passes are over
 abbrev pub finished : Run → Bool
 finished r = eqb (r .pass) (passCount (r .setup))
 

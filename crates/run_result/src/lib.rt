@@ -1,4 +1,4 @@
-// The result of a finished run: its part of the set that a next pass would read, copied plane after plane (document 01, "Runs").
+// The result of a finished run: its part of the set that a next pass would read, copied plane after plane (Specification 12.11).
 use planes::Layout;
 use planes::copy_run;
 use planes_layout::layout_of;
@@ -14,10 +14,10 @@ ghost use mathlib.Core.Path.{_≡_};
 ghost use Prim.Native.Nat.{_+_, _*_, _≤_};
 ghost use lib.ListN.{length};
 ghost use Rattle.planes.specs.Rect.{rowsFill, planesFill};
-ghost use Rattle.planes.specs.Stored.{LayoutFits};
+ghost use Rattle.planes.specs.Fits.{LayoutFits};
 ghost use Rattle.planes.specs.Band.{inner};
 ghost use Rattle.run_setup.specs.Setup.{layout, setLength, resultLength};
-ghost use Rattle.run_setup.specs.Laws.{SetupFits};
+ghost use Rattle.run_setup.specs.SetupFits.{SetupFits};
 ghost use Rattle.run_outcomes.specs.Result.{ResultOutcome, resultOf, resultOutcome};
 ghost use Rattle.run_result.specs.Part.{partOf, rowsOf};
 

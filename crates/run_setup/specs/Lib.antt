@@ -1,3 +1,2 @@
 pub mod Setup
-pub mod Laws
-pub mod Tests
+pub mod SetupFits

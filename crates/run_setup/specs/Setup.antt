@@ -1,4 +1,4 @@
--- What start is told and a record holds: which of it is in range, and what follows from it (document 01, "Runs", "Measures", "Eleven numbers"). Definitions only.
+-- What start is told and a record holds: which of it is in range, and what follows from it (Specification 12.1, 12.4, 12.8). Definitions only.
 use mathlib.Core.Bool.{Bool, true, cond, _&&_}
 use mathlib.Core.List.{List}
 use Prim.Native.Nat.{ℕ, _+_, _-_, _*_, _/_, min}
@@ -33,7 +33,7 @@ epfOn s = ltb 0 (s .settings .epf .iters)
 abbrev pub area : Setup → List Float → Area
 area s sigmas = record { width = s .filter .width; height = s .filter .height; top = ahead (s .filter .top); sigma = sigmaOf (blockColumns (layout s)) sigmas }
 
--- ---- bands, a term of document 01's own: rows of the result, the last band perhaps shorter
+-- ---- bands (Specification 12.4): rows of the result, the last band perhaps shorter
 
 abbrev pub rowCount : Setup → ℕ
 rowCount s = resultHeight (layout s)

@@ -11,7 +11,7 @@ ghost use mathlib.Core.Path.{_≡_};
 ghost use Prim.Native.Nat.{_<_};
 ghost use Rattle.run_setup.specs.Setup.{rowCount, sized, bandCount, blocksFit, heightFits, numbersFit, setupFits};
 
-// Document 01, "Measures" and "Runs".
+// Specification 4.1.
 pub const MAX_SIDE: u32 = 16384;
 
 const MAX_AREA: u32 = 16777216;
@@ -57,6 +57,7 @@ pub fn row_count(s: Setup) -> usize
     s.filter.height as usize
 }
 
+// Bands of a pass.
 pub fn band_count(s: Setup) -> usize
     ensures { λ r. ⌜ r ≡ bandCount s ⌝ }
 {

@@ -25,7 +25,7 @@ table = 1 ∷ 1 ∷ 128 ∷ 0 ∷ 0 ∷ 0 ∷ []
 abbrev blocks : ℕ → ℕ → Blocks
 blocks top height = record { left = 0; top = top; width = 8; height = height }
 
--- document 01: group row 0 has grids, row 1 none, and block row 128 repeats row 127
+-- Specification 14.9: group row 0 has grids, row 1 none, and block row 128 repeats row 127
 repeated : (grids : List Float) (modular : Float) → (blockSigma frame (blocks 0 1040) table grids modular 0 127 ≡ getD grids 127 nan) × (blockSigma frame (blocks 0 1040) table grids modular 0 128 ≡ getD grids 127 nan) × (blockSigma frame (blocks 0 1040) table grids modular 0 129 ≡ getD grids 127 nan)
 unfolding sizesOf gridStart cells sigmaIn frameSigma aboveAt blockSigma
 repeated grids modular = (refl, refl, refl)

@@ -1,4 +1,4 @@
--- What `block_sigmas` answers, and what it leaves in the sigmas (document 01, "Block sigmas").
+-- What `block_sigmas` answers, and what it leaves in the sigmas (Specification 7.9).
 use mathlib.Core.Bool.{Bool, cond, _&&_}
 use mathlib.Core.List.{List}
 use Prim.Native.Nat.{ℕ}

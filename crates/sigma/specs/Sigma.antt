@@ -1,4 +1,4 @@
--- The sigma of each block of a filter region (document 01, "Block sigmas").
+-- The sigma of each block of a filter region (Specification 7.5, 7.6).
 use mathlib.Core.Bool.{cond}
 use mathlib.Core.List.{List}
 use Prim.Native.Nat.{ℕ, zero, suc, _+_, _*_, _/_, _%_}

@@ -1,4 +1,4 @@
-// The sigma of each block of a filter region, from the frame's groups and their grids (document 01, "Block sigmas").
+// The sigma of each block of a filter region, from the frame's groups and their grids (Specification 7.6).
 use frame::Frame;
 use frame::GroupSizes;
 use planes::copy_run;
@@ -8,7 +8,7 @@ ghost use Prim.Native.Nat.{ℕ, _+_, _*_, _<_, _≤_};
 ghost use lib.ListN.{length};
 ghost use Rattle.planes.specs.Fill.{fill};
 ghost use Rattle.frame.specs.Sizes.{groupOf, sizesOf};
-ghost use Rattle.frame.specs.Laws.{Sound};
+ghost use Rattle.frame.specs.Sound.{Sound};
 ghost use Rattle.sigma_blocks.specs.Measures.{blocksAcross, blocksDown};
 ghost use Rattle.sigma.specs.Sigma.{missing, sigmaIn, blockSigmas};
 ghost use Rattle.sigma.specs.Outcome.{SigmasOutcome, sigmasOutcome};

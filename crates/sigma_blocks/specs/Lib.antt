@@ -1,2 +1,2 @@
 pub mod Measures
-pub mod Laws
+pub mod Measured

@@ -1,4 +1,4 @@
--- The blocks of a filter region, and its measures (document 01, "Measures"). Definitions only.
+-- The blocks of a filter region, and its limits (Specification 2.3, 7.9). Definitions only.
 use mathlib.Core.Bool.{Bool, _||_}
 use Prim.Native.Nat.{ℕ, _*_}
 use lib.Dec.{ltb}

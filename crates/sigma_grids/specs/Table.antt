@@ -1,4 +1,4 @@
--- The group table of document 01, "Block sigmas": three numbers an entry (presence, grid width, grid height), entries in group order.
+-- The group table (Specification 7.4): three numbers an entry (presence, grid width, grid height), entries in group order.
 -- Present grids lie one after another in group order, each row after row.
 use mathlib.Core.Bool.{Bool, false, cond, _&&_, _||_}
 use mathlib.Core.List.{List}

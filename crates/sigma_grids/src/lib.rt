@@ -1,4 +1,4 @@
-// The group table of a frame, and where the grid of each group starts in the slice of all grids (document 01, "Block sigmas").
+// The group table of a frame, and where the grid of each group starts in the slice of all grids (Specification 7.4).
 ghost use mathlib.Core.Path.{_≡_};
 ghost use mathlib.Core.Bool.{false};
 ghost use Prim.Native.Nat.{_+_, _*_, _≤_};

@@ -1,1 +1,2 @@
 mod Number
+pub mod Laws

@@ -1,4 +1,4 @@
--- The blocks of a filter region in the groups of a frame (document 01, "Block sigmas" and number 8).
+-- The blocks of a filter region in the groups of a frame (Specification 7.5, 7.7).
 use mathlib.Core.Bool.{Bool, _||_}
 use mathlib.Core.List.{List}
 use Prim.Native.Nat.{ℕ, _+_, _*_}

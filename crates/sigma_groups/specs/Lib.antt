@@ -1,4 +1,4 @@
 pub mod Held
 pub mod Outcome
-pub mod Laws
+pub mod Fitting
 pub mod Examples

@@ -1,4 +1,4 @@
--- Which number the inputs of block sigmas get (document 01, "Block sigmas", "Eleven numbers").
+-- Which number the inputs of block sigmas get (Specification 7.9, 12.6).
 use mathlib.Core.Bool.{Bool, cond, not, _&&_, _||_}
 use mathlib.Core.List.{List, [], _∷_}
 use Prim.Native.Nat.{ℕ, _*_}
@@ -67,7 +67,7 @@ presences f t = given (tableRead f t) outOfRange (someGroup f (badPresence t))
 
 -- ---- the table of checks
 
--- Document 01, "Eleven numbers", "Measures" and "Block sigmas", ascending. With the edge filter off all is checked but 8; whether it is on is a flag,
+-- The checks of Specification 7.9, ascending. With the edge filter off all is checked but 8; whether it is on is a flag,
 -- which the count of sigmas and 8 need.
 -- A group whose presence is out of range counts as not present: its sides are passed over, and so is 8 for its grid.
 abbrev pub sigmaChecks : ℕ → Frame → Blocks → List ℕ → List Float → ℕ → List Check

@@ -1,4 +1,4 @@
-// Whether the groups of a frame hold a filter region's blocks, and which number the inputs of block sigmas get (document 01, "Block sigmas").
+// Whether the groups of a frame hold a filter region's blocks, and which number the inputs of block sigmas get (Specification 7.7, 7.9).
 use frame::Frame;
 use frame::GroupSizes;
 use sigma_blocks::Blocks;
@@ -10,9 +10,9 @@ ghost use lib.ListN.{length};
 ghost use Rattle.refusals.specs.Flags.{flagFits, flagSet};
 ghost use Rattle.sigma_grids.specs.Table.{badPresence, lacks, someBelow};
 ghost use Rattle.sigma_groups.specs.Held.{notHeld, someNotHeld};
-ghost use Rattle.sigma_blocks.specs.Laws.{Measured};
+ghost use Rattle.sigma_blocks.specs.Measured.{Measured};
 ghost use Rattle.sigma_groups.specs.Outcome.{sigmaCount, sigmaNumber};
-ghost use Rattle.sigma_groups.specs.Laws.{TableOf, Fitting};
+ghost use Rattle.sigma_groups.specs.Fitting.{TableOf, Fitting};
 
 const PRESENT: u32 = 1;
 // Presence, grid width, grid height.

@@ -1,6 +1,6 @@
-//! The picture that is made where none is given: a sky with a little noise, hills hatched as an
-//! engraver does it, and a strip of lettering. Every operation is exact or correctly rounded, so
-//! that the picture is the same everywhere.
+//! The built-in picture: a sky with a little noise, hills hatched as in an engraving, and a strip of
+//! lettering. Every operation is exact or correctly rounded, so that the picture is the same
+//! everywhere.
 
 use restoration::{BLOCK, CHANNELS};
 
@@ -31,7 +31,7 @@ const STRIP_SIGMA: f32 = 0.25;
 
 enum Zone {
     Sky,
-    /// So far below the skyline, in parts of the way to the strip.
+    /// Depth below the skyline, from 0 to 1 at the strip.
     Hill(f32),
     Strip,
 }
@@ -56,14 +56,14 @@ pub fn picture() -> Picture {
     }
 }
 
-/// Width, height and cells of the picture's grid of sigmas, one a block.
+/// Width, height and cells of the picture's grid of sigmas, one per block.
 pub fn sigmas() -> (u32, u32, Vec<f32>) {
     let (width, height) = (WIDTH / BLOCK, HEIGHT / BLOCK);
     let cells = (0..height).flat_map(|row| (0..width).map(move |column| sigma(column, row)));
     (width, height, cells.collect())
 }
 
-/// The sigma of a block, no two neighbours alike outside the strip.
+/// The sigma of a block; neighbours differ outside the strip.
 fn sigma(column: u32, row: u32) -> f32 {
     let change = ((column * 5 + row * 3) % 16) as f32 / 16.0;
     let centre = |place: u32| (place * BLOCK + BLOCK / 2) as f32;
@@ -108,7 +108,7 @@ fn hatching(x: f32, y: f32, depth: f32) -> f32 {
     falling.max(rising)
 }
 
-/// How much ink a layer of lines has at a distance, one line each `spacing`.
+/// How much ink a layer of parallel lines has at a position across them.
 fn line(along: f32, spacing: f32, thickness: f32) -> f32 {
     let turns = along / spacing;
     let from_centre = (turns - turns.floor() - 0.5).abs();

@@ -1,7 +1,7 @@
-//! Smooths a picture by the proved library: one of its own, to show that rectangles laid edge to
-//! edge are the whole picture's samples, or a PFM file.
+//! Smooths a picture with the proved library: the built-in one, to show that rectangles laid edge to
+//! edge have the whole picture's samples, or a PFM file.
 
-/// Prints a line; whoever has stopped reading is told nothing more.
+/// Prints a line. A reader that is gone is no error.
 macro_rules! say {
     ($($line:tt)*) => {{
         use std::io::Write as _;
@@ -10,6 +10,7 @@ macro_rules! say {
 }
 
 mod engraving;
+mod error;
 mod lettering;
 mod number;
 mod options;
@@ -19,101 +20,83 @@ mod pfm;
 mod picture;
 mod png;
 mod rectangles;
-mod refused;
 mod show;
 mod smooth;
 mod store;
+mod stream;
 
 use std::{
     env,
-    fs::File,
-    io::{self, Read, Write},
-    path::Path,
+    io::{self, Write},
     process::ExitCode,
 };
 
-use options::{Chosen, Command, Job, Written};
-use pfm::Pfm;
+use error::{Error, Of, quoted};
+use options::{Chosen, Command, Job, Rect};
 use picture::Picture;
-use refused::{Asked, Refused};
-use restoration::{CHANNELS, Refusal, Region};
+use restoration::{Refusal, Region};
 use smooth::Filters;
-
-/// More bytes than the file of any picture that is taken: its samples, and a header.
-const MOST_BYTES: u64 = 4 * CHANNELS as u64 * 16_777_216 + 65_536;
+use stream::Stream;
 
 const DIFFERENT: u8 = 1;
-const REFUSED: u8 = 2;
+const FAILED: u8 = 2;
 
 fn main() -> ExitCode {
     match run() {
         Ok(true) => ExitCode::SUCCESS,
         Ok(false) => DIFFERENT.into(),
-        Err(refused) => {
-            // Where nobody can be told there is the exit status.
-            let _ = writeln!(io::stderr(), "demo: {refused}");
-            REFUSED.into()
+        Err(error) => {
+            // If the line cannot be printed, there is still the exit status.
+            let _ = writeln!(io::stderr(), "demo: {error}");
+            FAILED.into()
         }
     }
 }
 
-/// Whether all samples that were compared agree.
-fn run() -> Result<bool, Refused> {
+/// Whether all compared samples agree.
+fn run() -> Result<bool, Error> {
     match options::parse(env::args_os().skip(1))? {
         Command::Help => say!("{}", options::HELP.trim_end()),
+        Command::Version => say!("demo {}", env!("CARGO_PKG_VERSION")),
         Command::Show(folder) => return show::show(&folder),
         Command::Smooth(job) => smooth_file(job)?,
     }
     Ok(true)
 }
 
-fn smooth_file(job: Job) -> Result<(), Refused> {
-    let bytes = read(&job.input).map_err(|error| {
-        let what = format!("{:?} cannot be read: {error}", job.input);
-        Refused::setting(what)
-    })?;
-    let file = pfm::parse(bytes)?;
-    let part = judged(&file, job.rect)?;
-    let (picture, scale) = file.picture()?;
-    let smooth = smoothed(picture, part, &job.filters)?;
-    store::all(&[(job.output.clone(), pfm::bytes(&smooth, &scale))])?;
-    let Region {
-        left,
-        top,
-        width,
-        height,
-    } = part;
-    say!("{width} x {height} at {left}, {top}: {:?}", job.output);
+fn smooth_file(job: Job) -> Result<(), Error> {
+    let name = job.input.input_name();
+    let invalid = |what| Error::invalid(format!("{name}: {what}"));
+    let file = pfm::parse(job.input.read()?).map_err(invalid)?;
+    smooth::judge(file.region, file.region).of(|| format!("{name} ({})", file.sides))?;
+    let (picture, scale) = file.picture().map_err(invalid)?;
+    let part = part(picture.region, job.rect)?;
+    let smooth = smoothed(picture, part, &job.filters).of(|| name.clone())?;
+    job.output.write(pfm::bytes(&smooth, &scale))?;
+    if let Stream::File(path) = &job.output {
+        let Region {
+            left,
+            top,
+            width,
+            height,
+        } = part;
+        let path = quoted(path);
+        say!("wrote {path}: {width} x {height} at {left}, {top}");
+    }
     Ok(())
 }
 
-/// The part of a file that is to be smoothed.
-fn judged(file: &Pfm, rect: Option<Written<Region>>) -> Result<Region, Refused> {
-    let (part, of) = match rect {
-        Some(rect) => (rect.value, format!(", rectangle {}", rect.text)),
-        None => (file.region, String::new()),
+/// The part of a picture to smooth.
+fn part(picture: Region, rect: Option<Rect>) -> Result<Region, Error> {
+    let Some(rect) = rect else {
+        return Ok(picture);
     };
-    let refused = |refusal| match refusal {
-        Refusal::WrongLength => Refused::new(refusal, file.wrong_length()),
-        _ => Refused::new(refusal, format!("picture {}{of}", file.sides)),
-    };
-    smooth::judge(file.region, part, file.count()).map_err(refused)?;
-    Ok(part)
+    smooth::judge(picture, rect.region).of(|| format!("--rect {}", rect.text))?;
+    Ok(rect.region)
 }
 
-fn smoothed(picture: Picture, part: Region, chosen: &Chosen) -> Result<Picture, Refused> {
-    let settings = smooth::settings(chosen);
-    let run = || {
-        let filters = Filters::of_one_sigma(picture.region, settings)?;
-        let widened = filters.widened(picture.region, part, filters.margin()?);
-        Ok(filters.smooth(picture.into_part(widened))?.into_part(part))
-    };
-    let iters = chosen.iters.as_ref();
-    run().asked(|| iters.map_or_else(String::new, |iters| format!("--iters {}", iters.text)))
-}
-
-fn read(path: &Path) -> io::Result<Vec<u8>> {
-    let mut bytes = Vec::new();
-    File::open(path)?.take(MOST_BYTES).read_to_end(&mut bytes)?;
-    Ok(bytes)
+fn smoothed(picture: Picture, part: Region, chosen: &Chosen) -> Result<Picture, Refusal> {
+    let filters = Filters::of_one_sigma(picture.region, smooth::settings(chosen))?;
+    let widened = filters.widened(picture.region, part, filters.margin()?);
+    Ok(filters.smooth(picture.into_part(widened))?.into_part(part))
 }

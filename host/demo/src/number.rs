@@ -2,7 +2,7 @@
 
 use std::num::IntErrorKind;
 
-/// A whole number of any size; one beyond 128 bits is the largest or the smallest of them.
+/// A whole number of any size, clamped to 128 bits.
 fn whole(text: &str) -> Option<i128> {
     match text.parse() {
         Ok(number) => Some(number),
@@ -14,21 +14,19 @@ fn whole(text: &str) -> Option<i128> {
     }
 }
 
-/// A side or iterations: a number that the type does not hold becomes its largest, which the library
-/// refuses as well.
+/// A side or iterations. A number that does not fit becomes the largest, which is out of range too.
 pub fn count(text: &str) -> Option<u32> {
     let number = whole(text)?;
     Some(number.try_into().unwrap_or(u32::MAX))
 }
 
-/// A left or top: a number that the type does not hold becomes its largest or smallest, which the
-/// library refuses as well.
+/// A left or top, clamped: the largest and the smallest are out of range too.
 pub fn corner(text: &str) -> Option<i32> {
     let number = whole(text)?;
     Some(number.clamp(i32::MIN.into(), i32::MAX.into()) as i32)
 }
 
-/// A number as it is printed: `1,179,648`.
+/// A number as printed: `1,179,648`.
 pub fn grouped(number: usize) -> String {
     let digits = number.to_string();
     let mut text = String::new();
@@ -46,7 +44,7 @@ mod tests {
     use super::*;
 
     #[test]
-    fn every_whole_number_is_taken() {
+    fn every_whole_number_is_accepted() {
         let ten_to_30 = "1000000000000000000000000000000";
         assert_eq!(count(ten_to_30), Some(u32::MAX));
         assert_eq!(count(&ten_to_30.repeat(3)), Some(u32::MAX));

@@ -1,48 +1,55 @@
-//! What the tool was asked for.
+//! The command line.
 
 use std::{
     ffi::{OsStr, OsString},
+    os::unix::ffi::OsStrExt,
     path::PathBuf,
 };
 
 use restoration::{CHANNELS, Region};
 
-use crate::{number, refused::Refused};
+use crate::{
+    error::{Error, quoted},
+    number,
+    stream::Stream,
+};
 
 /// `./demo --help` prints the same file without a built tool.
 pub const HELP: &str = include_str!("../usage.txt");
 
+/// The library's limit.
+const MOST_ITERS: u32 = 3;
+
 pub enum Command {
     Help,
-    /// The picture of its own, and the folder for its files.
+    Version,
+    /// Smooth the built-in picture and write its files to this folder.
     Show(PathBuf),
     Smooth(Job),
 }
 
-/// A file to smooth.
+/// A picture to smooth.
 pub struct Job {
-    pub input: PathBuf,
-    pub output: PathBuf,
-    pub rect: Option<Written<Region>>,
+    pub input: Stream,
+    pub output: Stream,
+    pub rect: Option<Rect>,
     pub filters: Chosen,
 }
 
-/// A value and the text that it was given as.
-#[derive(PartialEq)]
-pub struct Written<T> {
-    pub value: T,
+/// A rectangle, and the text that it was given as.
+pub struct Rect {
+    pub region: Region,
     pub text: String,
 }
 
-/// Settings that were given; the others are a header's defaults.
-#[derive(Default, PartialEq)]
+/// The settings that were given; the others are a header's defaults.
+#[derive(Default)]
 pub struct Chosen {
     pub gabor: Option<GaborChoice>,
-    pub iters: Option<Written<u32>>,
+    pub iters: Option<u32>,
     pub sigma: Option<f32>,
 }
 
-#[derive(PartialEq)]
 pub enum GaborChoice {
     Off,
     Weights([[f32; 2]; CHANNELS]),
@@ -50,94 +57,157 @@ pub enum GaborChoice {
 
 #[derive(Default)]
 struct Given {
-    input: Option<PathBuf>,
-    output: Option<PathBuf>,
-    rect: Option<Written<Region>>,
+    picture: Option<OsString>,
+    output: Option<OsString>,
+    rect: Option<Rect>,
     filters: Chosen,
 }
 
-pub fn parse(mut words: impl Iterator<Item = OsString>) -> Result<Command, Refused> {
+pub fn parse(mut words: impl Iterator<Item = OsString>) -> Result<Command, Error> {
     let mut given = Given::default();
     while let Some(word) = words.next() {
-        if word == "--help" || word == "-h" {
-            return Ok(Command::Help);
+        match word.as_bytes() {
+            b"--help" | b"-h" => return Ok(Command::Help),
+            b"--version" => return Ok(Command::Version),
+            b"--" => words.by_ref().try_for_each(|word| given.argument(word))?,
+            [b'-', _, ..] => given.option(&word, &mut words)?,
+            _ => given.argument(word)?,
         }
-        given.take(&word, &mut words)?;
     }
     given.command()
 }
 
 impl Given {
-    fn take(
+    fn argument(&mut self, word: OsString) -> Result<(), Error> {
+        if self.picture.is_some() {
+            return Err(Error::usage(format!("extra argument {}", quoted(word))));
+        }
+        self.picture = Some(word);
+        Ok(())
+    }
+
+    fn option(
         &mut self,
         word: &OsStr,
         rest: &mut dyn Iterator<Item = OsString>,
-    ) -> Result<(), Refused> {
+    ) -> Result<(), Error> {
+        let (name, attached) = split(word);
         let mut value = || {
-            let missing = || Refused::setting(format!("{word:?} needs a value"));
-            rest.next().ok_or_else(missing)
+            let missing = || Error::usage(format!("option {} needs a value", quoted(name)));
+            let attached = attached.map(OsStr::to_os_string);
+            attached.or_else(|| rest.next()).ok_or_else(missing)
         };
-        match word.as_encoded_bytes() {
-            b"-o" => self.output = Some(value()?.into()),
-            b"--rect" => self.rect = Some(read(word, &value()?, rect)?),
-            b"--gabor" => self.filters.gabor = Some(read(word, &value()?, weights)?.value),
-            b"--no-gabor" => self.filters.gabor = Some(GaborChoice::Off),
-            b"--iters" => self.filters.iters = Some(read(word, &value()?, number::count)?),
-            b"--sigma" => self.filters.sigma = Some(read(word, &value()?, float)?.value),
-            [b'-', ..] => return Err(Refused::setting(format!("there is no option {word:?}"))),
-            _ if self.input.is_some() => {
-                return Err(Refused::setting(format!("a second picture, {word:?}")));
+        match name.as_bytes() {
+            b"-o" | b"--output" => self.output = Some(value()?),
+            b"--rect" => self.rect = Some(read(name, &value()?, RECT)?),
+            b"--gabor" => self.filters.gabor = Some(read(name, &value()?, WEIGHTS)?),
+            b"--iters" => self.filters.iters = Some(read(name, &value()?, ITERS)?),
+            b"--sigma" => self.filters.sigma = Some(read(name, &value()?, SIGMA)?),
+            b"--no-gabor" | b"--help" | b"--version" if attached.is_some() => {
+                let what = format!("option {} takes no value", quoted(name));
+                return Err(Error::usage(what));
             }
-            _ => self.input = Some(word.into()),
+            b"--no-gabor" => self.filters.gabor = Some(GaborChoice::Off),
+            _ => return Err(Error::usage(format!("unknown option {}", quoted(name)))),
         }
         Ok(())
     }
 
-    fn command(self) -> Result<Command, Refused> {
-        let Some(input) = self.input else {
-            if self.rect.is_some() || self.filters != Chosen::default() {
-                return Err(Refused::setting("without a picture -o is the only option"));
-            }
-            return Ok(Command::Show(self.output.unwrap_or("demo-out".into())));
+    fn command(self) -> Result<Command, Error> {
+        let Some(picture) = self.picture else {
+            return self.show();
         };
-        let output = self.output.unwrap_or_else(|| {
-            let mut name = input.file_stem().unwrap_or_default().to_os_string();
-            name.push("-smoothed.pfm");
-            input.with_file_name(name)
-        });
+        let input = Stream::from(picture);
+        let output = self.output.map(Stream::from);
         Ok(Command::Smooth(Job {
+            output: output.unwrap_or_else(|| input.default_output()),
             input,
-            output,
             rect: self.rect,
             filters: self.filters,
         }))
     }
+
+    fn show(self) -> Result<Command, Error> {
+        if let Some(option) = self.picture_option() {
+            return Err(Error::usage(format!("{option} needs a picture")));
+        }
+        match self.output {
+            Some(output) if output == "-" => {
+                Err(Error::usage("-o -: must be a folder without a picture"))
+            }
+            output => Ok(Command::Show(output.unwrap_or("demo-out".into()).into())),
+        }
+    }
+
+    /// An option that was given and applies to a picture.
+    fn picture_option(&self) -> Option<&'static str> {
+        let Chosen {
+            gabor,
+            iters,
+            sigma,
+        } = &self.filters;
+        let options = [
+            ("--rect", self.rect.is_some()),
+            ("--no-gabor", matches!(gabor, Some(GaborChoice::Off))),
+            ("--gabor", gabor.is_some()),
+            ("--iters", iters.is_some()),
+            ("--sigma", sigma.is_some()),
+        ];
+        let given = options.into_iter().find(|(_, given)| *given);
+        given.map(|(option, _)| option)
+    }
 }
 
-/// The value of an option.
-fn read<T>(
-    option: &OsStr,
-    text: &OsStr,
-    form: impl Fn(&str) -> Option<T>,
-) -> Result<Written<T>, Refused> {
-    let wrong = || Refused::setting(format!("{option:?} does not take {text:?}"));
-    let text = text.to_str().ok_or_else(wrong)?;
-    Ok(Written {
-        value: form(text).ok_or_else(wrong)?,
-        text: text.into(),
-    })
+/// The name and the value of `--name=value`.
+fn split(word: &OsStr) -> (&OsStr, Option<&OsStr>) {
+    let bytes = word.as_bytes();
+    let equals = bytes.iter().position(|byte| *byte == b'=');
+    let Some(at) = equals.filter(|_| bytes.starts_with(b"--")) else {
+        return (word, None);
+    };
+    let (name, value) = (&bytes[..at], &bytes[at + 1..]);
+    (OsStr::from_bytes(name), Some(OsStr::from_bytes(value)))
 }
 
-fn rect(text: &str) -> Option<Region> {
+/// What an option's value must be, and how it is read.
+type Form<T> = (&'static str, fn(&str) -> Option<T>);
+
+const RECT: Form<Rect> = ("LEFT,TOP,WIDTH,HEIGHT in whole numbers", rect);
+const WEIGHTS: Form<GaborChoice> = ("SIDE,CORNER, or six numbers, two per plane", weights);
+const ITERS: Form<u32> = ("0 to 3", iters);
+const SIGMA: Form<f32> = ("a number", float);
+
+fn read<T>(option: &OsStr, text: &OsStr, (must, form): Form<T>) -> Result<T, Error> {
+    let wrong = || {
+        let (option, text) = (option.display(), shown(text));
+        Error::invalid(format!("{option} {text}: must be {must}"))
+    };
+    text.to_str().and_then(form).ok_or_else(wrong)
+}
+
+/// A value as it is, or in quotes where it is not one plain word.
+fn shown(text: &OsStr) -> String {
+    let plain = |byte: &u8| byte.is_ascii_graphic() && !b"'\"\\".contains(byte);
+    match text.to_str() {
+        Some(text) if !text.is_empty() && text.as_bytes().iter().all(plain) => text.into(),
+        _ => quoted(text),
+    }
+}
+
+fn rect(text: &str) -> Option<Rect> {
     let words: Vec<&str> = text.split(',').collect();
     let [left, top, width, height] = words[..] else {
         return None;
     };
-    Some(Region {
+    let region = Region {
         left: number::corner(left)?,
         top: number::corner(top)?,
         width: number::count(width)?,
         height: number::count(height)?,
+    };
+    Some(Rect {
+        region,
+        text: text.into(),
     })
 }
 
@@ -151,6 +221,31 @@ fn weights(text: &str) -> Option<GaborChoice> {
     Some(GaborChoice::Weights(weights))
 }
 
+fn iters(text: &str) -> Option<u32> {
+    number::count(text).filter(|iters| *iters <= MOST_ITERS)
+}
+
 fn float(text: &str) -> Option<f32> {
     text.parse().ok()
+}
+
+#[cfg(test)]
+mod tests {
+    use super::*;
+    use crate::smooth;
+
+    /// The tool's limit is the library's.
+    #[test]
+    fn the_library_takes_up_to_the_most_iterations() {
+        let margin = |iters| {
+            let chosen = Chosen {
+                iters: Some(iters),
+                ..Chosen::default()
+            };
+            restoration::margin(smooth::settings(&chosen)).value()
+        };
+        assert!(margin(MOST_ITERS).is_ok());
+        assert!(margin(MOST_ITERS + 1).is_err());
+        assert!(ITERS.0.ends_with(&MOST_ITERS.to_string()));
+    }
 }

@@ -1,20 +1,22 @@
-//! The portable float map: `PF`, sides, a scale whose sign tells the byte order, and three samples
-//! a place, row after row from the bottom.
+//! The portable float map: `PF`, sides, a scale whose sign is the byte order, and three samples per
+//! pixel, row after row from the bottom. Errors are texts without the file's name.
 
-use restoration::{CHANNELS, Refusal, Region};
+use restoration::{CHANNELS, Region};
 
 use crate::{
+    error::quoted,
     number,
-    picture::{Picture, at_corner},
-    refused::Refused,
+    picture::{Picture, at_corner, sample_count},
 };
 
 const COLOUR: &[u8] = b"PF";
 const SAMPLE: usize = size_of::<f32>();
-/// Most bytes of a word of the header.
+/// Most bytes of a word in the header.
 const LONGEST_WORD: usize = 64;
 
-/// A file as it stands: its samples are neither counted nor put in order.
+const HEADER_ENDS: &str = "ends inside its header";
+
+/// A file with a parsed header; its samples are neither counted nor reordered.
 pub struct Pfm {
     pub region: Region,
     scale: Scale,
@@ -25,7 +27,7 @@ pub struct Pfm {
     start: usize,
 }
 
-/// The scale as it was written; samples are handed on as they are.
+/// The scale as the file has it. It is not applied to the samples.
 pub struct Scale {
     text: String,
     little_endian: bool,
@@ -58,16 +60,16 @@ impl Scale {
     }
 }
 
-pub fn parse(bytes: Vec<u8>) -> Result<Pfm, Refused> {
+pub fn parse(bytes: Vec<u8>) -> Result<Pfm, String> {
     let mut rest = magic(&bytes)?;
     let mut side = |name| {
         let text = word(&mut rest)?;
-        let wrong = || Refused::setting(format!("the {name} {text:?} is no whole number"));
-        Ok((text, number::count(text).ok_or_else(wrong)?))
+        let wrong = || format!("{name} {} is not a whole number", quoted(text));
+        Ok::<_, String>((text, number::count(text).ok_or_else(wrong)?))
     };
     let ((columns, width), (rows, height)) = (side("width")?, side("height")?);
     let text = word(&mut rest)?;
-    let wrong = || Refused::setting(format!("the scale {text:?} is no number, 0 or not finite"));
+    let wrong = || format!("scale {} is not a finite number other than 0", quoted(text));
     Ok(Pfm {
         region: at_corner(width, height),
         scale: Scale::read(text).ok_or_else(wrong)?,
@@ -78,65 +80,39 @@ pub fn parse(bytes: Vec<u8>) -> Result<Pfm, Refused> {
 }
 
 /// What follows the first word.
-fn magic(bytes: &[u8]) -> Result<&[u8], Refused> {
+fn magic(bytes: &[u8]) -> Result<&[u8], String> {
     if COLOUR.starts_with(bytes) {
-        return Err(header_ends());
+        return Err(HEADER_ENDS.into());
     }
     match bytes.strip_prefix(COLOUR) {
         Some(rest) if rest[0].is_ascii_whitespace() => Ok(rest),
-        _ if bytes.starts_with(b"Pf") => Err(Refused::setting("one plane (Pf); three are taken")),
-        _ => Err(Refused::setting(
-            "not a PFM file: it does not begin with PF",
-        )),
+        _ if bytes.starts_with(b"Pf") => Err("one plane (Pf), must be three (PF)".into()),
+        _ => Err("not a PFM file: does not begin with PF".into()),
     }
 }
 
-/// The next word of the header; the one byte after it is taken with it.
-fn word<'a>(rest: &mut &'a [u8]) -> Result<&'a str, Refused> {
+/// The next word of the header; the byte after it is consumed too.
+fn word<'a>(rest: &mut &'a [u8]) -> Result<&'a str, String> {
     let text = rest.trim_ascii_start();
     let mut reach = text.iter().take(LONGEST_WORD + 1);
     let Some(end) = reach.position(u8::is_ascii_whitespace) else {
         return Err(if text.len() > LONGEST_WORD {
-            Refused::setting(format!("a word of the header exceeds {LONGEST_WORD} bytes"))
+            format!("a word in the header is longer than {LONGEST_WORD} bytes")
         } else {
-            header_ends()
+            HEADER_ENDS.into()
         });
     };
     *rest = &text[end + 1..];
     let word = str::from_utf8(&text[..end]).ok();
     let printable = word.filter(|word| word.bytes().all(|byte| byte.is_ascii_graphic()));
-    printable.ok_or_else(|| Refused::setting("a word of the header is no plain text"))
-}
-
-fn header_ends() -> Refused {
-    Refused::new(Refusal::BitsRunOut, "the file ends in its header")
+    printable.ok_or_else(|| "a word in the header is not plain text".into())
 }
 
 impl Pfm {
-    /// How many whole samples there are.
-    pub fn count(&self) -> usize {
-        (self.bytes.len() - self.start) / SAMPLE
-    }
-
-    /// What is wrong with the length of a file whose sides are in measure.
-    pub fn wrong_length(&self) -> String {
-        let (has, due, sides) = (self.count(), self.due(), &self.sides);
-        if has < due {
-            return format!("the file has {has} of the {due} samples of {sides}");
-        }
-        format!("the file goes on after the {due} samples of {sides}")
-    }
-
-    fn due(&self) -> usize {
-        CHANNELS * self.region.width as usize * self.region.height as usize
-    }
-
-    /// The planes apart and from the top row, of a file whose samples are as many as its sides say.
-    pub fn picture(self) -> Result<(Picture, Scale), Refused> {
+    /// Planes with the top row first, of a file whose sides are in range. Its length must fit them.
+    pub fn picture(self) -> Result<(Picture, Scale), String> {
         let (samples, left_over) = self.bytes[self.start..].as_chunks();
-        if !left_over.is_empty() {
-            return Err(Refused::new(Refusal::WrongLength, self.wrong_length()));
-        }
+        self.check_length(samples.len(), left_over.len())?;
         let row = CHANNELS * self.region.width as usize;
         let plane = |c| {
             let rows = samples.chunks_exact(row).rev();
@@ -150,6 +126,19 @@ impl Pfm {
             planes,
         };
         Ok((picture, self.scale))
+    }
+
+    fn check_length(&self, samples: usize, left_over: usize) -> Result<(), String> {
+        let (expected, sides) = (sample_count(self.region), &self.sides);
+        if samples < expected {
+            return Err(format!(
+                "has {samples} of the {expected} samples of {sides}"
+            ));
+        }
+        if samples > expected || left_over > 0 {
+            return Err(format!("has bytes after the {expected} samples of {sides}"));
+        }
+        Ok(())
     }
 }
 

@@ -1,6 +1,9 @@
-//! Three planes and where they lie.
+//! Three planes and their region.
 
 use restoration::{CHANNELS, Region};
+
+/// Samples of the largest picture that the library accepts.
+pub const MOST_SAMPLES: usize = CHANNELS * 16_777_216;
 
 /// Planes of a region, one after another, each row after row from the top.
 #[derive(Clone)]
@@ -10,7 +13,7 @@ pub struct Picture {
 }
 
 impl Picture {
-    /// The part that lies in a region inside this one, without a copy where that is all of it.
+    /// The part in a region inside this one, without a copy if it is all of it.
     pub fn into_part(self, part: Region) -> Self {
         if part == self.region {
             return self;
@@ -18,7 +21,7 @@ impl Picture {
         self.cut(part)
     }
 
-    /// A copy of the part that lies in a region inside this one.
+    /// A copy of the part in a region inside this one.
     pub fn cut(&self, part: Region) -> Self {
         let planes = self
             .rows(part)
@@ -50,7 +53,7 @@ impl Picture {
             .map(move |start| start..start + columns)
     }
 
-    /// The samples of each place, one of each plane.
+    /// The samples of each pixel, one per plane.
     pub fn pixels(&self) -> impl Iterator<Item = [f32; CHANNELS]> {
         (0..self.region.height).flat_map(|y| self.row(y))
     }
@@ -71,6 +74,12 @@ pub fn at_corner(width: u32, height: u32) -> Region {
         width,
         height,
     }
+}
+
+/// How many samples the planes of a region have, or the largest number where it does not fit.
+pub fn sample_count(region: Region) -> usize {
+    let area = (region.width as usize).saturating_mul(region.height as usize);
+    CHANNELS.saturating_mul(area)
 }
 
 /// The same bits, or two NaNs.

@@ -1,4 +1,4 @@
-//! A picture file that any program opens: 8-bit colour, stored without compression.
+//! A PNG file: 8-bit colour, stored without compression.
 
 /// Most bytes of a stored block of deflate (RFC 1951).
 const MOST_STORED: usize = 65_535;
@@ -8,7 +8,7 @@ const KIND: [u8; 5] = [8, 2, 0, 0, 0];
 /// A row is stored as it is.
 const UNFILTERED: u8 = 0;
 
-/// The file of so many pixels a row.
+/// A file with `width` pixels per row.
 pub fn bytes(width: u32, pixels: &[[u8; 3]]) -> Vec<u8> {
     let rows = pixels.chunks_exact(width as usize);
     let height = rows.len() as u32;

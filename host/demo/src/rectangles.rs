@@ -1,11 +1,11 @@
-//! A picture cut into rectangles that lie edge to edge.
+//! A picture cut into rectangles laid edge to edge.
 
 use restoration::{Refusal, Region};
 
 use crate::{picture::Picture, smooth::Filters};
 
-/// Sides of a rectangle. All start where blocks do, so that a margin one too small shows at right and
-/// bottom alone: to the left and above, moving down to a block's start adds the sample that it lacks.
+/// Sides of a rectangle. All start at blocks, so a margin one too few shows only at the right and
+/// bottom: at the left and top, aligning down to a block adds the missing sample.
 pub const SIDES: (u32, u32) = (128, 96);
 
 /// All rectangles of a picture, smoothed one by one and laid edge to edge.

@@ -1,4 +1,4 @@
-//! A picture of its own, smoothed whole and in rectangles laid edge to edge.
+//! The built-in picture, smoothed whole and in rectangles laid edge to edge.
 
 use std::{hint::black_box, path::Path, time::Instant};
 
@@ -6,38 +6,39 @@ use restoration::{CHANNELS, Refusal, Region};
 
 use crate::{
     engraving,
+    error::{Error, Of, quoted},
     number::grouped,
     options::Chosen,
     picture::{Picture, differing},
     png,
     rectangles::{SIDES, lay, rectangles},
-    refused::{Asked, Refused},
     smooth::{self, Filters},
     store,
 };
 
-/// Times are the best of so many runs.
+/// Times are the best of this many runs.
 const RUNS: u32 = 10;
-/// How bright the picture under the seams is, and the least seam.
+/// Brightness of the picture under the seams, and of the faintest seam.
 const DARK: f32 = 0.3;
 const FAINT: f32 = 0.4;
 
 /// Names and bytes.
 type Files = Vec<(&'static str, Vec<u8>)>;
 
-/// Whether all samples that were compared agree. Nothing is printed before all files are written.
-pub fn show(folder: &Path) -> Result<bool, Refused> {
+/// Whether all compared samples agree. Nothing is printed before all files are written.
+pub fn show(folder: &Path) -> Result<bool, Error> {
     let mut shown = Shown::new();
-    let (agree, files) = shown.files().asked(|| "the picture of its own".into())?;
+    let (agree, files) = shown.files().of(|| "built-in picture".into())?;
     store::all_in(folder, files)?;
     shown.say(format!(
-        "written     before.png, after.png, seams.png (these differences in red) in {folder:?}"
+        "written     before.png, after.png, seams.png (wrong samples in red) in {}",
+        quoted(folder)
     ));
     say!("{}", shown.lines.join("\n"));
     Ok(agree)
 }
 
-/// What is shown, and the lines that tell of it.
+/// The picture, its settings, and the lines to print.
 struct Shown {
     picture: Picture,
     filters: Filters,
@@ -65,7 +66,7 @@ impl Shown {
         self.lines.push(line);
     }
 
-    /// Whether all samples that were compared agree, and the files to write.
+    /// Whether all compared samples agree, and the files to write.
     fn files(&mut self) -> Result<(bool, Files), Refusal> {
         self.say_settings()?;
         let whole = self.whole()?;
@@ -83,7 +84,7 @@ impl Shown {
 
     fn say_settings(&mut self) -> Result<(), Refusal> {
         let Region { width, height, .. } = self.picture.region;
-        let restoration::Settings { gabor, epf } = self.filters.settings;
+        let restoration::Settings { gabor, epf, .. } = self.filters.settings;
         let ([side, corner], iters) = (gabor.weights[0], epf.iters);
         let sigmas = self.filters.grids.iter().copied();
         let least = sigmas.clone().fold(f32::INFINITY, f32::min);
@@ -112,16 +113,16 @@ impl Shown {
         self.say(format!(
             "rectangles  {count} of up to {width} x {height}, edge to edge: {time:.1} ms"
         ));
-        self.say("            each widened by the margin, from a block on, and cut back".into());
-        Ok(self.compare("compared", "with the whole's", &laid?, whole))
+        self.say("            each extended by the margin, aligned to blocks, and cropped".into());
+        Ok(self.compare("compared", "whole picture", &laid?, whole))
     }
 
-    /// Tells how many samples differ; none should.
+    /// Counts the samples that differ; none should.
     fn compare(&mut self, name: &str, with: &str, given: &Picture, whole: &Picture) -> bool {
         let differing = differing(&given.planes, &whole.planes);
         let samples = grouped(whole.planes.len());
         self.say(format!(
-            "{name:12}{samples} samples {with}, bit by bit; differing: {differing}"
+            "{name:12}{samples} samples with the {with}'s, bit by bit: {differing} differ"
         ));
         differing == 0
     }
@@ -129,17 +130,19 @@ impl Shown {
     #[cfg(feature = "original")]
     fn by_original(&mut self, whole: &Picture) -> bool {
         let (given, time) = timed(|| crate::original::smooth(&self.filters, &self.picture));
-        self.say(format!("the Rust    {time:.1} ms for the whole"));
-        self.compare("", "with the Rust's", &given, whole)
+        self.say(format!(
+            "original    {time:.1} ms for the whole picture (jxl-oxide)"
+        ));
+        self.compare("", "original", &given, whole)
     }
 
     #[cfg(not(feature = "original"))]
     fn by_original(&mut self, _: &Picture) -> bool {
-        self.say("the Rust    is not here: no time and no samples to compare with".into());
+        self.say("original    not found: nothing to compare with (RESTORATION_RUST_SRC)".into());
         true
     }
 
-    /// What a margin one too small leaves, over the smoothed picture made dark.
+    /// The samples that a margin one too few gets wrong, over the darkened smoothed picture.
     fn seams(&mut self, whole: &Picture) -> Result<Vec<[u8; CHANNELS]>, Refusal> {
         let margin = self.filters.margin()? - 1;
         let laid = lay(&self.picture, &self.filters, margin)?;
@@ -147,7 +150,7 @@ impl Shown {
         let most = apart.iter().copied().fold(0.0, f32::max);
         let differing = grouped(differing(&laid.planes, &whole.planes));
         self.say(format!(
-            "margin {margin}    one too small: {differing} samples differ, by up to {most:.1e}"
+            "margin {margin}    one too few: {differing} samples wrong, by up to {most:.1e}"
         ));
         let seam = |([red, green, blue], apart): ([f32; CHANNELS], f32)| {
             let seam = if apart > 0.0 {
@@ -161,7 +164,7 @@ impl Shown {
     }
 }
 
-/// The largest difference at a place.
+/// The largest difference at a pixel.
 fn apart((a, b): ([f32; CHANNELS], [f32; CHANNELS])) -> f32 {
     let apart = a.iter().zip(b).map(|(a, b)| (a - b).abs());
     apart.fold(0.0, f32::max)
@@ -176,7 +179,7 @@ fn level(sample: f32) -> u8 {
     (sample.clamp(0.0, 1.0) * 255.0).round() as u8
 }
 
-/// An outcome and the shortest of several times, in milliseconds.
+/// A result and the shortest of several times, in milliseconds.
 fn timed<T>(mut run: impl FnMut() -> T) -> (T, f64) {
     let mut shortest = f64::INFINITY;
     let mut once = || {

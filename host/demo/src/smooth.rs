@@ -1,21 +1,21 @@
-//! Smoothing by the proved library, of whole pictures and of rectangles.
+//! Whole pictures and rectangles smoothed by the proved library.
 
 use restoration::{BLOCK, Frame, Refusal, Region, Settings, Setup, Smoothing};
 
 use crate::{
     options::{Chosen, GaborChoice},
-    picture::{Picture, at_corner},
+    picture::{MOST_SAMPLES, Picture, at_corner, sample_count},
 };
 
-/// Rows of a band, as is usual: 256 of them are the tallest picture.
+/// Rows of a band: 256 bands hold the tallest picture.
 const BAND_HEIGHT: u32 = 64;
 
-/// A header in which the Gabor-like filter and three iterations are on and all else is default.
+/// A header with the Gabor-like filter and three iterations on, all else default.
 const DEFAULTS: u8 = 0b1101;
-/// A header in which both filters are off.
+/// A header with both filters off.
 const OFF: u8 = 0;
 
-/// Settings of a picture and its sigmas, which hold for each part of it.
+/// Settings and sigmas of a picture, valid for each part of it.
 pub struct Filters {
     pub settings: Settings,
     pub frame: Frame,
@@ -24,7 +24,7 @@ pub struct Filters {
 }
 
 impl Filters {
-    /// One sigma for a picture with these sides: no group has a grid.
+    /// One sigma for the whole picture: no group has a grid.
     pub fn of_one_sigma(picture: Region, settings: Settings) -> Result<Self, Refusal> {
         let frame = frame(picture);
         let groups = restoration::group_sizes(frame).value()?.num_groups;
@@ -52,9 +52,9 @@ impl Filters {
         })
     }
 
-    /// What is smoothed for a part of a picture: the part widened by a margin; left and top are then
-    /// moved down to where blocks start, if the edge filter runs, and all is clipped to the picture,
-    /// whose corner is 0, 0.
+    /// The region to smooth for a part of a picture: the part extended by a margin, left and top
+    /// aligned down to blocks if the edge-preserving filter runs, clipped to the picture, whose corner
+    /// is 0, 0.
     pub fn widened(&self, picture: Region, part: Region, margin: u32) -> Region {
         let unit = if self.settings.epf.iters > 0 {
             BLOCK
@@ -78,7 +78,7 @@ impl Filters {
     }
 }
 
-/// The default settings with what was chosen.
+/// The default settings with the chosen ones.
 pub fn settings(chosen: &Chosen) -> Settings {
     let mut settings = header(DEFAULTS);
     match chosen.gabor {
@@ -87,7 +87,7 @@ pub fn settings(chosen: &Chosen) -> Settings {
         None => {}
     }
     let epf = &mut settings.epf;
-    epf.iters = chosen.iters.as_ref().map_or(epf.iters, |iters| iters.value);
+    epf.iters = chosen.iters.unwrap_or(epf.iters);
     epf.sigma_for_modular = chosen.sigma.unwrap_or(epf.sigma_for_modular);
     settings
 }
@@ -98,10 +98,13 @@ fn header(bits: u8) -> Settings {
     filter.into()
 }
 
-/// Whether so many samples are a picture with these sides and a part lies inside it: start says so.
-/// It looks at lengths alone, so that the memory of these sets is never touched.
-pub fn judge(picture: Region, part: Region, samples: usize) -> Result<(), Refusal> {
+/// Whether a picture's sides are in range and a part lies inside it: `start` decides. It reads only
+/// the lengths of its planes, so their memory is never touched.
+pub fn judge(picture: Region, part: Region) -> Result<(), Refusal> {
     let setup = setup(picture, part, header(OFF));
+    // Sides out of range are refused before lengths are compared.
+    let count = sample_count(picture);
+    let samples = if count <= MOST_SAMPLES { count } else { 0 };
     let (mut first, second) = (vec![0.0; samples], vec![0.0; samples]);
     let (frame, table) = (frame(at_corner(1, 1)), [0; 3]);
     restoration::start(setup, frame, &table, &[], &mut first, &second, &mut []).value()?;
@@ -111,21 +114,17 @@ pub fn judge(picture: Region, part: Region, samples: usize) -> Result<(), Refusa
 /// The frame that a picture fills.
 pub fn frame(picture: Region) -> Frame {
     Frame {
-        width: picture.width,
-        height: picture.height,
-        upsampling: 1,
-        lf_level: 0,
         group_size_shift: 0,
+        ..Frame::with_size(picture.width, picture.height)
     }
 }
 
 fn setup(image: Region, filter: Region, settings: Settings) -> Setup {
     Setup {
-        image,
         filter,
-        preserve_outside: 0,
         settings,
         band_height: BAND_HEIGHT,
+        ..Setup::whole(image)
     }
 }
 

@@ -7,20 +7,20 @@ use std::{
     process,
 };
 
-use crate::refused::Refused;
+use crate::error::{Error, quoted};
 
-/// Writes each file under another name in its target's folder; when all are written they get their
-/// own. A target is followed where it is a link, and keeps its permissions where it is there.
-pub fn all(files: &[(PathBuf, Vec<u8>)]) -> Result<(), Refused> {
+/// Writes each file under a temporary name in its target's folder, and renames them when all are
+/// written. Links are followed; an existing file keeps its permissions.
+pub fn all(files: &[(PathBuf, Vec<u8>)]) -> Result<(), Error> {
     let parts = files.iter().map(|(target, bytes)| {
         let part = Part::write(target, bytes);
-        part.map_err(|error| not_written(target, error))
+        part.map_err(|error| not_written(target, &error))
     });
     name(parts.collect::<Result<_, _>>()?)
 }
 
-/// All files in a folder, which is made where it is not there.
-pub fn all_in(folder: &Path, files: Vec<(&str, Vec<u8>)>) -> Result<(), Refused> {
+/// All files in a folder, which is created if absent.
+pub fn all_in(folder: &Path, files: Vec<(&str, Vec<u8>)>) -> Result<(), Error> {
     let made = fs::create_dir(folder);
     match &made {
         Err(error) if !folder.is_dir() => return Err(not_written(folder, error)),
@@ -29,18 +29,18 @@ pub fn all_in(folder: &Path, files: Vec<(&str, Vec<u8>)>) -> Result<(), Refused>
     let inside = |(name, bytes): (&str, _)| (folder.join(name), bytes);
     let stored = all(&files.into_iter().map(inside).collect::<Vec<_>>());
     if stored.is_err() && made.is_ok() {
-        // The first error is the one to tell.
+        // The first error is the one to report.
         let _ = fs::remove_dir(folder);
     }
     stored
 }
 
-/// A written file that gets its target's name. Dropped before it is to stay, it leaves the folder as
-/// it was.
+/// A written file that is to get its target's name. Dropped before `Stays`, it leaves the folder as it
+/// was.
 struct Part {
     target: PathBuf,
     new: PathBuf,
-    /// What had the target's name before.
+    /// The temporary name of the file that the target replaces.
     old: PathBuf,
     stage: Stage,
 }
@@ -51,16 +51,16 @@ enum Stage {
     Stays,
 }
 
-/// The last file gets its name in one step, so that a single one is never absent.
-fn name(mut parts: Vec<Part>) -> Result<(), Refused> {
+/// The last file is renamed in one step, so that a single one is never absent.
+fn name(mut parts: Vec<Part>) -> Result<(), Error> {
     let last = parts.len().saturating_sub(1);
     let named = parts.iter_mut().enumerate().try_for_each(|(n, part)| {
         let named = part.name(n == last);
-        named.map_err(|error| not_written(&part.target, error))
+        named.map_err(|error| not_written(&part.target, &error))
     });
     match named {
         Ok(()) => parts.iter_mut().for_each(|part| part.stage = Stage::Stays),
-        // Dropped from the last on, since links may lead to one target.
+        // Dropped last to first, since several links may lead to one target.
         Err(_) => parts.reverse(),
     }
     named
@@ -92,24 +92,24 @@ impl Part {
 }
 
 impl Drop for Part {
-    /// What fails here is not told: some of these files are not there.
+    /// Errors are ignored: some of these files do not exist.
     fn drop(&mut self) {
-        let needless = match self.stage {
+        let unneeded = match self.stage {
             Stage::Written => &self.new,
             Stage::Named => &self.target,
             Stage::Stays => &self.old,
         };
-        let _ = fs::remove_file(needless);
+        let _ = fs::remove_file(unneeded);
         if !matches!(self.stage, Stage::Stays) {
             let _ = fs::rename(&self.old, &self.target);
         }
     }
 }
 
-/// Where a target is, and its permissions if it is there: then it is a file that can be written.
+/// Where a target is, and its permissions if it exists; it is then a writable file.
 fn resolved(target: &Path) -> io::Result<(PathBuf, Option<Permissions>)> {
     match fs::metadata(target) {
-        Ok(found) if !found.is_file() => Err(io::Error::other("it is no regular file")),
+        Ok(found) if !found.is_file() => Err(io::Error::other("not a regular file")),
         Ok(found) => {
             OpenOptions::new().write(true).open(target)?;
             Ok((target.canonicalize()?, Some(found.permissions())))
@@ -121,7 +121,7 @@ fn resolved(target: &Path) -> io::Result<(PathBuf, Option<Permissions>)> {
     }
 }
 
-/// A file under a short name that is free in the target's folder.
+/// A new file under a short, unused name in the target's folder.
 fn new_beside(target: &Path) -> io::Result<(PathBuf, File)> {
     let mut n = 0;
     loop {
@@ -133,17 +133,17 @@ fn new_beside(target: &Path) -> io::Result<(PathBuf, File)> {
     }
 }
 
-fn not_written(target: &Path, error: impl core::fmt::Display) -> Refused {
-    Refused::setting(format!("{target:?} cannot be written: {error}"))
+fn not_written(target: &Path, error: &io::Error) -> Error {
+    Error::cannot_write(quoted(target), error)
 }
 
 #[cfg(test)]
 mod tests {
     use super::*;
 
-    /// A target that cannot take its name when all are written.
+    /// A target whose rename fails after all are written.
     #[test]
-    fn where_a_name_is_refused_all_is_as_it_was() {
+    fn a_failed_rename_leaves_all_as_it_was() {
         let folder = std::env::temp_dir().join(format!("restoration-store-{}", process::id()));
         fs::create_dir(&folder).unwrap();
         fs::write(folder.join("old"), "as it was").unwrap();

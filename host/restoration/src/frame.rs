@@ -1,12 +1,9 @@
 //! A frame's groups, and the sigmas of blocks.
 
-use crate::boundary::{answers, entries};
+use crate::boundary::{answers, defaults, entries};
 
-/// Planes of a picture.
-pub const CHANNELS: usize = 3;
-/// Samples along a side of a block.
-pub const BLOCK: u32 = 8;
-
+/// The frame header fields that groups depend on. The default has the header's default values and no
+/// width and height yet.
 #[repr(C)]
 #[derive(Debug, Clone, Copy, PartialEq, Eq)]
 pub struct Frame {
@@ -16,6 +13,34 @@ pub struct Frame {
     pub lf_level: u32,
     pub group_size_shift: u32,
 }
+
+impl Frame {
+    pub const DEFAULT: Self = Self {
+        width: 0,
+        height: 0,
+        upsampling: 1,
+        lf_level: 0,
+        group_size_shift: 1,
+    };
+
+    /// A frame of this width and height; all other fields have their defaults.
+    ///
+    /// ```
+    /// # use restoration::{Frame, group_sizes};
+    /// let sizes = group_sizes(Frame::with_size(4000, 3001)).value()?;
+    /// assert_eq!((sizes.sample_width, sizes.group_dim, sizes.num_groups), (4000, 256, 4));
+    /// # Ok::<(), restoration::Refusal>(())
+    /// ```
+    pub const fn with_size(width: u32, height: u32) -> Self {
+        Self {
+            width,
+            height,
+            ..Self::DEFAULT
+        }
+    }
+}
+
+defaults! { Frame }
 
 #[repr(C)]
 #[derive(Debug, Clone, Copy, PartialEq, Eq)]
@@ -31,7 +56,7 @@ pub struct GroupSizes {
 
 /// A filter region that starts at multiples of 8: its left and top in blocks, its sides in samples.
 #[repr(C)]
-#[derive(Debug, Clone, Copy, PartialEq, Eq)]
+#[derive(Debug, Clone, Copy, Default, PartialEq, Eq)]
 pub struct Blocks {
     pub left: u32,
     pub top: u32,
@@ -47,13 +72,8 @@ answers! {
 entries! {
     /// ```
     /// // `crates/frame/specs/Examples.antt`: two by two groups of 128 blocks each way.
-    /// let frame = restoration::Frame {
-    ///     width: 4000,
-    ///     height: 3001,
-    ///     upsampling: 2,
-    ///     lf_level: 0,
-    ///     group_size_shift: 0,
-    /// };
+    /// # use restoration::Frame;
+    /// let frame = Frame { upsampling: 2, group_size_shift: 0, ..Frame::with_size(4000, 3001) };
     /// let sizes = restoration::group_sizes(frame).value()?;
     /// assert_eq!((sizes.sample_width, sizes.sample_height), (2000, 1501));
     /// assert_eq!((sizes.group_dim, sizes.num_groups), (128, 4));
@@ -62,23 +82,18 @@ entries! {
     /// ```
     group_sizes = restoration_group_sizes(f: Frame) -> FrameAnswer;
 
-    /// The group of a block's column or row, and the cell in it.
+    /// The group of a block column or row, and the block's index inside that group.
     split_block = restoration_split_block(block: u32, group_size_shift: u32) -> SplitAnswer;
 
-    /// Fills in one sigma per block where the edge filter is on (1); there are none where it is off
-    /// (0). The table has three numbers a group: whether it has a grid, the grid's width and its
-    /// height; the grids lie one after another.
+    /// Fills in one sigma per block if the edge filter is on (1); if it is off (0) there are none. The
+    /// table has [`crate::TABLE_ENTRY`] numbers per group: whether it has a grid, the grid's width and
+    /// its height. `grids` has the cells of all grids, one grid after another.
     ///
     /// ```
-    /// // Document 01, "Instances": group row 0 has grids, row 1 none: block row 128 repeats row 127.
-    /// let frame = restoration::Frame {
-    ///     width: 8,
-    ///     height: 1032,
-    ///     upsampling: 1,
-    ///     lf_level: 0,
-    ///     group_size_shift: 0,
-    /// };
-    /// let blocks = restoration::Blocks { left: 0, top: 0, width: 8, height: 1032 };
+    /// // Specification 14.9: group row 0 has grids, row 1 none: block row 128 repeats row 127.
+    /// # use restoration::{Blocks, Frame};
+    /// let frame = Frame { group_size_shift: 0, ..Frame::with_size(8, 1032) };
+    /// let blocks = Blocks { width: 8, height: 1032, ..Blocks::default() };
     /// let grid: Vec<f32> = (0..128).map(|row| row as f32).collect();
     /// let mut sigmas = [0.0; 129];
     /// let table = [1, 1, 128, 0, 0, 0];

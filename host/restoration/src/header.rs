@@ -1,6 +1,6 @@
-//! Reading a filter header, from a bit place of a slice.
+//! Readers of filter headers. Each starts at a bit position of a byte slice and answers the next one.
 
-use crate::boundary::{answers, entries};
+use crate::boundary::{answers, defaults, entries};
 
 #[repr(C)]
 #[derive(Debug, Clone, Copy, PartialEq)]
@@ -17,6 +17,18 @@ pub struct EpfSigma {
     pub pass2_sigma_scale: f32,
     pub border_sad_mul: f32,
 }
+
+impl EpfSigma {
+    /// The values of a header that has no custom ones.
+    pub const DEFAULT: Self = Self {
+        quant_mul: 0.46,
+        pass0_sigma_scale: 0.9,
+        pass2_sigma_scale: 6.5,
+        border_sad_mul: 2.0 / 3.0,
+    };
+}
+
+defaults! { EpfSigma }
 
 #[repr(C)]
 #[derive(Debug, Clone, Copy, PartialEq)]
@@ -37,7 +49,7 @@ pub struct RestorationFilter {
     pub epf: EdgePreservingFilter,
 }
 
-/// How a frame is encoded: the edge-preserving filter's bundle has other fields in each.
+/// How a frame is encoded. The edge-preserving filter's header fields depend on it.
 #[derive(Debug, Clone, Copy, PartialEq, Eq)]
 pub enum Encoding {
     VarDct,
@@ -53,7 +65,7 @@ answers! {
 
 entries! {
     /// ```
-    /// // Document 01, "Instances": halves 0001 and 7C00.
+    /// // Specification 14.3: halves 0001 and 7C00.
     /// let (value, next) = restoration::read_half(&[0x01, 0x00], 0).value()?;
     /// assert_eq!((value.to_bits(), next), (0x3380_0000, 16));
     /// let refused = restoration::read_half(&[0x00, 0x7C], 0).value();
@@ -63,7 +75,7 @@ entries! {
     read_half = restoration_read_half(bytes: &[u8], at: usize) -> HalfAnswer;
 
     /// ```
-    /// // Document 01, "Instances": weights -1/8, -1/8 and 1/4, 0, after the enabled and custom bits.
+    /// // Specification 14.4: weights -1/8, -1/8 and 1/4, 0, after the enabled and custom bits.
     /// let header = |w0: u128, w1: u128| {
     ///     let pair = w0 | w1 << 16;
     ///     (0b11 | pair << 2 | pair << 34 | pair << 66).to_le_bytes()
@@ -84,7 +96,7 @@ entries! {
 }
 
 /// The edge-preserving filter of a header.
-#[must_use = "a refusal is told by the number alone"]
+#[must_use = "the number alone says whether the call was refused"]
 pub fn read_epf(bytes: &[u8], place: usize, encoding: Encoding) -> EpfAnswer {
     match encoding {
         Encoding::VarDct => read_epf_vardct(bytes, place),
@@ -92,11 +104,11 @@ pub fn read_epf(bytes: &[u8], place: usize, encoding: Encoding) -> EpfAnswer {
     }
 }
 
-/// Both filters, the Gabor-like one first.
+/// Both filters of a header, the Gabor-like one first.
 ///
 /// ```
 /// use restoration::Encoding::VarDct;
-/// // The Gabor-like bundle is an enabled and a custom bit here; the edge filter's follows.
+/// // The Gabor-like filter has two bits here, enabled and custom; the edge filter's bits follow.
 /// let bytes = [0b000_11_01];
 /// let (gabor, after) = restoration::read_gabor(&bytes, 0).value()?;
 /// let (epf, end) = restoration::read_epf(&bytes, after, VarDct).value()?;
@@ -106,7 +118,7 @@ pub fn read_epf(bytes: &[u8], place: usize, encoding: Encoding) -> EpfAnswer {
 /// assert_eq!(refused, Err(restoration::Refusal::BitsRunOut));
 /// # Ok::<(), restoration::Refusal>(())
 /// ```
-#[must_use = "a refusal is told by the number alone"]
+#[must_use = "the number alone says whether the call was refused"]
 pub fn read_filters(bytes: &[u8], place: usize, encoding: Encoding) -> RestorationAnswer {
     match encoding {
         Encoding::VarDct => read_filters_vardct(bytes, place),

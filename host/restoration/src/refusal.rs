@@ -1,10 +1,10 @@
-//! Document 01's numbers.
+//! The numbers of refusals.
 
 use core::fmt;
 
 macro_rules! refusals {
     ($($number:literal $name:ident $meaning:literal)*) => {
-        /// Why a call was refused. What it was lent is then as it was.
+        /// Why a call was refused. A refused call changes none of the caller's buffers.
         ///
         /// ```
         /// assert_eq!(restoration::accepted(0), Ok(()));
@@ -29,10 +29,10 @@ macro_rules! refusals {
             }
         }
 
-        /// Whether a call with this number was accepted, and else why not.
+        /// `Ok` if a call with this number was accepted, else why it was refused.
         ///
         /// # Panics
-        /// Where the library has no such number.
+        /// If the library has no such number.
         pub fn accepted(number: u32) -> Result<(), Refusal> {
             match number {
                 0 => Ok(()),
@@ -47,7 +47,7 @@ refusals! {
     1 BitsRunOut "the header's bits run out"
     2 HalfNotFinite "a half-precision number of the header is not finite"
     3 KernelNearZero "the weights of a channel and its centre's 1 add up to nearly 0"
-    4 OutOfMeasure "a side, an area, a left or a top is outside the measures"
+    4 OutOfMeasure "a side, area, left or top is out of range"
     5 NotInside "the filter region is not inside the image region"
     6 NotOnBlocks "the filter region's left or top is negative or no multiple of 8"
     7 WrongLength "a slice has a wrong length"

@@ -4,8 +4,8 @@ use crate::boundary::{answers, entries};
 
 /// ```
 /// # use restoration::*;
-/// // A rectangle of a picture, widened by 7 samples and clipped; and moved out of the picture.
-/// let picture = Region { left: 0, top: 0, width: 100, height: 80 };
+/// // A rectangle of a picture, widened by 7 samples and clipped, then moved out of the picture.
+/// let picture = Region::with_size(100, 80);
 /// let rectangle = Region { left: 3, top: 20, width: 10, height: 10 };
 /// let widened = region_pad(rectangle, 7).value()?;
 /// let clipped = region_intersection(widened, picture).value()?;
@@ -17,12 +17,24 @@ use crate::boundary::{answers, entries};
 /// # Ok::<(), Refusal>(())
 /// ```
 #[repr(C)]
-#[derive(Debug, Clone, Copy, PartialEq, Eq)]
+#[derive(Debug, Clone, Copy, Default, PartialEq, Eq)]
 pub struct Region {
     pub left: i32,
     pub top: i32,
     pub width: u32,
     pub height: u32,
+}
+
+impl Region {
+    /// A region of this width and height with left and top 0.
+    pub const fn with_size(width: u32, height: u32) -> Self {
+        Self {
+            left: 0,
+            top: 0,
+            width,
+            height,
+        }
+    }
 }
 
 answers! {
@@ -40,10 +52,10 @@ entries! {
     region_intersection = restoration_region_intersection(a: Region, b: Region) -> RegionAnswer;
     region_pad = restoration_region_pad(r: Region, size: u32) -> RegionAnswer;
 
-    /// Sides and corners divided by 2 to the power of the factor, outward.
+    /// All edges divided by 2 to the power of `factor`, rounded outward.
     ///
     /// ```
-    /// // Document 01, "Instances": left -3, width 5.
+    /// // Specification 14.5: left -3, width 5.
     /// let r = restoration::Region { left: -3, top: -3, width: 5, height: 5 };
     /// let down = restoration::region_downsample(r, 1).value()?;
     /// assert_eq!((down.left, down.width), (-2, 3));

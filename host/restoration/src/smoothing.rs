@@ -1,19 +1,15 @@
-//! A run together with what its calls are lent.
+//! A run together with the buffers of its calls.
 
 use crate::{BLOCK, Frame, Refusal, Region, Run, Setup, accepted, advance, band, result, start};
 
 /// A run that owns its record, both sets of planes and the block sigmas.
 ///
 /// ```
-/// # let region = |width, height| restoration::Region { left: 0, top: 0, width, height };
-/// # let settings = restoration::read_filters_vardct(&[0b01], 0).value()?.0.into();
-/// # let (image, filter, preserve_outside) = (region(2, 2), region(2, 2), 1);
-/// # let (width, height, upsampling, lf_level, group_size_shift) = (2, 2, 1, 0, 0);
-/// # let frame = restoration::Frame { width, height, upsampling, lf_level, group_size_shift };
-/// // Document 01, "Instances": two bands; band 0 twice, and advance with band 1 missing.
-/// let setup = restoration::Setup { image, filter, preserve_outside, settings, band_height: 1 };
+/// # use restoration::{Frame, Region, Setup, Smoothing};
+/// // Specification 14.10: two bands; band 0 twice, and advance with band 1 missing.
+/// let setup = Setup { band_height: 1, ..Setup::whole(Region::with_size(2, 2)) };
 /// let planes = (0..12u8).map(f32::from).collect();
-/// let mut smoothing = restoration::Smoothing::start(setup, frame, &[0; 3], &[], planes)?;
+/// let mut smoothing = Smoothing::start(setup, Frame::with_size(2, 2), &[0; 3], &[], planes)?;
 /// let whole = smoothing.clone().finish()?;
 /// smoothing.band(0)?;
 /// assert_eq!(smoothing.run().done[..2], [1, 0]);
@@ -32,7 +28,7 @@ pub struct Smoothing {
 }
 
 impl Smoothing {
-    /// Takes three planes of the image region, one after another; table and grids as in
+    /// Takes the planes of the image region, one after another. `table` and `grids` are those of
     /// [`crate::block_sigmas`].
     pub fn start(
         setup: Setup,
@@ -54,7 +50,7 @@ impl Smoothing {
         })
     }
 
-    /// What start was told, how many passes are over and which bands are done.
+    /// The setup, how many passes are finished, and which bands of this pass are done.
     pub fn run(&self) -> &Run {
         &self.run
     }
@@ -70,7 +66,8 @@ impl Smoothing {
         Ok(())
     }
 
-    /// The planes of a finished run, one after another: the image region's, or the filter region's.
+    /// The planes of a finished run, one after another: those of the image region or of the filter
+    /// region.
     pub fn result(&self) -> Result<Vec<f32>, Refusal> {
         let setup = &self.run.setup;
         let planes = self.first.len() / area(setup.image);
@@ -79,8 +76,8 @@ impl Smoothing {
         Ok(out)
     }
 
-    /// All bands and passes that are left, and then the result. The library says which are left: with
-    /// no band open, an advance is 11 after the finish alone.
+    /// Runs all bands and passes that are left and answers the result. The library says when there is
+    /// none left: with no band open it refuses an advance, with 11, only if the run is finished.
     pub fn finish(mut self) -> Result<Vec<f32>, Refusal> {
         loop {
             self.open_bands()?;
@@ -91,7 +88,7 @@ impl Smoothing {
         }
     }
 
-    /// The bands of this pass that are not done. The first of these that is 10 is past the last band.
+    /// Runs the bands of this pass that are not done. The first that is refused with 10 is past the last.
     fn open_bands(&mut self) -> Result<(), Refusal> {
         let done = self.run.done;
         for k in (0..).filter(|&k| done.get(k as usize) != Some(&1)) {
@@ -116,8 +113,8 @@ fn area(r: Region) -> usize {
     r.width as usize * r.height as usize
 }
 
-/// Blocks of the filter region, none with the edge filter off. A filter region inside the image has
-/// no more of them than there are samples, so that many serve for one that will be refused.
+/// Blocks of the filter region; 0 with the edge filter off. A filter region inside the image has at
+/// most as many blocks as there are samples; a larger one is refused, so the count stops there.
 fn block_count(setup: &Setup, samples: usize) -> usize {
     if setup.settings.epf.iters == 0 {
         return 0;

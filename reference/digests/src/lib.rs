@@ -1,4 +1,4 @@
-//! Holds the original's files against the digests in `original.sha256`, so that an altered copy is not
+//! Compares the original's files with the digests in `original.sha256`, so that an altered copy is not
 //! compiled. The list has each file that is compiled, whole or in part, as `sha256sum` prints it.
 
 mod sha256;
@@ -11,9 +11,9 @@ use std::{
 
 const LIST: &str = include_str!("../original.sha256");
 
-/// For a build: the folder `part` of the original, `RESTORATION_RUST_SRC`, once the files listed below it
-/// have their digests. The build runs again where one of them changes. Where the folder or a file is
-/// not there, or a file is altered, the build ends with an error that names it.
+/// For a build script: checks the listed files in the folder `part` of the original,
+/// `RESTORATION_RUST_SRC`, and answers that folder. The build runs again if one of the files changes. If
+/// the folder or a file is missing or a file is altered, the build ends with an error that names it.
 pub fn checked_folder(part: &str) -> PathBuf {
     println!("cargo::rerun-if-env-changed=RESTORATION_RUST_SRC");
     println!("cargo::rerun-if-changed=build.rs");
@@ -37,7 +37,7 @@ fn folder_of(part: &str) -> Result<PathBuf, String> {
     Ok(folder)
 }
 
-/// Each file listed below `part` is in the folder and has its digest; else what is wrong with which.
+/// Checks that each file listed in `part` is in the folder and has its digest; the error names the file.
 fn check(folder: &Path, part: &str) -> Result<(), String> {
     let mut files = listed(part).peekable();
     if files.peek().is_none() {
@@ -58,7 +58,7 @@ fn check(folder: &Path, part: &str) -> Result<(), String> {
     Ok(())
 }
 
-/// The files listed below a folder, from there, with their digests.
+/// The files listed in a folder, relative to it, with their digests.
 fn listed(part: &str) -> impl Iterator<Item = (&'static str, &'static str)> {
     LIST.lines().filter_map(move |line| {
         let (digest, path) = line.split_once("  ").expect("a digest and a path");
@@ -73,7 +73,7 @@ mod tests {
 
     const PART: &str = "crates/jxl-frame/src";
 
-    /// The original's folder, copied to one of the build's own.
+    /// A copy of the original's folder.
     fn copy(name: &str) -> PathBuf {
         let root = env::var("RESTORATION_RUST_SRC").expect("RESTORATION_RUST_SRC");
         let folder = env::temp_dir().join(format!("digests-{}-{name}", std::process::id()));

@@ -1,4 +1,4 @@
-//! SHA-256 (FIPS 180-4), since a build has no crates from outside.
+//! SHA-256 (FIPS 180-4), since the workspace has no external crates.
 
 /// The first 32 bits of the fractional parts of the square roots of the first 8 primes.
 const START: [u32; 8] = [

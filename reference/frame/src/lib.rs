@@ -18,7 +18,7 @@ pub mod data {
     use core::marker::PhantomData;
     use standins::{HfMetadata, Sample};
 
-    /// A group of 8 by 8 groups of blocks, of which the filters read the block sigmas alone.
+    /// An LF group; the filters read only its block sigmas.
     pub struct LfGroup<S: Sample> {
         pub hf_meta: Option<HfMetadata>,
         pub samples: PhantomData<S>,

@@ -1,5 +1,5 @@
-//! Times of the proved library beside the original's, on the same buffers in one process, and the
-//! memory of a run. Each section prints the tables that docs/BENCHMARKS.md has.
+//! Times of the proved library and of the original, on the same buffers in one process, and the memory
+//! of a run. Each section prints tables of docs/BENCHMARKS.md.
 
 mod growth;
 mod memory;
@@ -12,18 +12,18 @@ use std::{
     time::{Duration, Instant},
 };
 
-use restoration::Region;
+use restoration::CHANNELS;
 
 use crate::random::Random;
 
-/// How long each case is run; the best run of either side counts.
+/// How long each case is run; the best time of each side counts.
 const PER_CASE: Duration = Duration::from_secs(2);
 const FEWEST_RUNS: u32 = 9;
 
-/// A sigma that filters a block.
+/// A sigma with which blocks are filtered.
 const FILTERED: f32 = 1.5;
 
-/// Memory comes before the others leave some with the process.
+/// Memory is measured first, before the other sections allocate.
 const SECTIONS: [(&str, fn()); 5] = [
     ("memory", memory::print),
     ("passes", passes::print),
@@ -32,7 +32,7 @@ const SECTIONS: [(&str, fn()); 5] = [
     ("growth", growth::print),
 ];
 
-/// Prints the named sections, or all; false where there is no such section.
+/// Prints the named sections, or all of them; false if there is no such section.
 pub fn print(names: &[&str]) -> bool {
     let known = |name: &&str| SECTIONS.iter().any(|(section, _)| section == name);
     if !names.iter().all(known) {
@@ -47,7 +47,7 @@ pub fn print(names: &[&str]) -> bool {
     true
 }
 
-/// The shortest time of each of two in ns.
+/// The shortest time of each side, in ns.
 #[derive(Clone, Copy)]
 struct Times {
     ours: f64,
@@ -55,9 +55,9 @@ struct Times {
 }
 
 impl Times {
-    /// In ns a sample of the three planes.
-    fn a_sample(self, plane: usize) -> Self {
-        let samples = 3.0 * plane as f64;
+    /// In ns per sample of the three planes.
+    fn per_sample(self, plane: usize) -> Self {
+        let samples = (CHANNELS * plane) as f64;
         Self {
             ours: self.ours / samples,
             theirs: self.theirs / samples,
@@ -69,12 +69,12 @@ impl Times {
     }
 }
 
-/// Runs both by turns.
+/// Runs both alternately.
 fn best(mut ours: impl FnMut(), mut theirs: impl FnMut()) -> Times {
     best_timed(|| timed(&mut ours), || timed(&mut theirs))
 }
 
-/// Runs both by turns; each takes its own time, so that what it prepares does not count.
+/// Runs both alternately. Each answers its time itself, so that its preparations do not count.
 fn best_timed(mut ours: impl FnMut() -> f64, mut theirs: impl FnMut() -> f64) -> Times {
     let mut times = Times {
         ours: f64::INFINITY,
@@ -90,7 +90,7 @@ fn best_timed(mut ours: impl FnMut() -> f64, mut theirs: impl FnMut() -> f64) ->
     times
 }
 
-/// The time of a run in ns; what it answers is dropped afterwards.
+/// The time of a run in ns; its answer is dropped afterwards.
 fn timed<T>(run: impl FnOnce() -> T) -> f64 {
     let start = Instant::now();
     let answer = black_box(run());
@@ -99,15 +99,15 @@ fn timed<T>(run: impl FnOnce() -> T) -> f64 {
     time
 }
 
-/// The head of a table, one column a name.
+/// The head of a table with these columns.
 fn head(columns: &[&str]) {
     println!("| {} |", columns.join(" | "));
     println!("|{}", "---|".repeat(columns.len()));
 }
 
-/// A row with both times in ns a sample of the three planes.
+/// A row with both times in ns per sample of the three planes.
 fn row(name: &str, (width, height): (u32, u32), times: Times) {
-    let times = times.a_sample((width * height) as usize);
+    let times = times.per_sample((width * height) as usize);
     println!(
         "| {name} | {width} × {height} | {:.2} | {:.2} | {:.2} |",
         times.ours,
@@ -116,20 +116,10 @@ fn row(name: &str, (width, height): (u32, u32), times: Times) {
     );
 }
 
-/// A picture with its corner at 0, 0.
-fn region(width: u32, height: u32) -> Region {
-    Region {
-        left: 0,
-        top: 0,
-        width,
-        height,
-    }
-}
-
-/// Samples of three planes that differ little, so that neighbours have weight.
+/// Three planes whose samples differ little, so that neighbours have weight.
 fn smooth(plane: usize) -> Vec<f32> {
     let mut random = Random::for_name("bench epf");
-    (0..3 * plane)
+    (0..CHANNELS * plane)
         .map(|_| 0.5 + random.within(0, 1 << 20) as f32 / (1 << 26) as f32)
         .collect()
 }

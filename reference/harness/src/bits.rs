@@ -1,26 +1,26 @@
-//! Buffers by their bits. The contracts cannot tell one NaN from another, so that a refused call leaves
-//! each buffer as it was is seen here alone, with NaNs of many kinds in them.
+//! Buffers compared by their bits. The contracts do not distinguish NaNs, so only this comparison, with
+//! NaNs of many kinds in every buffer, shows that a refused call changes no bit.
 
 use core::hint::black_box;
 
 use crate::random::Random;
 
-/// Bits of a NaN: its exponent, its sign, and the rest, quiet or not and payload, of which one is 1.
+/// Bits of a NaN: exponent, sign, and the rest (quiet bit and payload), which is not 0.
 const NAN: u32 = 0x7F80_0000;
 const SIGN: u32 = 0x8000_0000;
 const REST: u32 = 0x007F_FFFF;
-/// Places of a buffer that get a NaN beside the first and the last.
+/// How many places of a buffer get a NaN, beside the first and the last.
 const NANS: usize = 6;
 
-/// The same bits in every place.
+/// Same length and same bits.
 pub fn same(a: &[f32], b: &[f32]) -> bool {
-    // The compiler may hold a lent slice to be unchanged; this has it read again.
+    // The compiler may assume that a shared slice is unchanged; this makes it read the slice again.
     let (a, b) = (black_box(a), black_box(b));
     let changed = |changed, (a, b): (&f32, &f32)| changed | a.to_bits() ^ b.to_bits();
     a.len() == b.len() && a.iter().zip(b).fold(0, changed) == 0
 }
 
-/// The first place at which the bits differ, or at which one has ended.
+/// The first index at which the bits differ or one buffer ends.
 pub fn first_change(a: &[f32], b: &[f32]) -> Option<usize> {
     if same(a, b) {
         return None;
@@ -36,7 +36,7 @@ pub fn nan(random: &mut Random) -> f32 {
     f32::from_bits(NAN | bits & SIGN | (bits & REST).max(1))
 }
 
-/// Puts NaNs in the first place, the last, and some between.
+/// Puts NaNs in the first place, in the last, and in some between.
 pub fn sprinkle(buffer: &mut [f32], random: &mut Random) {
     let Some(last) = buffer.len().checked_sub(1) else {
         return;

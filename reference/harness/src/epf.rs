@@ -1,16 +1,19 @@
-//! The edge-preserving steps: each against `epf_row` on small pictures of all sizes by bands, on
-//! random ones and on wide ones, all of them with block sigmas against `apply_epf`, and refusals.
-//! What is not written must keep its bits.
+//! The edge-preserving steps. Each is compared with `epf_row`, band by band, on small pictures of all
+//! sizes, on random ones and on wide ones; all together, with block sigmas, with `apply_epf`; and
+//! refusals. Samples that are not written must keep their bits.
 
 mod scaled;
 mod tiled;
 mod whole;
 
+use restoration::{BLOCK, CHANNELS, EpfSettings, EpfStep, MAX_ITERS, MAX_OFFSET};
+
 use crate::{
     bits,
-    expected::epf::{Handed, number},
+    convert::{edge, region, wide},
+    expected::epf::{Input, number},
     pass::{self, by_bands, one_call},
-    picture::{self, Rows, any_len, plain, region, samples, special, wide},
+    picture::{self, Rows, any_len, plain, samples, special},
     random::Random,
     report::{Amount, Report, Row},
     sigma::sigma,
@@ -18,32 +21,32 @@ use crate::{
 
 /// Random pictures for each step, before `--scale`.
 const PICTURES: u64 = 1_500;
-/// Draws of wrong inputs.
+/// Draws of damaged inputs.
 const DRAWS: u64 = 200_000;
 /// Sides of small pictures.
 const SIDES: u32 = 20;
-/// Heights of bands of small pictures, beside all rows at once.
+/// Band heights for small pictures, beside all rows at once.
 const BANDS: u32 = 9;
 
-/// Sigmas that are NaN, at the copying limit and beside it, infinite, negative and zero.
+/// Sigmas that are NaN, at the copying limit and next to it, infinite, negative and zero.
 const SIGMAS: [u32; 9] = [
     0x7FC0_0000, 0x3E99_9999, 0x3E99_999A, 0x3E99_999B, 0x7F80_0000, 0xFF80_0000, 0xBF80_0000, 0,
     0x8000_0000,
 ];
-/// Samples that tell copying from filtering beside a 1, and plain ones.
+/// Samples next to a 1 with which copying and filtering differ, and plain ones.
 const FIRSTS: [f32; 6] = [-0.0, f32::INFINITY, f32::NEG_INFINITY, f32::NAN, 0.0, 1.0];
-/// Sides of a picture that has border rows and columns and others.
+/// Sides of a picture with both border and inner rows and columns of blocks.
 const TWO_BLOCKS: u32 = 10;
 
 const NAMES: [&str; 3] = ["epf step 0", "epf step 1", "epf step 2"];
-/// The numbers that a step can give.
+/// The numbers that a step can answer.
 const NUMBERS: [u32; 6] = [0, 4, 5, 6, 7, 9];
 
-/// What a step is handed but the sets.
+/// The inputs of a step without the sets.
 #[derive(Debug)]
 struct Pass<'a> {
     place: oracle::Place,
-    /// Whether the result is the full planes, as the library is told it.
+    /// `preserve_outside` as the library gets it.
     full: u32,
     step: u32,
     settings: oracle::Edge,
@@ -68,8 +71,8 @@ impl pass::Pass for Pass<'_> {
         self.sigmas
     }
 
-    /// The result's planes by the original's row function.
-    fn rust(&self, source: &[f32]) -> oracle::Planes {
+    /// The planes of the result, by the original's row function.
+    fn original(&self, source: &[f32]) -> oracle::Planes {
         let oracle::Place { image, filter, .. } = self.place;
         let runs = picture::runs(image, filter, (0, filter.height));
         let part: Vec<f32> = runs.flat_map(|run| source[run].iter().copied()).collect();
@@ -96,7 +99,7 @@ impl pass::Pass for Pass<'_> {
     }
 
     fn number(&self, rows: Rows, sets: [usize; 2]) -> u32 {
-        number(Handed {
+        number(Input {
             image: wide(self.place.image),
             filter: wide(self.place.filter),
             preserve_outside: self.full,
@@ -108,18 +111,9 @@ impl pass::Pass for Pass<'_> {
     }
 }
 
-pub fn sigma_settings(sigma: oracle::Sigma) -> restoration::EpfSigma {
-    restoration::EpfSigma {
-        quant_mul: sigma.quant_mul,
-        pass0_sigma_scale: sigma.pass0_sigma_scale,
-        pass2_sigma_scale: sigma.pass2_sigma_scale,
-        border_sad_mul: sigma.border_sad_mul,
-    }
-}
-
 /// What a step reads of the settings; step 1 has no scale of its own.
-pub fn step_of(step: u32, settings: oracle::Edge) -> restoration::EpfStep {
-    restoration::EpfStep {
+pub fn step_of(step: u32, settings: oracle::Edge) -> EpfStep {
+    EpfStep {
         step,
         channel_scale: settings.channel_scale,
         multiplier: match step {
@@ -128,6 +122,7 @@ pub fn step_of(step: u32, settings: oracle::Edge) -> restoration::EpfStep {
             _ => 1.0,
         },
         border_sad_mul: settings.sigma.border_sad_mul,
+        ..EpfStep::DEFAULT
     }
 }
 
@@ -158,7 +153,7 @@ pub fn compare(amount: Amount, report: &mut Report) {
     refusals(amount, report);
 }
 
-/// Two samples under each named sigma, and each setting negative and infinite.
+/// Two samples with each named sigma, and each setting negative and infinite.
 fn named(step: u32, random: &mut Random, row: &mut Row) {
     for place in whole_images(2, 1) {
         for (sigma, source) in two_samples() {
@@ -187,7 +182,7 @@ fn named(step: u32, random: &mut Random, row: &mut Row) {
     }
 }
 
-/// Pictures that are their filter region, with both results.
+/// Pictures whose filter region is the whole image, with both results.
 fn whole_images(width: u32, height: u32) -> [oracle::Place; 2] {
     let region = oracle::Region::with_size(width, height);
     [false, true].map(|preserve_outside| oracle::Place {
@@ -197,16 +192,17 @@ fn whole_images(width: u32, height: u32) -> [oracle::Place; 2] {
     })
 }
 
-/// Each named sigma with sets of two samples, of which one is 1.
+/// Each named sigma with planes of two samples, one of which is 1.
 fn two_samples() -> impl Iterator<Item = (f32, Vec<f32>)> {
     SIGMAS.into_iter().flat_map(|sigma| {
         FIRSTS.into_iter().flat_map(move |first| {
-            [[first, 1.0], [1.0, first]].map(|two| (f32::from_bits(sigma), [two; 3].concat()))
+            [[first, 1.0], [1.0, first]]
+                .map(|two| (f32::from_bits(sigma), [two; CHANNELS].concat()))
         })
     })
 }
 
-/// The default settings with each of the scales and multipliers in turn negative and infinite.
+/// The default settings, with one scale or multiplier at a time made negative or infinite.
 fn signed_and_infinite() -> impl Iterator<Item = oracle::Edge> {
     (0..FLOATS.len()).flat_map(|at| {
         [-FLOATS[at], f32::INFINITY, f32::NEG_INFINITY].map(|float| {
@@ -217,7 +213,7 @@ fn signed_and_infinite() -> impl Iterator<Item = oracle::Edge> {
     })
 }
 
-/// Every placement by bands of every height.
+/// Every placement, in bands of every height.
 fn all_placements(
     step: u32,
     (width, height): (u32, u32),
@@ -234,8 +230,8 @@ fn all_placements(
     }
 }
 
-/// The filter region as the image, in one whose corner is anywhere, and in one that starts before
-/// both axes; both results.
+/// The filter region as the whole image, inside an image, and inside one with negative left and top;
+/// both results.
 fn placements((width, height): (u32, u32), random: &mut Random) -> [oracle::Place; 6] {
     let at = |left, top| oracle::Region {
         left,
@@ -243,7 +239,7 @@ fn placements((width, height): (u32, u32), random: &mut Random) -> [oracle::Plac
         width,
         height,
     };
-    let mut block = || 8 * random.within(0, 9) as i32;
+    let mut block = || (BLOCK * random.within(0, 9) as u32) as i32;
     let (left, top) = (block(), block());
     let whole = at(left, top);
     let regions = [
@@ -271,9 +267,10 @@ fn around(filter: oracle::Region, random: &mut Random) -> oracle::Region {
 }
 
 fn random_picture(step: u32, random: &mut Random, row: &mut Row) {
-    // Corners to the end of the measures.
-    let most = if random.once_in(4) { 131_072 } else { 20 };
-    let mut block = || 8 * random.within(0, most) as i32;
+    // Left and top up to their limits.
+    let farthest = MAX_OFFSET as u32 / BLOCK;
+    let most = if random.once_in(4) { farthest } else { 20 };
+    let mut block = || (BLOCK * random.within(0, most.into()) as u32) as i32;
     let (left, top) = (block(), block());
     let mut side = || random.within(1, 130) as u32;
     let filter = oracle::Region {
@@ -299,10 +296,10 @@ fn one_step(place: oracle::Place, step: u32, band: u32, random: &mut Random, row
 }
 
 fn block_count(filter: oracle::Region) -> u32 {
-    filter.width.div_ceil(8) * filter.height.div_ceil(8)
+    filter.width.div_ceil(BLOCK) * filter.height.div_ceil(BLOCK)
 }
 
-/// A picture under these sigmas, with any settings.
+/// A picture with these sigmas and any settings.
 fn with_sigmas(
     place: oracle::Place,
     step: u32,
@@ -327,18 +324,19 @@ fn refusals(amount: Amount, report: &mut Report) {
     let mut row = Row::new("epf steps", "refusals");
     let random = &mut Random::for_name("epf steps");
     while row.draws(DRAWS, amount) {
-        wrong(random, &mut row);
+        damaged(random, &mut row);
     }
     row.require(&NUMBERS, amount);
     report.add(row);
 }
 
-/// A small picture, mostly with something wrong.
-fn wrong(random: &mut Random, row: &mut Row) {
+/// A small picture, mostly with damaged inputs.
+fn damaged(random: &mut Random, row: &mut Row) {
     let mut image = picture::any_region(random);
     if random.once_in(2) {
-        // On blocks, so that the later numbers are reached too.
-        (image.left, image.top) = (image.left & !7, image.top & !7);
+        // On blocks, so that the later checks are reached too.
+        let on_block = |place: i32| place & -(BLOCK as i32);
+        (image.left, image.top) = (on_block(image.left), on_block(image.top));
     }
     let filter = if random.once_in(2) {
         image
@@ -367,19 +365,11 @@ fn wrong(random: &mut Random, row: &mut Row) {
     one_call(&pass, rows, [source, before], random, row);
 }
 
-/// The default settings of a header.
-pub const DEFAULTS: oracle::Edge = oracle::Edge {
-    iters: 3,
-    sharp_lut: [0.0; 8],
-    channel_scale: [40.0, 5.0, 3.5],
-    sigma: oracle::Sigma {
-        quant_mul: 0.46,
-        pass0_sigma_scale: 0.9,
-        pass2_sigma_scale: 6.5,
-        border_sad_mul: 2.0 / 3.0,
-    },
-    sigma_for_modular: 1.0,
-};
+/// A header's default settings, with all steps.
+pub const DEFAULTS: oracle::Edge = edge(EpfSettings {
+    iters: MAX_ITERS,
+    ..EpfSettings::DEFAULT
+});
 
 /// The default scales and multipliers: of the channels, of steps 0 and 2, of the border.
 const FLOATS: [f32; 6] = [
@@ -391,7 +381,7 @@ const FLOATS: [f32; 6] = [
     DEFAULTS.sigma.border_sad_mul,
 ];
 
-/// The default settings, plain ones of either sign, defaults with one of any kind, or any floats.
+/// The default settings, plain ones of either sign, defaults with one special float, or any floats.
 pub fn settings(random: &mut Random) -> oracle::Edge {
     let mut floats = FLOATS;
     match random.within(0, 5) {
@@ -421,7 +411,7 @@ fn edge_of(floats: [f32; 6]) -> oracle::Edge {
     edge
 }
 
-/// Samples that differ little, so that neighbours have weight, or much; special ones in some sets.
+/// Samples that differ little, so that neighbours have weight, or much; some sets have special ones.
 pub fn textured(count: usize, random: &mut Random) -> Vec<f32> {
     let depth = random.one_of(&[1.0, 0.1, 0.01, 0.01, 0.001]);
     let mut set: Vec<f32> = samples(count, random);

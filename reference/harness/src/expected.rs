@@ -1,30 +1,22 @@
-//! Document 01's rules for these functions, on numbers that are wide enough for anything.
+//! The specification's rules for these functions, on 128-bit numbers, which never overflow.
 //!
-//! They say which number is given. Where none is, the original's answer is what is compared, and
-//! it must be the rule's as well.
+//! They say which number a call is refused with. An accepted call is compared with the original, whose
+//! answer must be the rule's as well.
 
+mod checks;
 pub mod epf;
 pub mod gabor;
 pub mod header;
+pub mod limits;
+mod numbers;
 mod pass;
 pub mod runs;
 pub mod sigma;
 
-/// A side, left or top outside the measures, given or resulting.
-pub const OUT_OF_MEASURE: u32 = 4;
-/// A lent slice has a wrong length.
-const WRONG_LENGTH: u32 = 7;
-/// A setting out of range.
-pub const SETTING: u32 = 9;
+use limits::*;
+use numbers::{OUT_OF_MEASURE, OUT_OF_RANGE};
 
-const LARGEST_SIDE: i128 = 16_384;
-const FARTHEST: i128 = 1_048_576;
-const LARGEST_FACTOR: i128 = 16;
-const LARGEST_ALIGNMENT: i128 = 8_192;
-/// Samples of a block each way.
-const BLOCK: i128 = 8;
-
-/// A result, or the number of the refusal.
+/// A result or the number of a refusal.
 pub type Ruled<T> = Result<T, u32>;
 
 #[derive(Debug, Clone, Copy, PartialEq, Eq)]
@@ -43,10 +35,10 @@ impl Region {
         height: 0,
     };
 
-    /// Sides of 0 pass here, and there is no limit to the area.
-    fn measured(self) -> Ruled<Self> {
-        let side = |length| (0..=LARGEST_SIDE).contains(&length);
-        let corner = |place: i128| place.abs() <= FARTHEST;
+    /// In range for region arithmetic: sides may be 0, and the area has no limit.
+    fn in_range(self) -> Ruled<Self> {
+        let side = |length| (0..=MAX_SIDE).contains(&length);
+        let corner = |place: i128| place.abs() <= MAX_OFFSET;
         let fits = corner(self.left) && corner(self.top) && side(self.width) && side(self.height);
         fits.then_some(self).ok_or(OUT_OF_MEASURE)
     }
@@ -65,20 +57,20 @@ impl Region {
 }
 
 pub fn is_empty(r: Region) -> Ruled<bool> {
-    Ok(r.measured()?.empty())
+    Ok(r.in_range()?.empty())
 }
 
 pub fn right(r: Region) -> Ruled<i128> {
-    Ok(r.measured()?.right())
+    Ok(r.in_range()?.right())
 }
 
 pub fn bottom(r: Region) -> Ruled<i128> {
-    Ok(r.measured()?.bottom())
+    Ok(r.in_range()?.bottom())
 }
 
 pub fn contains(r: Region, target: Region) -> Ruled<bool> {
-    r.measured()?;
-    target.measured()?;
+    r.in_range()?;
+    target.in_range()?;
     Ok(target.empty()
         || r.left <= target.left
             && r.top <= target.top
@@ -87,19 +79,19 @@ pub fn contains(r: Region, target: Region) -> Ruled<bool> {
 }
 
 pub fn translate(r: Region, x: i128, y: i128) -> Ruled<Region> {
-    r.measured()?;
+    r.in_range()?;
     Region {
         left: r.left + x,
         top: r.top + y,
         ..r
     }
-    .measured()
+    .in_range()
 }
 
-/// The meet of the intervals in each direction; the zero region where either meet is empty.
+/// The intersection of the intervals on each axis; the zero region if either is empty.
 pub fn intersection(a: Region, b: Region) -> Ruled<Region> {
-    a.measured()?;
-    b.measured()?;
+    a.in_range()?;
+    b.in_range()?;
     let left = a.left.max(b.left);
     let top = a.top.max(b.top);
     let width = a.right().min(b.right()) - left;
@@ -113,25 +105,25 @@ pub fn intersection(a: Region, b: Region) -> Ruled<Region> {
         width,
         height,
     }
-    .measured()
+    .in_range()
 }
 
 pub fn pad(r: Region, size: i128) -> Ruled<Region> {
-    r.measured()?;
+    r.in_range()?;
     Region {
         left: r.left - size,
         top: r.top - size,
         width: r.width + 2 * size,
         height: r.height + 2 * size,
     }
-    .measured()
+    .in_range()
 }
 
-/// Cells of 2^factor samples from the one that has the first sample on, as many as are needed.
+/// The cells of 2^factor samples that cover the region.
 pub fn downsample(r: Region, factor: i128) -> Ruled<Region> {
-    r.measured()?;
-    if factor > LARGEST_FACTOR {
-        return Err(SETTING);
+    r.in_range()?;
+    if factor > MAX_DOWNSAMPLE {
+        return Err(OUT_OF_RANGE);
     }
     let cell = 1 << factor;
     let (left, width) = cells(r.left, r.right(), cell);
@@ -142,14 +134,14 @@ pub fn downsample(r: Region, factor: i128) -> Ruled<Region> {
         width,
         height,
     }
-    .measured()
+    .in_range()
 }
 
 pub fn container_aligned(r: Region, grid_dim: i128) -> Ruled<Region> {
-    r.measured()?;
-    let sound = (1..=LARGEST_ALIGNMENT).contains(&grid_dim) && grid_dim.count_ones() == 1;
-    if !sound {
-        return Err(SETTING);
+    r.in_range()?;
+    let valid = (1..=MAX_ALIGNMENT).contains(&grid_dim) && grid_dim.count_ones() == 1;
+    if !valid {
+        return Err(OUT_OF_RANGE);
     }
     let (left, width) = cells(r.left, r.right(), grid_dim);
     let (top, height) = cells(r.top, r.bottom(), grid_dim);
@@ -159,10 +151,10 @@ pub fn container_aligned(r: Region, grid_dim: i128) -> Ruled<Region> {
         width: width * grid_dim,
         height: height * grid_dim,
     }
-    .measured()
+    .in_range()
 }
 
-/// The first cell and the count of cells: floor of the start, ceiling of the end.
+/// The first cell and the number of cells: floor of the start, ceiling of the end.
 fn cells(start: i128, end: i128, cell: i128) -> (i128, i128) {
     let first = start.div_euclid(cell);
     let past = -(-end).div_euclid(cell);
@@ -170,14 +162,14 @@ fn cells(start: i128, end: i128, cell: i128) -> (i128, i128) {
 }
 
 pub fn mirror(offset: i128, len: i128) -> Ruled<i128> {
-    if !(1..=LARGEST_SIDE).contains(&len) || offset.abs() > FARTHEST {
-        return Err(SETTING);
+    if !(1..=MAX_SIDE).contains(&len) || offset.abs() > MAX_OFFSET {
+        return Err(OUT_OF_RANGE);
     }
     let m = offset.rem_euclid(2 * len);
     Ok(if m < len { m } else { 2 * len - 1 - m })
 }
 
-/// Sample sides, group dimension, group shift, groups per row and column and in all.
+/// Width and height in samples, group dimension, group shift, groups per row, per column and in all.
 pub fn group_sizes(
     width: i128,
     height: i128,
@@ -185,34 +177,35 @@ pub fn group_sizes(
     lf_level: i128,
     group_size_shift: i128,
 ) -> Ruled<[i128; 7]> {
-    let side = |length| (1..=LARGEST_SIDE).contains(&length);
+    let side = |length| (1..=MAX_SIDE).contains(&length);
     if !side(width) || !side(height) {
         return Err(OUT_OF_MEASURE);
     }
-    if ![1, 2, 4, 8].contains(&upsampling) || lf_level > 4 || group_size_shift > 3 {
-        return Err(SETTING);
+    let known = [1, 2, 4, 8].contains(&upsampling);
+    if !known || lf_level > MAX_LF_LEVEL || group_size_shift > MAX_GROUP_SIZE_SHIFT {
+        return Err(OUT_OF_RANGE);
     }
     let ceil = |length: i128, part: i128| (length + part - 1) / part;
-    let samples = |length| ceil(ceil(length, upsampling), 8i128.pow(lf_level as u32));
-    let group_dim = 128 << group_size_shift;
-    let groups = |length| ceil(samples(length), 8 * group_dim);
+    let samples = |length| ceil(ceil(length, upsampling), BLOCK.pow(lf_level as u32));
+    let group_dim = GROUP_DIM << group_size_shift;
+    let groups = |length| ceil(samples(length), BLOCK * group_dim);
     Ok([
         samples(width),
         samples(height),
         group_dim,
-        7 + group_size_shift,
+        group_dim.trailing_zeros().into(),
         groups(width),
         groups(height),
         groups(width) * groups(height),
     ])
 }
 
-/// The group and the inner cell of a block column or row.
+/// The group of a block column or row, and the block's index inside it.
 pub fn split_block(block: i128, group_size_shift: i128) -> Ruled<[i128; 2]> {
-    if group_size_shift > 3 {
-        return Err(SETTING);
+    if group_size_shift > MAX_GROUP_SIZE_SHIFT {
+        return Err(OUT_OF_RANGE);
     }
-    let group_dim = 128 << group_size_shift;
+    let group_dim = GROUP_DIM << group_size_shift;
     Ok([block / group_dim, block % group_dim])
 }
 

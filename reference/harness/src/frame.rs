@@ -1,9 +1,10 @@
-//! Group sizes: inputs are the frame's sides, upsampling, LF level and group size shift. The split
-//! of a block: its column or row and the group size shift.
+//! Group sizes: inputs are the frame's width, height, upsampling, LF level and group size shift. The
+//! split of a block: its column or row and the group size shift.
 
 use crate::{
-    expected,
-    kinds::{BLOCK, FRAME_SIDE, GROUP_SIZE_SHIFT, LF_LEVEL, UPSAMPLING},
+    convert,
+    expected::{self, limits::MAX_SIDE},
+    kinds::{BLOCK_PLACE, FRAME_SIDE, GROUP_SIZE_SHIFT, LF_LEVEL, UPSAMPLING},
     subject::{Answer, Subject},
 };
 
@@ -19,13 +20,7 @@ pub const GROUP_SIZES: Subject = Subject {
     outputs: 7,
     numbers: &[0, 4, 9],
     ours: |c| {
-        let answer = restoration::group_sizes(restoration::Frame {
-            width: c[0] as u32,
-            height: c[1] as u32,
-            upsampling: c[2] as u32,
-            lf_level: c[3] as u32,
-            group_size_shift: c[4] as u32,
-        });
+        let answer = restoration::group_sizes(convert::frame(frame(c)));
         let sizes = answer.sizes;
         let fields = [
             sizes.sample_width,
@@ -42,14 +37,8 @@ pub const GROUP_SIZES: Subject = Subject {
         Ok(sizes) => Answer::new(0, &sizes),
         Err(number) => Answer::refused(number),
     },
-    rust: |c| {
-        let sizes = oracle::group_sizes(oracle::Frame {
-            width: c[0] as u32,
-            height: c[1] as u32,
-            upsampling: c[2] as u32,
-            lf_level: c[3] as u32,
-            group_size_shift: c[4] as u32,
-        });
+    original: |c| {
+        let sizes = oracle::group_sizes(frame(c));
         let fields = [
             sizes.sample_width,
             sizes.sample_height,
@@ -65,11 +54,11 @@ pub const GROUP_SIZES: Subject = Subject {
         ("near zero", &[(0, 20), (0, 20), (0, 9), (0, 5), (0, 4)]),
         (
             "every width",
-            &[(1, 16_384), (9, 9), (1, 8), (0, 4), (0, 3)],
+            &[(1, MAX_SIDE), (9, 9), (1, 8), (0, 4), (0, 3)],
         ),
         (
             "every height",
-            &[(9, 9), (1, 16_384), (1, 8), (0, 4), (0, 3)],
+            &[(9, 9), (1, MAX_SIDE), (1, 8), (0, 4), (0, 3)],
         ),
     ],
     named: &[
@@ -80,9 +69,19 @@ pub const GROUP_SIZES: Subject = Subject {
     ],
 };
 
+fn frame(c: &[i128]) -> oracle::Frame {
+    oracle::Frame {
+        width: c[0] as u32,
+        height: c[1] as u32,
+        upsampling: c[2] as u32,
+        lf_level: c[3] as u32,
+        group_size_shift: c[4] as u32,
+    }
+}
+
 pub const SPLIT_BLOCK: Subject = Subject {
     name: "split_block",
-    inputs: &[&BLOCK, &GROUP_SIZE_SHIFT],
+    inputs: &[&BLOCK_PLACE, &GROUP_SIZE_SHIFT],
     outputs: 2,
     numbers: &[0, 9],
     ours: |c| {
@@ -93,7 +92,7 @@ pub const SPLIT_BLOCK: Subject = Subject {
         Ok(parts) => Answer::new(0, &parts),
         Err(number) => Answer::refused(number),
     },
-    rust: |c| {
+    original: |c| {
         let (group, inner) = oracle::split_block(c[0] as u32, c[1] as u32);
         Answer::new(0, &[group.into(), inner.into()])
     },

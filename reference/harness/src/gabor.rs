@@ -1,10 +1,13 @@
-//! The Gabor-like pass: small pictures of all sizes and placements by bands, random pictures, and
-//! refusals. What is not written must keep its bits.
+//! The Gabor-like pass: small pictures of all sizes and placements, band by band, random pictures, and
+//! refusals. Samples that are not written must keep their bits.
+
+use restoration::{GaborSettings, MAX_OFFSET};
 
 use crate::{
+    convert::{region, wide},
     expected::gabor::number,
     pass::{self, by_bands, one_call},
-    picture::{self, Rows, plain, region, samples, special, wide},
+    picture::{self, Rows, plain, samples, special},
     random::Random,
     report::{Amount, Report, Row},
     scaled::ENDS,
@@ -12,27 +15,27 @@ use crate::{
 
 /// Random pictures, before `--scale`.
 const PICTURES: u64 = 10_000;
-/// Pictures that are wholly subnormal, and as many near overflow, before `--scale`.
+/// Pictures with all samples subnormal, and as many with all near overflow, before `--scale`.
 const SCALED: u64 = 2_000;
-/// Draws of wrong inputs, before `--scale`.
+/// Draws of damaged inputs, before `--scale`.
 const DRAWS: u64 = 200_000;
 /// Sides of small pictures.
 const SIDES: u32 = 20;
-/// Heights of bands.
+/// Band heights.
 const BANDS: u32 = 9;
 
-/// The default weights of a header.
-pub const DEFAULT_WEIGHTS: oracle::Weights = [[0.115_169_525, 0.061_248_592]; 3];
+/// A header's default weights.
+pub const DEFAULT_WEIGHTS: oracle::Weights = GaborSettings::DEFAULT.weights;
 
 const NAME: &str = "gabor rows";
-/// The numbers that the pass can give.
+/// The numbers that the pass can answer.
 const NUMBERS: [u32; 5] = [0, 4, 5, 7, 9];
 
-/// What a pass is handed but the slices.
+/// The inputs of a pass without the slices.
 #[derive(Debug, Clone, Copy)]
 struct Pass {
     place: oracle::Place,
-    /// Whether the result is the full planes, as the library is told it.
+    /// `preserve_outside` as the library gets it.
     full: u32,
     weights: oracle::Weights,
 }
@@ -45,14 +48,11 @@ impl pass::Pass for Pass {
     fn ours(&self, (from, to): Rows, source: &[f32], target: &mut [f32]) -> u32 {
         let place = self.place;
         let (image, filter) = (region(place.image), region(place.filter));
-        let settings = restoration::GaborSettings {
-            enabled: 1,
-            weights: self.weights,
-        };
+        let settings = GaborSettings::with_weights(self.weights);
         restoration::gabor_pass(image, filter, self.full, settings, from, to, source, target)
     }
 
-    fn rust(&self, source: &[f32]) -> oracle::Planes {
+    fn original(&self, source: &[f32]) -> oracle::Planes {
         oracle::gabor(self.place, self.weights, picture::planes(source))
     }
 
@@ -95,7 +95,7 @@ pub fn compare(amount: Amount, report: &mut Report) {
     refusals(amount, &mut random, report);
 }
 
-/// A filter region at every offset in an image that is two larger, and one that is the image.
+/// A filter region at every offset in an image that is two samples larger, and as the whole image.
 fn all_placements(width: u32, height: u32, amount: Amount, random: &mut Random, row: &mut Row) {
     for offset in 0..9 {
         let (right, down) = (offset % 3, offset / 3);
@@ -117,7 +117,7 @@ fn all_placements(width: u32, height: u32, amount: Amount, random: &mut Random, 
     all_bands(whole, whole, amount, random, row);
 }
 
-/// Both results by bands of every height.
+/// Both results, in bands of every height.
 fn all_bands(
     image: oracle::Region,
     filter: oracle::Region,
@@ -144,21 +144,21 @@ fn all_bands(
     }
 }
 
-/// A pass anywhere in the measures, and a band height.
+/// A pass with any left and top in range, and a band height.
 fn random_pass(random: &mut Random) -> (Pass, u32) {
     let mut side = |most| random.within(1, most) as u32;
     let (width, height) = (side(70), side(70));
     let (columns, rows) = (side(width.into()), side(height.into()));
     let band = side(80);
     let image = oracle::Region {
-        left: random.within(-1_048_576, 1_048_576) as i32,
-        top: random.within(-1_048_576, 1_048_576) as i32,
+        left: random.within((-MAX_OFFSET).into(), MAX_OFFSET.into()) as i32,
+        top: random.within((-MAX_OFFSET).into(), MAX_OFFSET.into()) as i32,
         width,
         height,
     };
-    // The filter region stays in measure where the image region ends beyond it.
+    // The filter region's left and top stay in range if the image region ends beyond.
     let last = |corner: i32, room: u32| i128::from(corner) + i128::from(room);
-    let most = |corner, room| last(corner, room).min(1_048_576);
+    let most = |corner, room| last(corner, room).min(MAX_OFFSET.into());
     let filter = oracle::Region {
         left: random.within(image.left.into(), most(image.left, width - columns)) as i32,
         top: random.within(image.top.into(), most(image.top, height - rows)) as i32,
@@ -178,7 +178,7 @@ fn random_pass(random: &mut Random) -> (Pass, u32) {
     (pass, band)
 }
 
-/// Any picture by bands.
+/// Any picture, band by band.
 fn any_picture(pass: &Pass, band: u32, random: &mut Random, row: &mut Row) {
     let source = samples(picture::set_len(&pass.place), random);
     by_bands(pass, band, &source, random, row);
@@ -188,14 +188,14 @@ fn any_picture(pass: &Pass, band: u32, random: &mut Random, row: &mut Row) {
 fn refusals(amount: Amount, random: &mut Random, report: &mut Report) {
     let mut row = Row::new(NAME, "refusals");
     while row.draws(DRAWS, amount) {
-        wrong(random, &mut row);
+        damaged(random, &mut row);
     }
     row.require(&NUMBERS, amount);
     report.add(row);
 }
 
-/// A small picture, mostly with something wrong.
-fn wrong(random: &mut Random, row: &mut Row) {
+/// A small picture, mostly with damaged inputs.
+fn damaged(random: &mut Random, row: &mut Row) {
     let image = picture::any_region(random);
     let filter = if random.once_in(2) {
         image
@@ -218,7 +218,7 @@ fn wrong(random: &mut Random, row: &mut Row) {
     one_call(&pass, rows, [source, before], random, row);
 }
 
-/// The default weights, plain ones, or any float.
+/// The default weights, plain ones, or any floats.
 pub fn weights(random: &mut Random) -> oracle::Weights {
     match random.within(0, 3) {
         0 => DEFAULT_WEIGHTS,

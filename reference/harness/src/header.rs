@@ -1,11 +1,11 @@
-//! Reading filter headers: all halves, all short headers, and built ones, whole and cut short.
+//! Reading filter headers: all halves, all short headers, and random ones, whole and cut short.
 
 use core::hint::black_box;
 
-use restoration::{EdgePreservingFilter, Encoding, Gabor};
+use restoration::{CHANNELS, EdgePreservingFilter, Encoding, Gabor, MAX_HEADER_BYTES};
 
 use crate::{
-    epf::sigma_settings,
+    convert::epf_sigma,
     expected::{Ruled, header as expected},
     random::Random,
     report::{Amount, Report, Row},
@@ -13,26 +13,26 @@ use crate::{
 
 /// Whole random headers for each reader, before `--scale`.
 const WHOLE: u64 = 350_000;
-/// Random headers that are cut short at every length.
+/// Random headers, each cut short at every length.
 const CUT: u64 = 10_000;
-/// Random headers of which every half is replaced in turn.
+/// Random headers, with one half at a time replaced.
 const REPLACED: u64 = 300;
-/// Random headers with a kernel that vanishes or nearly does, before `--scale`.
+/// Random headers with a kernel sum of zero or near zero, before `--scale`.
 const VANISHING: u64 = 20_000;
 
-/// The numbers that every reader can give beside 7, and those of one that reads a kernel.
+/// The numbers that every reader can answer beside 7, and those of one that reads a kernel.
 const NUMBERS: [u32; 3] = [0, 1, 2];
 const KERNEL_NUMBERS: [u32; 4] = [0, 1, 2, 3];
 /// The number of a slice that is too long.
 const TOO_LONG: [u32; 1] = [7];
 
-/// Halves of every kind: zeros, subnormals, ones that make a kernel vanish, infinities, NaN.
+/// Halves of every kind: zeros, subnormals, ones that make a kernel sum zero, infinities, NaN.
 pub const HALVES: [u32; 16] = [
     0x0000, 0x8000, 0x0001, 0x8001, 0x03FF, 0x83FF, 0x0400, 0x3400, 0x3C00, 0xB000, 0xB400, 0x7BFF,
     0x7C00, 0xFC00, 0x7C01, 0xFE00,
 ];
 
-/// A number, the fields in order with floats by their bits, and the next bit place.
+/// A number, the fields in order with floats by their bits, and the next bit position.
 #[derive(Debug, PartialEq)]
 pub struct Reading {
     pub number: u32,
@@ -40,20 +40,20 @@ pub struct Reading {
     pub next: usize,
 }
 
-/// A slice, a bit place and whether the encoding is Modular.
+/// A slice, a bit position and whether the encoding is Modular.
 pub type Case<'a> = (&'a [u8], usize, bool);
 
 pub struct Reader {
     pub name: &'static str,
-    /// A letter for each field: n a number, f a float.
+    /// One letter per field: n for a number, f for a float.
     pub form: &'static str,
-    /// Whether it is told the encoding.
+    /// Whether it depends on the encoding.
     pub encoded: bool,
     /// Whether it reads a kernel.
     kernel: bool,
     ours: fn(Case) -> Reading,
     rule: fn(Case) -> Ruled<expected::Read>,
-    rust: fn(Case) -> Result<expected::Read, oracle::Error>,
+    original: fn(Case) -> Result<expected::Read, oracle::Error>,
 }
 
 pub const READERS: [Reader; 4] = [
@@ -67,7 +67,7 @@ pub const READERS: [Reader; 4] = [
             given(a.number, vec![a.value.to_bits()], a.next)
         },
         rule: |(bytes, place, _)| expected::half(bytes, place),
-        rust: |(bytes, place, _)| {
+        original: |(bytes, place, _)| {
             let (value, next) = oracle::read_half(bytes, place)?;
             Ok((vec![value.to_bits()], next))
         },
@@ -82,9 +82,9 @@ pub const READERS: [Reader; 4] = [
             given(a.number, gabor_fields(&a.gabor), a.next)
         },
         rule: |(bytes, place, _)| expected::gabor(bytes, place),
-        rust: |(bytes, place, _)| {
+        original: |(bytes, place, _)| {
             let (weights, next) = oracle::parse_gabor(bytes, place)?;
-            Ok((gabor_of_rust(weights), next))
+            Ok((gabor_of_original(weights), next))
         },
     },
     Reader {
@@ -97,9 +97,9 @@ pub const READERS: [Reader; 4] = [
             given(a.number, epf_fields(&a.epf), a.next)
         },
         rule: |(bytes, place, modular)| expected::epf(bytes, place, modular),
-        rust: |(bytes, place, modular)| {
+        original: |(bytes, place, modular)| {
             let (edge, next) = oracle::parse_epf(bytes, place, modular)?;
-            Ok((epf_of_rust(edge), next))
+            Ok((epf_of_original(edge), next))
         },
     },
     Reader {
@@ -113,9 +113,12 @@ pub const READERS: [Reader; 4] = [
             given(a.number, fields, a.next)
         },
         rule: |(bytes, place, modular)| expected::filters(bytes, place, modular),
-        rust: |(bytes, place, modular)| {
+        original: |(bytes, place, modular)| {
             let (weights, edge, next) = oracle::parse_filters(bytes, place, modular)?;
-            Ok(([gabor_of_rust(weights), epf_of_rust(edge)].concat(), next))
+            Ok((
+                [gabor_of_original(weights), epf_of_original(edge)].concat(),
+                next,
+            ))
         },
     },
 ];
@@ -156,13 +159,13 @@ fn epf_fields(epf: &EdgePreservingFilter) -> Vec<u32> {
         .collect()
 }
 
-fn gabor_of_rust(weights: Option<oracle::Weights>) -> Vec<u32> {
+fn gabor_of_original(weights: Option<oracle::Weights>) -> Vec<u32> {
     let enabled = weights.is_some();
     let weights = weights.unwrap_or_default();
     gabor_fields(&Gabor { enabled, weights })
 }
 
-fn epf_of_rust(edge: Option<oracle::Edge>) -> Vec<u32> {
+fn epf_of_original(edge: Option<oracle::Edge>) -> Vec<u32> {
     edge.map_or_else(
         || vec![0; 18],
         |edge| {
@@ -171,7 +174,7 @@ fn epf_of_rust(edge: Option<oracle::Edge>) -> Vec<u32> {
                 iters: edge.iters,
                 sharp_lut: edge.sharp_lut,
                 channel_scale: edge.channel_scale,
-                sigma: sigma_settings(edge.sigma),
+                sigma: epf_sigma(edge.sigma),
                 sigma_for_modular: edge.sigma_for_modular,
             })
         },
@@ -179,9 +182,9 @@ fn epf_of_rust(edge: Option<oracle::Edge>) -> Vec<u32> {
 }
 
 impl Reader {
-    /// What the original gives.
-    pub fn original(&self, case: Case) -> Reading {
-        match (self.rust)(case) {
+    /// The original's answer.
+    pub fn original_reading(&self, case: Case) -> Reading {
+        match (self.original)(case) {
             Ok((fields, next)) => given(0, fields, next),
             Err(error) => self.refused(number_of(error)),
         }
@@ -204,10 +207,10 @@ impl Reader {
         } else if ours != rule {
             row.differs(&case, &ours, &rule);
         } else if rule.number != 7 {
-            // The original takes slices of any length; else its refusals are these.
-            let rust = self.original(case);
-            if rust != rule {
-                row.differs(&case, &rust, &rule);
+            // The original accepts slices of any length; its other refusals are the same.
+            let original = self.original_reading(case);
+            if original != rule {
+                row.differs(&case, &original, &rule);
             }
         }
     }
@@ -248,7 +251,7 @@ fn all_halves(amount: Amount, report: &mut Report) {
     report.add(row);
 }
 
-/// All headers of 16 bits at several places, and all slices of one byte or none at all places.
+/// All headers of 16 bits at several bit positions; slices of up to two bytes at all of them.
 fn short_headers(reader: &Reader, amount: Amount, report: &mut Report) {
     let mut row = Row::new(reader.name, "up to 16 bits");
     for header in 0..=0xFFFF {
@@ -283,18 +286,20 @@ fn short_headers(reader: &Reader, amount: Amount, report: &mut Report) {
     report.add(row);
 }
 
-/// Headers at the end of the longest slice and of one that is a byte too long.
+/// Headers at the end of the longest slice and of one that is one byte too long.
 fn long_slices(reader: &Reader, amount: Amount, report: &mut Report) {
     let mut row = Row::new(reader.name, "64 KiB");
     let mut random = Random::for_name("64 KiB");
-    let mut bytes: Vec<u8> = (0..65_537).map(|_| random.next() as u8).collect();
-    for start in (65_400..65_537).chain([0]) {
+    let mut bytes: Vec<u8> = (0..=MAX_HEADER_BYTES)
+        .map(|_| random.next() as u8)
+        .collect();
+    for start in (65_400..=MAX_HEADER_BYTES).chain([0]) {
         let modular = start % 2 == 1;
         let header = pack(0, &header(&mut random, modular), 0);
         let end = (start + header.len()).min(bytes.len());
         bytes[start..end].copy_from_slice(&header[..end - start]);
         for place in 8 * start..8 * start + 8 {
-            for len in [65_535, 65_536, 65_537] {
+            for len in MAX_HEADER_BYTES - 1..=MAX_HEADER_BYTES + 1 {
                 reader.check((&bytes[..len], place, modular), &mut row);
             }
         }
@@ -340,8 +345,8 @@ fn built_headers(reader: &Reader, amount: Amount, report: &mut Report) {
     report.add(row);
 }
 
-/// Kernels of which one channel's sum is -1/4 or beside it, some cut short, some with a half that is
-/// not finite.
+/// Kernels with the sum of one channel's weights at -1/4 or next to it, some cut short, some with a half
+/// that is not finite.
 fn vanishing_kernels(reader: &Reader, amount: Amount, report: &mut Report) {
     let mut row = Row::new(reader.name, "kernels near 0");
     let mut random = Random::for_name("kernels near 0");
@@ -367,7 +372,7 @@ fn vanishing_kernels(reader: &Reader, amount: Amount, report: &mut Report) {
     report.add(row);
 }
 
-/// Two halves whose sum is -1/4, the second one perhaps a bit beside it.
+/// Two halves whose sum is -1/4; the second may be off by one bit.
 fn vanishing(random: &mut Random) -> [u32; 2] {
     let first = random.within(-2_047, 1_023) as i32;
     let second = half_of(-1_024 - first);
@@ -379,7 +384,7 @@ fn vanishing(random: &mut Random) -> [u32; 2] {
     [half_of(first), beside]
 }
 
-/// The half that is so many times 2^-12, of at most 11 bits.
+/// The half with the value `times` × 2^-12; `times` has at most 11 bits.
 fn half_of(times: i32) -> u32 {
     let sign = if times < 0 { 0x8000 } else { 0 };
     let size = times.unsigned_abs();
@@ -396,7 +401,7 @@ pub fn place_and_encoding(random: &mut Random) -> (usize, bool) {
 /// A value and its width in bits.
 pub type Field = (u32, u32);
 
-/// Both bundles with all their halves, or the edge filter's alone, or random bits.
+/// Both filters with all their halves, the edge filter alone, or random bits.
 pub fn header(random: &mut Random, modular: bool) -> Vec<Field> {
     let mut fields = Vec::new();
     match random.within(0, 9) {
@@ -414,7 +419,7 @@ pub fn header(random: &mut Random, modular: bool) -> Vec<Field> {
         halves(random, 8, &mut fields);
     }
     if mostly(random, &mut fields) {
-        halves(random, 3, &mut fields);
+        halves(random, CHANNELS, &mut fields);
         fields.push((random.next() as u32, 32));
     }
     if mostly(random, &mut fields) {
@@ -426,7 +431,7 @@ pub fn header(random: &mut Random, modular: bool) -> Vec<Field> {
     fields
 }
 
-/// A bit that is more often 1.
+/// A bit that is mostly 1.
 fn mostly(random: &mut Random, fields: &mut Vec<Field>) -> bool {
     let bit = random.within(0, 3) > 0;
     fields.push((bit.into(), 1));
@@ -445,7 +450,7 @@ fn halves(random: &mut Random, count: usize, fields: &mut Vec<Field>) {
     }
 }
 
-/// The fields from a place on; the bits around them are those of `rest`.
+/// The fields from a bit position on; the bits around them are those of `rest`.
 pub fn pack(place: usize, fields: &[Field], rest: u8) -> Vec<u8> {
     let length: usize = fields.iter().map(|&(_, width)| width as usize).sum();
     let mut bytes = vec![rest; (place + length).div_ceil(8)];

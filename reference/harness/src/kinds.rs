@@ -1,21 +1,21 @@
-//! What kind of number each input is: its type's range, its measure, and where its limits lie.
+//! Kinds of inputs: the range of the type, the valid numbers, and the limits.
 
 use std::collections::BTreeSet;
 
-use crate::random::Random;
+use crate::{expected::limits::*, random::Random};
 
 pub struct Kind {
-    /// The least and largest number of its type.
+    /// The smallest and largest number of its type.
     pub range: (i128, i128),
-    /// The numbers that are in measure.
-    pub sound: Sound,
-    /// Numbers at and around every limit but those of the type.
+    /// The numbers that are in range.
+    pub valid: Valid,
+    /// Numbers at and next to every limit except those of the type.
     pub limits: &'static [i128],
-    /// The few of them that are crossed where there are many inputs.
+    /// The few of them that are combined if there are many inputs.
     pub core: &'static [i128],
 }
 
-pub enum Sound {
+pub enum Valid {
     From(i128, i128),
     Of(&'static [i128]),
 }
@@ -24,15 +24,15 @@ pub enum Sound {
 #[derive(Clone, Copy)]
 pub enum Draw {
     Small,
-    /// In measure and at most a side away from zero, so that regions meet.
+    /// In range and within `MAX_SIDE` of zero, so that regions meet.
     Close,
-    Sound,
+    Valid,
     Limits,
     Any,
 }
 
 impl Kind {
-    /// The limits and the ends of the type, ascending.
+    /// The limits and the ends of the type, in ascending order.
     pub fn edges(&self) -> Vec<i128> {
         let (least, most) = self.range;
         let ends = [least, least + 1, most - 1, most];
@@ -44,14 +44,14 @@ impl Kind {
         let (least, most) = self.range;
         match how {
             Draw::Small => random.within(least.max(-40), most.min(40)),
-            Draw::Close => self.draw_sound(16_384, random),
-            Draw::Sound => self.draw_sound(i128::MAX, random),
+            Draw::Close => self.draw_valid(MAX_SIDE, random),
+            Draw::Valid => self.draw_valid(i128::MAX, random),
             Draw::Limits if random.within(0, 2) == 0 => {
                 let near = self.draw_limit(random) + random.within(-2, 2);
                 near.clamp(least, most)
             }
             Draw::Any if random.within(0, 3) == 0 => random.within(least, most),
-            Draw::Limits | Draw::Any => self.draw_sound(i128::MAX, random),
+            Draw::Limits | Draw::Any => self.draw_valid(i128::MAX, random),
         }
     }
 
@@ -64,10 +64,10 @@ impl Kind {
         }
     }
 
-    fn draw_sound(&self, farthest: i128, random: &mut Random) -> i128 {
-        match self.sound {
-            Sound::From(least, most) => random.within(least.max(-farthest), most.min(farthest)),
-            Sound::Of(list) => random.one_of(list),
+    fn draw_valid(&self, farthest: i128, random: &mut Random) -> i128 {
+        match self.valid {
+            Valid::From(least, most) => random.within(least.max(-farthest), most.min(farthest)),
+            Valid::Of(list) => random.one_of(list),
         }
     }
 }
@@ -77,131 +77,266 @@ const U32: (i128, i128) = (0, u32::MAX as i128);
 const ISIZE: (i128, i128) = (isize::MIN as i128, isize::MAX as i128);
 const USIZE: (i128, i128) = (0, usize::MAX as i128);
 
+/// The main limits of left and top, and of sides.
+const AROUND_OFFSETS: [i128; 5] = [-MAX_OFFSET - 1, -MAX_OFFSET, 0, MAX_OFFSET, MAX_OFFSET + 1];
+const AROUND_SIDES: [i128; 4] = [0, 1, MAX_SIDE, MAX_SIDE + 1];
+/// Samples along a side of a group whose group size shift is 0.
+const GROUP: i128 = BLOCK * GROUP_DIM;
+
 /// Left or top of a region.
 pub const CORNER: Kind = Kind {
     range: I32,
-    sound: Sound::From(-1_048_576, 1_048_576),
+    valid: Valid::From(-MAX_OFFSET, MAX_OFFSET),
     limits: &[
-        -1_048_577, -1_048_576, -1_048_575, -16_384, -1, 0, 1, 16_384, 1_048_575, 1_048_576,
-        1_048_577,
+        -MAX_OFFSET - 1,
+        -MAX_OFFSET,
+        -MAX_OFFSET + 1,
+        -MAX_SIDE,
+        -1,
+        0,
+        1,
+        MAX_SIDE,
+        MAX_OFFSET - 1,
+        MAX_OFFSET,
+        MAX_OFFSET + 1,
     ],
-    core: &[-1_048_577, -1_048_576, 0, 1_048_576, 1_048_577],
+    core: &AROUND_OFFSETS,
 };
 
 /// Width or height of a region.
 pub const SIDE: Kind = Kind {
     range: U32,
-    sound: Sound::From(0, 16_384),
+    valid: Valid::From(0, MAX_SIDE),
     limits: &[
-        0, 1, 2, 16_383, 16_384, 16_385, 2_147_483_647, 2_147_483_648,
+        0,
+        1,
+        2,
+        MAX_SIDE - 1,
+        MAX_SIDE,
+        MAX_SIDE + 1,
+        I32.1,
+        I32.1 + 1,
     ],
-    core: &[0, 1, 16_384, 16_385],
+    core: &AROUND_SIDES,
 };
 
-/// How far a region is moved.
+/// How far a region is translated.
 pub const MOVE: Kind = Kind {
     range: I32,
-    sound: Sound::From(-1_048_576, 1_048_576),
+    valid: Valid::From(-MAX_OFFSET, MAX_OFFSET),
     limits: &[
-        -2_097_153, -2_097_152, -2_097_151, -1_048_577, -1_048_576, -1, 0, 1, 1_048_576, 1_048_577,
-        2_097_151, 2_097_152, 2_097_153,
+        -2 * MAX_OFFSET - 1,
+        -2 * MAX_OFFSET,
+        -2 * MAX_OFFSET + 1,
+        -MAX_OFFSET - 1,
+        -MAX_OFFSET,
+        -1,
+        0,
+        1,
+        MAX_OFFSET,
+        MAX_OFFSET + 1,
+        2 * MAX_OFFSET - 1,
+        2 * MAX_OFFSET,
+        2 * MAX_OFFSET + 1,
     ],
-    core: &[-2_097_152, -1_048_576, 0, 1_048_576, 2_097_152],
+    core: &[-2 * MAX_OFFSET, -MAX_OFFSET, 0, MAX_OFFSET, 2 * MAX_OFFSET],
 };
 
-/// How far a region is grown.
+/// How far a region is padded.
 pub const PADDING: Kind = Kind {
     range: U32,
-    sound: Sound::From(0, 8_192),
+    valid: Valid::From(0, MAX_SIDE / 2),
     limits: &[
-        0, 1, 2, 8_191, 8_192, 8_193, 16_384, 16_385, 1_048_575, 1_048_576, 1_048_577, 2_097_152,
-        2_097_153, 2_147_483_647, 2_147_483_648,
+        0,
+        1,
+        2,
+        MAX_SIDE / 2 - 1,
+        MAX_SIDE / 2,
+        MAX_SIDE / 2 + 1,
+        MAX_SIDE,
+        MAX_SIDE + 1,
+        MAX_OFFSET - 1,
+        MAX_OFFSET,
+        MAX_OFFSET + 1,
+        2 * MAX_OFFSET,
+        2 * MAX_OFFSET + 1,
+        I32.1,
+        I32.1 + 1,
     ],
-    core: &[0, 1, 8_192, 8_193],
+    core: &[0, 1, MAX_SIDE / 2, MAX_SIDE / 2 + 1],
 };
 
 /// The shift of `downsample`.
 pub const FACTOR: Kind = Kind {
     range: U32,
-    sound: Sound::From(0, 16),
-    limits: &[0, 1, 2, 15, 16, 17, 31, 32, 33],
-    core: &[0, 1, 16, 17],
+    valid: Valid::From(0, MAX_DOWNSAMPLE),
+    limits: &[
+        0,
+        1,
+        2,
+        MAX_DOWNSAMPLE - 1,
+        MAX_DOWNSAMPLE,
+        MAX_DOWNSAMPLE + 1,
+        31,
+        32,
+        33,
+    ],
+    core: &[0, 1, MAX_DOWNSAMPLE, MAX_DOWNSAMPLE + 1],
 };
 
 /// The grid of `container_aligned`.
 pub const ALIGNMENT: Kind = Kind {
     range: U32,
-    sound: Sound::Of(&[
-        1, 2, 4, 8, 16, 32, 64, 128, 256, 512, 1_024, 2_048, 4_096, 8_192,
+    valid: Valid::Of(&[
+        1, 2, 4, 8, 16, 32, 64, 128, 256, 512, 1_024, 2_048, 4_096, MAX_ALIGNMENT,
     ]),
     limits: &[
         0, 1, 2, 3, 4, 7, 8, 9, 16, 32, 64, 128, 256, 512, 1_024, 2_048, 4_095, 4_096, 8_191,
-        8_192, 8_193, 12_288, 16_384, 2_147_483_648,
+        MAX_ALIGNMENT, 8_193, 12_288, 16_384, 2_147_483_648,
     ],
-    core: &[0, 1, 8, 8_192, 16_384],
+    core: &[0, 1, 8, MAX_ALIGNMENT, 2 * MAX_ALIGNMENT],
 };
 
 /// The offset that is mirrored.
 pub const OFFSET: Kind = Kind {
     range: ISIZE,
-    sound: Sound::From(-1_048_576, 1_048_576),
+    valid: Valid::From(-MAX_OFFSET, MAX_OFFSET),
     limits: &[
-        -2_147_483_649, -2_147_483_648, -1_048_577, -1_048_576, -1_048_575, -32_769, -32_768,
-        -32_767, -16_385, -16_384, -16_383, -2, -1, 0, 1, 2, 16_383, 16_384, 16_385, 32_767,
-        32_768, 32_769, 1_048_575, 1_048_576, 1_048_577, 2_147_483_647, 2_147_483_648,
+        I32.0 - 1,
+        I32.0,
+        -MAX_OFFSET - 1,
+        -MAX_OFFSET,
+        -MAX_OFFSET + 1,
+        -2 * MAX_SIDE - 1,
+        -2 * MAX_SIDE,
+        -2 * MAX_SIDE + 1,
+        -MAX_SIDE - 1,
+        -MAX_SIDE,
+        -MAX_SIDE + 1,
+        -2,
+        -1,
+        0,
+        1,
+        2,
+        MAX_SIDE - 1,
+        MAX_SIDE,
+        MAX_SIDE + 1,
+        2 * MAX_SIDE - 1,
+        2 * MAX_SIDE,
+        2 * MAX_SIDE + 1,
+        MAX_OFFSET - 1,
+        MAX_OFFSET,
+        MAX_OFFSET + 1,
+        I32.1,
+        I32.1 + 1,
     ],
-    core: &[-1_048_577, -1_048_576, 0, 1_048_576, 1_048_577],
+    core: &AROUND_OFFSETS,
 };
 
-/// The length that is mirrored in.
+/// The length at whose ends offsets are mirrored.
 pub const LENGTH: Kind = Kind {
     range: USIZE,
-    sound: Sound::From(1, 16_384),
+    valid: Valid::From(1, MAX_SIDE),
     limits: &[
-        0, 1, 2, 3, 8_192, 16_383, 16_384, 16_385, 2_147_483_648, 4_294_967_295, 4_294_967_296,
+        0,
+        1,
+        2,
+        3,
+        MAX_SIDE / 2,
+        MAX_SIDE - 1,
+        MAX_SIDE,
+        MAX_SIDE + 1,
+        I32.1 + 1,
+        U32.1,
+        U32.1 + 1,
     ],
-    core: &[0, 1, 16_384, 16_385],
+    core: &AROUND_SIDES,
 };
 
 /// A side of a frame.
 pub const FRAME_SIDE: Kind = Kind {
     range: U32,
-    sound: Sound::From(1, 16_384),
+    valid: Valid::From(1, MAX_SIDE),
     limits: &[
-        0, 1, 2, 7, 8, 9, 127, 128, 129, 1_023, 1_024, 1_025, 2_048, 2_049, 4_096, 4_097, 8_191,
-        8_192, 8_193, 16_383, 16_384, 16_385, 2_147_483_648,
+        0,
+        1,
+        2,
+        BLOCK - 1,
+        BLOCK,
+        BLOCK + 1,
+        GROUP_DIM - 1,
+        GROUP_DIM,
+        GROUP_DIM + 1,
+        GROUP - 1,
+        GROUP,
+        GROUP + 1,
+        2 * GROUP,
+        2 * GROUP + 1,
+        4 * GROUP,
+        4 * GROUP + 1,
+        8 * GROUP - 1,
+        8 * GROUP,
+        8 * GROUP + 1,
+        MAX_SIDE - 1,
+        MAX_SIDE,
+        MAX_SIDE + 1,
+        I32.1 + 1,
     ],
-    core: &[0, 1, 16_384, 16_385],
+    core: &AROUND_SIDES,
 };
 
 pub const UPSAMPLING: Kind = Kind {
     range: U32,
-    sound: Sound::Of(&[1, 2, 4, 8]),
+    valid: Valid::Of(&[1, 2, 4, 8]),
     limits: &[0, 1, 2, 3, 4, 5, 7, 8, 9, 16],
     core: &[0, 1, 8, 16],
 };
 
 pub const LF_LEVEL: Kind = Kind {
     range: U32,
-    sound: Sound::From(0, 4),
-    limits: &[0, 1, 2, 3, 4, 5, 11],
-    core: &[0, 4, 5],
+    valid: Valid::From(0, MAX_LF_LEVEL),
+    limits: &[0, 1, 2, 3, MAX_LF_LEVEL, MAX_LF_LEVEL + 1, 11],
+    core: &[0, MAX_LF_LEVEL, MAX_LF_LEVEL + 1],
 };
 
 pub const GROUP_SIZE_SHIFT: Kind = Kind {
     range: U32,
-    sound: Sound::From(0, 3),
-    limits: &[0, 1, 2, 3, 4, 25, 32],
-    core: &[0, 3, 4],
+    valid: Valid::From(0, MAX_GROUP_SIZE_SHIFT),
+    limits: &[
+        0,
+        1,
+        2,
+        MAX_GROUP_SIZE_SHIFT,
+        MAX_GROUP_SIZE_SHIFT + 1,
+        25,
+        32,
+    ],
+    core: &[0, MAX_GROUP_SIZE_SHIFT, MAX_GROUP_SIZE_SHIFT + 1],
 };
 
-/// A block's column or row.
-pub const BLOCK: Kind = Kind {
+/// A block column or row.
+pub const BLOCK_PLACE: Kind = Kind {
     range: U32,
-    sound: Sound::From(0, 133_120),
+    valid: Valid::From(0, (MAX_OFFSET + MAX_SIDE) / BLOCK),
     limits: &[
-        0, 1, 127, 128, 129, 255, 256, 257, 511, 512, 513, 1_023, 1_024, 1_025, 131_071, 131_072,
-        2_147_483_647, 2_147_483_648,
+        0,
+        1,
+        GROUP_DIM - 1,
+        GROUP_DIM,
+        GROUP_DIM + 1,
+        2 * GROUP_DIM - 1,
+        2 * GROUP_DIM,
+        2 * GROUP_DIM + 1,
+        4 * GROUP_DIM - 1,
+        4 * GROUP_DIM,
+        4 * GROUP_DIM + 1,
+        8 * GROUP_DIM - 1,
+        8 * GROUP_DIM,
+        8 * GROUP_DIM + 1,
+        MAX_OFFSET / BLOCK - 1,
+        MAX_OFFSET / BLOCK,
+        I32.1,
+        I32.1 + 1,
     ],
-    core: &[0, 1, 128, 4_294_967_295],
+    core: &[0, 1, GROUP_DIM, U32.1],
 };

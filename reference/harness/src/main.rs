@@ -1,13 +1,14 @@
 //! Compares the proved library with the original Rust on the same inputs.
 //!
-//! `harness [--scale N]` prints a table of what was compared and fails if anything differs;
-//! N multiplies the random cases, and `harness --some` takes of each row a thousand cases or more,
-//! or all that it has; `harness --some K N` does the K-th of N shares of that, counted from 0.
-//! `harness bench [SECTION...]` prints times beside the original's and the memory of a run, and
-//! `harness record` a sample of the original's answers as text.
+//! `harness [--scale N]` prints a table of what was compared and fails if anything differs; N
+//! multiplies the random cases. `harness --some` compares at least a thousand cases of each row, or all
+//! of them if there are fewer; `harness --some K N` compares share K, counted from 0, of N shares of
+//! that. `harness bench [SECTION...]` prints times beside the original's, and the memory of a run.
+//! `harness record` prints a sample of the original's answers as text.
 
 mod bench;
 mod bits;
+mod convert;
 mod epf;
 mod expected;
 mod frame;
@@ -72,7 +73,7 @@ fn subjects() -> Vec<&'static Subject> {
         .collect()
 }
 
-/// What is compared, in the table's order.
+/// What is compared, in the order of the table.
 const SECTIONS: [Section; 7] = [
     compare_subjects,
     header::compare,
@@ -85,7 +86,7 @@ const SECTIONS: [Section; 7] = [
 
 type Section = fn(Amount, &mut Report);
 
-/// Every n-th section from the k-th on.
+/// Every n-th section, starting with section k.
 fn share(k: usize, n: usize) -> Vec<Section> {
     SECTIONS.into_iter().skip(k).step_by(n).collect()
 }

@@ -1,7 +1,7 @@
 //! Mirror: inputs are the offset and the length.
 
 use crate::{
-    expected,
+    expected::{self, limits::MAX_SIDE},
     kinds::{LENGTH, OFFSET},
     subject::{Answer, Subject},
 };
@@ -19,10 +19,16 @@ pub const MIRROR: Subject = Subject {
         Ok(place) => Answer::new(0, &[place]),
         Err(number) => Answer::refused(number),
     },
-    rust: |c| Answer::new(0, &[oracle::mirror(c[0] as isize, c[1] as usize) as i128]),
+    original: |c| Answer::new(0, &[oracle::mirror(c[0] as isize, c[1] as usize) as i128]),
     near: &[
         ("near zero", &[(-400, 400), (0, 100)]),
-        ("long", &[(-49_153, 49_153), (16_383, 16_385)]),
+        (
+            "long",
+            &[
+                (-3 * MAX_SIDE - 1, 3 * MAX_SIDE + 1),
+                (MAX_SIDE - 1, MAX_SIDE + 1),
+            ],
+        ),
     ],
     named: &[&[-1, 1], &[-3, 2], &[5, 4], &[7, 3]],
 };

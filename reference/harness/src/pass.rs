@@ -1,31 +1,31 @@
-//! A pass over rows of its result, by the proved library and by the original: what the Gabor-like pass
-//! and the steps are compared by.
+//! A pass over rows of its result, by the proved library and by the original. The comparisons of the
+//! Gabor-like pass and of the steps share this.
 
 use std::fmt::Debug;
 
 use crate::{
     bits,
-    picture::{self, Rows, is_written, judge, samples},
+    picture::{self, Rows, compare_answer, is_written, samples},
     random::Random,
     report::Row,
 };
 
-/// What a pass is handed but the sets.
+/// The inputs of a pass without the sets.
 pub trait Pass: Debug {
     fn place(&self) -> &oracle::Place;
 
-    /// The proved library's number, and what it leaves in the target.
+    /// Runs the proved library on the target and answers its number.
     fn ours(&self, rows: Rows, source: &[f32], target: &mut [f32]) -> u32;
 
-    /// The block sigmas that it is handed; none where it reads none.
+    /// The block sigmas; none if the pass reads none.
     fn sigmas(&self) -> &[f32] {
         &[]
     }
 
-    /// The result's planes by the original.
-    fn rust(&self, source: &[f32]) -> oracle::Planes;
+    /// The planes of the result, by the original.
+    fn original(&self, source: &[f32]) -> oracle::Planes;
 
-    /// The number that is due, with sets so long.
+    /// The expected number, with sets of these lengths.
     fn number(&self, rows: Rows, sets: [usize; 2]) -> u32;
 
     fn height(&self) -> u32 {
@@ -33,31 +33,31 @@ pub trait Pass: Debug {
     }
 }
 
-/// All bands of a pass, each into a target of its own, and all into one.
+/// All bands of a pass, each to its own target, and all to one.
 pub fn by_bands(pass: &impl Pass, band: u32, source: &[f32], random: &mut Random, row: &mut Row) {
     row.by_bands();
     let read = Read::by(pass, source);
     let before = samples(source.len(), random);
-    let result = pass.rust(source);
+    let result = pass.original(source);
     let height = pass.height();
     let mut all = before.clone();
     for from in (0..height).step_by(band as usize) {
         let rows = (from, height.min(from + band));
-        let (mut ours, mut due) = (before.clone(), before.clone());
+        let (mut ours, mut expected) = (before.clone(), before.clone());
         let number = pass.ours(rows, source, &mut ours);
-        picture::store(pass.place(), &result, rows, &mut due);
+        picture::store(pass.place(), &result, rows, &mut expected);
         let written = |at| is_written(pass.place(), rows, at);
-        judge(pass, rows, (number, &ours), (0, &due), &written, row);
+        compare_answer(pass, rows, (number, &ours), (0, &expected), &written, row);
         pass.ours(rows, source, &mut all);
     }
-    let mut due = before;
-    picture::store(pass.place(), &result, (0, height), &mut due);
+    let mut expected = before;
+    picture::store(pass.place(), &result, (0, height), &mut expected);
     let written = |at| is_written(pass.place(), (0, height), at);
-    judge(pass, (0, height), (0, &all), (0, &due), &written, row);
+    compare_answer(pass, (0, height), (0, &all), (0, &expected), &written, row);
     read.must_be_left(pass, source, row);
 }
 
-/// One call, which may be refused; a refusal leaves every bit of what it was handed, NaNs among it.
+/// One call, which may be refused. A refused call leaves every bit of its inputs, NaNs included.
 pub fn one_call(
     pass: &impl Pass,
     rows: Rows,
@@ -73,16 +73,23 @@ pub fn one_call(
     let read = Read::by(pass, &source);
     let mut ours = before.clone();
     let given = pass.ours(rows, &source, &mut ours);
-    let mut due = before;
+    let mut expected = before;
     if number == 0 {
-        picture::store(pass.place(), &pass.rust(&source), rows, &mut due);
+        picture::store(pass.place(), &pass.original(&source), rows, &mut expected);
     }
     let written = |at| number == 0 && is_written(pass.place(), rows, at);
-    judge(pass, rows, (given, &ours), (number, &due), &written, row);
+    compare_answer(
+        pass,
+        rows,
+        (given, &ours),
+        (number, &expected),
+        &written,
+        row,
+    );
     read.must_be_left(pass, &source, row);
 }
 
-/// Copies of what a pass reads.
+/// Copies of the buffers that a pass reads.
 struct Read {
     source: Vec<f32>,
     sigmas: Vec<f32>,
@@ -96,7 +103,7 @@ impl Read {
         }
     }
 
-    /// What was read has its bits still.
+    /// The buffers still have the same bits.
     fn must_be_left(&self, pass: &impl Pass, source: &[f32], row: &mut Row) {
         let pairs = [
             ("source", &self.source[..], source),
@@ -133,7 +140,7 @@ mod tests {
             9
         }
 
-        fn rust(&self, source: &[f32]) -> oracle::Planes {
+        fn original(&self, source: &[f32]) -> oracle::Planes {
             picture::planes(source)
         }
 

@@ -1,27 +1,31 @@
-//! Pictures that passes are compared on: where they lie, their samples, and what of them is written.
+//! Pictures for the comparison of passes: their regions, their samples, and the rows that are written.
 
-use crate::{expected, random::Random, report::Row};
+use restoration::{CHANNELS, MAX_OFFSET, MAX_SIDE};
 
-/// Samples beside ordinary ones: zeros, subnormals, the largest, infinities and NaN.
+use crate::{random::Random, report::Row};
+
+/// Special samples: zeros, subnormals, the largest numbers, infinities and NaN.
 const SAMPLES: [u32; 12] = [
     0x0000_0000, 0x8000_0000, 0x0000_0001, 0x807F_FFFF, 0x0080_0000, 0x7F7F_FFFF, 0xFF7F_FFFF,
     0x7F80_0000, 0xFF80_0000, 0x7FC0_0000, 0x7F80_0001, 0xFFFF_FFFF,
 ];
 
-/// Sides and corners at their limits.
-const SIDES: [u32; 6] = [0, 1, 3, 16_384, 16_385, u32::MAX];
+/// Sides, left and top at their limits.
+const SIDES: [u32; 6] = [0, 1, SMALL, MAX_SIDE, MAX_SIDE + 1, u32::MAX];
 const CORNERS: [i32; 8] = [
     i32::MIN,
-    -1_048_577,
-    -1_048_576,
+    -MAX_OFFSET - 1,
+    -MAX_OFFSET,
     0,
     1,
-    1_048_576,
-    1_048_577,
+    MAX_OFFSET,
+    MAX_OFFSET + 1,
     i32::MAX,
 ];
+/// The longest side of a small picture.
+const SMALL: u32 = 3;
 
-/// Rows of a result, from the first up to the last.
+/// The first row, and the row after the last.
 pub type Rows = (u32, u32);
 
 /// The region that a pass writes.
@@ -33,18 +37,18 @@ pub fn result(place: &oracle::Place) -> oracle::Region {
     }
 }
 
-/// Samples of a set of the image.
+/// Samples of all planes of the image.
 pub fn set_len(place: &oracle::Place) -> usize {
-    3 * place.image.width as usize * place.image.height as usize
+    CHANNELS * place.image.width as usize * place.image.height as usize
 }
 
-/// The three planes of a set.
+/// The planes of a set.
 pub fn planes(set: &[f32]) -> oracle::Planes {
-    let plane = set.len() / 3;
+    let plane = set.len() / CHANNELS;
     core::array::from_fn(|c| set[c * plane..][..plane].to_vec())
 }
 
-/// Where each row of a region inside the image lies in a set, plane after plane.
+/// The range in a set of each row of a region inside the image, one plane after another.
 pub fn runs(
     image: oracle::Region,
     part: oracle::Region,
@@ -54,12 +58,12 @@ pub fn runs(
     let left = part.left.abs_diff(image.left) as usize;
     let top = part.top.abs_diff(image.top) as usize;
     let columns = part.width as usize;
-    (0..3)
+    (0..CHANNELS)
         .flat_map(move |c| (from as usize..to as usize).map(move |row| c * height + top + row))
         .map(move |row| row * width + left..row * width + left + columns)
 }
 
-/// Whether a place of a set of the image lies in rows of the result.
+/// Whether an index of a set of the image is in these rows of the result.
 pub fn is_written(place: &oracle::Place, (from, to): Rows, at: usize) -> bool {
     let (image, part) = (place.image, result(place));
     let (width, height) = (image.width as usize, image.height as usize);
@@ -69,7 +73,7 @@ pub fn is_written(place: &oracle::Place, (from, to): Rows, at: usize) -> bool {
         && (top + from as usize..top + to as usize).contains(&(at / width % height))
 }
 
-/// Writes rows of the result where they lie in a set of the image.
+/// Copies rows of the result to a set of the image.
 pub fn store(
     place: &oracle::Place,
     result_planes: &oracle::Planes,
@@ -87,26 +91,26 @@ pub fn store(
     }
 }
 
-/// A number and a set are what is due. Places that were to be written may have another NaN, all others
-/// keep their bits.
-pub fn judge(
+/// Compares a number and a set with the expected ones. A sample that is written may be another NaN, all
+/// others keep their bits.
+pub fn compare_answer(
     case: &dyn core::fmt::Debug,
     rows: Rows,
     ours: (u32, &[f32]),
-    due: (u32, &[f32]),
+    expected: (u32, &[f32]),
     written: &dyn Fn(usize) -> bool,
     row: &mut Row,
 ) {
-    row.count(due.0);
+    row.count(expected.0);
     let differs = |&at: &usize| {
-        let (a, b) = (ours.1[at], due.1[at]);
+        let (a, b) = (ours.1[at], expected.1[at]);
         a.to_bits() != b.to_bits() && !(agree(a, b) && written(at))
     };
-    if let Some(at) = (0..due.1.len()).find(differs) {
-        let bits = [ours.1[at], due.1[at]].map(f32::to_bits);
+    if let Some(at) = (0..expected.1.len()).find(differs) {
+        let bits = [ours.1[at], expected.1[at]].map(f32::to_bits);
         row.differs(&(case, rows, at), &bits[0], &bits[1]);
-    } else if ours.0 != due.0 {
-        row.differs(&(case, rows), &ours.0, &due.0);
+    } else if ours.0 != expected.0 {
+        row.differs(&(case, rows), &ours.0, &expected.0);
     }
 }
 
@@ -115,32 +119,14 @@ pub fn agree(a: f32, b: f32) -> bool {
     a.to_bits() == b.to_bits() || a.is_nan() && b.is_nan()
 }
 
-pub fn region(r: oracle::Region) -> restoration::Region {
-    restoration::Region {
-        left: r.left,
-        top: r.top,
-        width: r.width,
-        height: r.height,
-    }
-}
-
-pub fn wide(r: oracle::Region) -> expected::Region {
-    expected::Region {
-        left: r.left.into(),
-        top: r.top.into(),
-        width: r.width.into(),
-        height: r.height.into(),
-    }
-}
-
-/// Mostly small and plain, else with a side or corner at a limit.
+/// Mostly a small region, else one with a side, left or top at a limit.
 pub fn any_region(random: &mut Random) -> oracle::Region {
     let mut small = |least: i128, most: i128| random.within(least, most);
     let mut r = oracle::Region {
         left: small(-1, 2) as i32,
         top: small(-1, 2) as i32,
-        width: small(1, 3) as u32,
-        height: small(1, 3) as u32,
+        width: small(1, SMALL.into()) as u32,
+        height: small(1, SMALL.into()) as u32,
     };
     match random.within(0, 15) {
         0 => r.left = random.one_of(&CORNERS),
@@ -153,7 +139,7 @@ pub fn any_region(random: &mut Random) -> oracle::Region {
     r
 }
 
-/// A yes or no, or in one draw of eight a number that is neither.
+/// A flag, in one draw of eight out of range.
 pub fn any_flag(random: &mut Random) -> u32 {
     match random.within(0, 7) {
         0 => random.one_of(&[2, 255, u32::MAX]),
@@ -164,32 +150,32 @@ pub fn any_flag(random: &mut Random) -> u32 {
 pub fn any_row(random: &mut Random) -> u32 {
     match random.within(0, 9) {
         0 => u32::MAX,
-        1 => 4,
-        _ => random.within(0, 3) as u32,
+        1 => SMALL + 1,
+        _ => random.within(0, SMALL.into()) as u32,
     }
 }
 
-/// The due length of a small image's set, or one beside it.
+/// The length of a small image's set, or a wrong one.
 pub fn any_set_len(image: oracle::Region, random: &mut Random) -> usize {
-    let due = if image.width <= 3 && image.height <= 3 {
-        3 * (image.width * image.height) as usize
+    let plane = if image.width <= SMALL && image.height <= SMALL {
+        image.width * image.height
     } else {
-        27
+        SMALL * SMALL
     };
-    any_len(due, random)
+    any_len(CHANNELS * plane as usize, random)
 }
 
-/// A length, or one beside it.
-pub fn any_len(due: usize, random: &mut Random) -> usize {
+/// The length, or a wrong one.
+pub fn any_len(expected: usize, random: &mut Random) -> usize {
     match random.within(0, 9) {
-        0 => due + 1,
-        1 => due.saturating_sub(1),
+        0 => expected + 1,
+        1 => expected.saturating_sub(1),
         2 => 0,
-        _ => due,
+        _ => expected,
     }
 }
 
-/// Plain samples, in one set of four with special ones among them.
+/// Plain samples; one set in four has special ones among them.
 pub fn samples(count: usize, random: &mut Random) -> Vec<f32> {
     let mixed = random.once_in(4);
     (0..count)

@@ -19,13 +19,13 @@ impl Random {
         z ^ z >> 31
     }
 
-    /// A number from `least` to `most`, which are at most 2^64 - 1 apart.
+    /// A number from `least` to `most`, which differ by at most 2^64 - 1.
     pub fn within(&mut self, least: i128, most: i128) -> i128 {
         let count = (most - least + 1) as u128;
         least + (u128::from(self.next()).wrapping_mul(count) >> 64) as i128
     }
 
-    /// True once in so many times.
+    /// True once in `times` draws, on average.
     pub fn once_in(&mut self, times: u64) -> bool {
         self.next().is_multiple_of(times)
     }

@@ -1,4 +1,4 @@
-//! A sample of the original's answers as text, for a replay with no Rust at hand.
+//! A sample of the original's answers as text, for a replay without the original.
 
 mod headers;
 
@@ -12,11 +12,11 @@ use crate::{
 
 /// Rows for each subject.
 const ROWS: usize = 64;
-/// About how many cases of each source there are, among which the rows are chosen.
+/// About how many cases of each source the rows are chosen from.
 const CANDIDATES: usize = 2_000;
 
 const HEAD: &str = "\
-# Answers of the original Rust, and document 01's number where it refuses.
+# Answers of the original Rust, and the number of the refusal (Specification 3.1) where there is one.
 # Made in reference/ by: cargo run --release --offline -p harness -- record
 # A row: the subject, its inputs in order, the number, the result's fields in order.
 # A header is the count of its bytes and each byte; of a header's row the next bit place is last.
@@ -39,20 +39,20 @@ pub fn print(subjects: &[&Subject]) {
 }
 
 fn row(subject: &Subject, case: &[i128]) -> String {
-    let due = subject.due(case);
+    let expected = subject.expected(case);
     let mut row = subject.name.to_owned();
     for number in case
         .iter()
-        .chain([&i128::from(due.number)])
-        .chain(&due.fields[..subject.outputs])
+        .chain([&i128::from(expected.number)])
+        .chain(&expected.fields[..subject.outputs])
     {
         row += &format!(" {number}");
     }
     row
 }
 
-/// The named cases, then cases taken in turn from each class: number, and whether any field is
-/// other than 0.
+/// The named cases, then cases from each class alternately. A class is a number, and whether any field
+/// is other than 0.
 fn chosen(subject: &Subject) -> Vec<Vec<i128>> {
     let mut chosen: Vec<Vec<i128>> = subject.named.iter().map(|case| case.to_vec()).collect();
     let mut seen: BTreeSet<Vec<i128>> = chosen.iter().cloned().collect();
@@ -62,18 +62,21 @@ fn chosen(subject: &Subject) -> Vec<Vec<i128>> {
         // The replay reads numbers of at most this size.
         let fits = case.iter().all(|&n| n.unsigned_abs() <= i64::MAX as u128);
         if fits && seen.insert(case.clone()) {
-            let due = subject.due(&case);
-            let class = (due.number, due.fields.iter().any(|&field| field != 0));
+            let expected = subject.expected(&case);
+            let class = (
+                expected.number,
+                expected.fields.iter().any(|&field| field != 0),
+            );
             classes.entry(class).or_default().push(case);
         }
     }
-    // Two results for each case of another class.
+    // Two cases with a result for each case of another class.
     let times = |class: &_| if *class == (0, true) { 2 } else { 1 };
     fill(&mut chosen, classes, times, &mut random);
     chosen
 }
 
-/// Adds cases of each class in turn, so many at a time, until there are enough.
+/// Adds cases of each class alternately, `times` at a time, until there are enough.
 fn fill<K: Ord, C>(
     chosen: &mut Vec<C>,
     mut classes: BTreeMap<K, Vec<C>>,
@@ -91,7 +94,7 @@ fn fill<K: Ord, C>(
     chosen.truncate(ROWS);
 }
 
-/// Cases near zero, at the limits and drawn.
+/// Cases near zero, at the limits and random ones.
 fn candidates(subject: &Subject, random: &mut Random) -> Vec<Vec<i128>> {
     let mut cases = Vec::new();
     for (_, ranges) in subject.near {

@@ -1,10 +1,10 @@
-//! Rectangles cut from larger pictures: each is run by itself, with its own image region, band
-//! height, result kind, frame and grids, and its samples that have the margin between them and
-//! each cut edge are the larger picture's, bit for bit. One sample less is wrong.
+//! Rectangles cut from larger pictures. Each is run by itself, with its own image region, band height,
+//! result, frame and grids. Its samples at least the margin away from each cut edge must be the larger
+//! picture's, bit for bit. With a margin of one sample less they differ.
 
 mod regroup;
 
-use restoration::{Region, Settings};
+use restoration::{BLOCK, CHANNELS, MAX_ITERS, MAX_OFFSET, Region, Settings};
 
 use crate::{
     bits,
@@ -13,7 +13,7 @@ use crate::{
     picture::{self, agree, samples},
     random::Random,
     report::{Amount, Report, Row},
-    runs::{self, Handed, Passes, State, place, setup_rule},
+    runs::{self, Input, Passes, State, place, setup_rule},
     sigma::sigma,
 };
 
@@ -21,9 +21,7 @@ use crate::{
 const RECTANGLES: u64 = 10_000;
 /// Sides of larger pictures.
 const SIDES: u32 = 64;
-/// The largest left and top.
-const FARTHEST: i32 = 1_048_576;
-/// Pictures that are tried until one sample less is wrong at each edge.
+/// Pictures that are tried until a sample differs at each edge with a margin of one sample less.
 const TRIES: u64 = 1_000;
 
 const NAME: &str = "rectangles";
@@ -51,18 +49,18 @@ pub fn compare(amount: Amount, report: &mut Report) {
     report.add(row);
 }
 
-/// Two pictures that agree at each place of the smaller filter region.
+/// Two pictures that agree in the smaller filter region.
 struct Pair {
-    larger: Handed,
-    smaller: Handed,
+    larger: Input,
+    smaller: Input,
     margin: u32,
 }
 
-/// Samples between a place of the smaller filter region and each of its edges that is cut.
+/// Samples between a position in the smaller filter region and each of its edges that is cut.
 type Between = [Option<u32>; 4];
 
 impl Pair {
-    /// Pictures of which some samples are to be compared.
+    /// Pictures with at least one sample to compare.
     fn draw(passes: Passes, random: &mut Random) -> Self {
         loop {
             let larger = runs::with_passes(passes, SIDES, random);
@@ -73,7 +71,7 @@ impl Pair {
         }
     }
 
-    fn cut(larger: Handed, random: &mut Random) -> Self {
+    fn cut(larger: Input, random: &mut Random) -> Self {
         let filter = part(&larger, random);
         let smaller = cut_picture(&larger, filter, random);
         let margin = setup_rule(&larger.setup).margin() as u32;
@@ -84,7 +82,7 @@ impl Pair {
         }
     }
 
-    /// Places of the smaller filter region, counted from its corner.
+    /// Positions in the smaller filter region, counted from its left and top.
     fn places(&self) -> impl Iterator<Item = (u32, u32)> + use<> {
         let Region { width, height, .. } = self.smaller.setup.filter;
         (0..height).flat_map(move |y| (0..width).map(move |x| (x, y)))
@@ -104,31 +102,31 @@ impl Pair {
         core::array::from_fn(|edge| cuts[edge].then_some(between[edge]))
     }
 
-    /// The margin lies between the place and each cut edge.
+    /// The position is at least the margin away from each cut edge.
     fn clear(&self, between: Between) -> bool {
         between.into_iter().flatten().all(|n| n >= self.margin)
     }
 
-    /// One sample less than the margin lies between the place and this edge, at least the margin
-    /// between it and the others.
+    /// The position is one sample less than the margin away from this edge, and at least the margin away
+    /// from the others.
     fn short_at(&self, edge: usize, between: Between) -> bool {
         let mut others = between;
         others[edge] = None;
         between[edge].is_some_and(|n| n + 1 == self.margin) && self.clear(others)
     }
 
-    /// Both results, by lists of calls of their own.
+    /// Both results, each by its own list of calls.
     fn results(&self, random: &mut Random) -> Result<[Vec<f32>; 2], Stopped> {
         let smaller = finished(&self.smaller, random)?;
         Ok([smaller, finished(&self.larger, random)?])
     }
 
-    /// The samples of both at a place, plane after plane.
-    fn samples(&self, results: &[Vec<f32>; 2], (x, y): (u32, u32)) -> [[f32; 2]; 3] {
+    /// The samples of both at a position, one pair per plane.
+    fn samples(&self, results: &[Vec<f32>; 2], (x, y): (u32, u32)) -> [[f32; 2]; CHANNELS] {
         let corner = self.smaller.setup.filter;
         core::array::from_fn(|c| {
-            let at = |handed: &Handed, result: &[f32]| {
-                let part = picture::result(&place(&handed.setup));
+            let at = |input: &Input, result: &[f32]| {
+                let part = picture::result(&place(&input.setup));
                 let column = (corner.left - part.left) as u32 + x;
                 let row = (corner.top - part.top) as u32 + y;
                 let (width, height) = (part.width as usize, part.height as usize);
@@ -141,7 +139,7 @@ impl Pair {
         })
     }
 
-    /// How many samples were compared.
+    /// Compares both results and answers how many samples were compared.
     fn compare(&self, random: &mut Random, row: &mut Row) -> u64 {
         row.count(0);
         let case = (&self.smaller, &self.larger);
@@ -158,7 +156,7 @@ impl Pair {
         };
         let mut compared = 0;
         for at in self.places().filter(|&at| self.clear(self.between(at))) {
-            compared += 3;
+            compared += CHANNELS as u64;
             let samples = self.samples(&results, at);
             if let Some([small, large]) = samples.into_iter().find(|[a, b]| !agree(*a, *b)) {
                 row.differs(&(case, at), &small, &large);
@@ -168,7 +166,7 @@ impl Pair {
         compared
     }
 
-    /// The edges at which some sample with one sample less than the margin differs.
+    /// The edges at which some sample differs with a margin of one sample less.
     fn wrong_edges(&self, random: &mut Random) -> Result<[bool; 4], Stopped> {
         let results = self.results(random)?;
         let differs = |at| {
@@ -184,7 +182,7 @@ impl Pair {
     }
 }
 
-/// For each edge a picture in which one sample less than the margin is wrong.
+/// Searches, for each edge, a picture in which a margin of one sample less is too small.
 fn tight(passes: Passes, random: &mut Random, row: &mut Row) {
     let mut found = [false; 4];
     for _ in 0..TRIES {
@@ -209,11 +207,11 @@ fn tight(passes: Passes, random: &mut Random, row: &mut Row) {
     }
 }
 
-/// A part of the filter region, on blocks where the edge filter runs.
-fn part(larger: &Handed, random: &mut Random) -> Region {
+/// A part of the filter region, on blocks if the edge filter runs.
+fn part(larger: &Input, random: &mut Random) -> Region {
     let filter = larger.setup.filter;
     let step = if larger.setup.settings.epf.iters > 0 {
-        8
+        BLOCK
     } else {
         1
     };
@@ -223,7 +221,7 @@ fn part(larger: &Handed, random: &mut Random) -> Region {
         } else {
             step * random.within(0, ((side - 1) / step).into()) as u32
         };
-        let before = before.min(corner.abs_diff(FARTHEST));
+        let before = before.min(corner.abs_diff(MAX_OFFSET));
         let room = side - before;
         let length = if random.once_in(4) {
             room
@@ -242,8 +240,8 @@ fn part(larger: &Handed, random: &mut Random) -> Region {
     }
 }
 
-/// A picture of its own that agrees with a larger one at each place of its filter region.
-fn cut_picture(larger: &Handed, filter: Region, random: &mut Random) -> Handed {
+/// A picture that agrees with a larger one in its own filter region.
+fn cut_picture(larger: &Input, filter: Region, random: &mut Random) -> Input {
     let mut setup = larger.setup;
     setup.filter = filter;
     setup.image = runs::around(filter, SIDES, random);
@@ -270,7 +268,7 @@ fn cut_picture(larger: &Handed, filter: Region, random: &mut Random) -> Handed {
             *sample = alike(agreed, random);
         }
     }
-    Handed {
+    Input {
         setup,
         frame: groups.frame,
         table: groups.table,
@@ -281,7 +279,7 @@ fn cut_picture(larger: &Handed, filter: Region, random: &mut Random) -> Handed {
     }
 }
 
-/// The same bits, or another NaN for a NaN.
+/// The same sample, or another NaN for a NaN.
 fn alike(sample: f32, random: &mut Random) -> f32 {
     if sample.is_nan() {
         f32::from_bits(sample.to_bits() ^ (random.next() as u32 & 0x803F_FFFF) | 1)
@@ -290,7 +288,7 @@ fn alike(sample: f32, random: &mut Random) -> f32 {
     }
 }
 
-/// Settings that agree in all that the passes read, and in nothing else.
+/// Other settings that agree in everything that the passes read.
 fn agreeing(settings: Settings, random: &mut Random) -> Settings {
     let passes = Passes {
         gabor: settings.gabor.enabled == 1,
@@ -305,7 +303,7 @@ fn agreeing(settings: Settings, random: &mut Random) -> Settings {
         own.epf.channel_scale = settings.epf.channel_scale;
         own.epf.sigma.border_sad_mul = settings.epf.sigma.border_sad_mul;
     }
-    if passes.iterations == 3 {
+    if passes.iterations == MAX_ITERS {
         own.epf.sigma.pass0_sigma_scale = settings.epf.sigma.pass0_sigma_scale;
     }
     if passes.iterations >= 2 {
@@ -317,21 +315,21 @@ fn agreeing(settings: Settings, random: &mut Random) -> Settings {
 /// Why there is no result, and the last call's number.
 type Stopped = (&'static str, u32);
 
-/// The result after a random list of calls, refused ones among them, which leave every bit.
-fn finished(handed: &Handed, random: &mut Random) -> Result<Vec<f32>, Stopped> {
-    let mut lent = handed.clone();
-    let answer = lent.start();
+/// The result of a random list of calls. Refused ones are interleaved and must leave every bit.
+fn finished(input: &Input, random: &mut Random) -> Result<Vec<f32>, Stopped> {
+    let mut copy = input.clone();
+    let answer = copy.start();
     if answer.number != 0 {
         return Err(("start was refused", answer.number));
     }
-    let mut state = State::new(answer.run, &lent);
+    let mut state = State::new(answer.run, &copy);
     let mut left = state.clone();
-    let rule = setup_rule(&lent.setup);
+    let rule = setup_rule(&copy.setup);
     let mut out = samples(count(rule.result()) as usize, random);
     bits::sprinkle(&mut out, random);
     let out_before = out.clone();
     let mut number = 0;
-    // Each band is drawn many times in so many calls.
+    // In this many calls each band is drawn many times.
     for _ in 0..1_000 * (1 + rule.bands()) {
         let call = random.within(0, 1 + rule.bands());
         number = match call {
@@ -358,7 +356,7 @@ fn advance(state: &mut State) -> u32 {
     answer.number
 }
 
-/// A band, or the one past the last.
+/// Any band, or the one past the last.
 fn any_band(state: &mut State, bands: i128, random: &mut Random) -> u32 {
     let k = random.within(0, bands) as u32;
     let (first, second) = (&mut state.first, &mut state.second);

@@ -1,4 +1,4 @@
-//! Region arithmetic: inputs are left, top, width, height of each region, then the settings.
+//! Region arithmetic: inputs are left, top, width and height of each region, then the other parameters.
 
 use restoration::{BoolAnswer, EdgeAnswer, RegionAnswer};
 
@@ -21,7 +21,7 @@ pub const SUBJECTS: [Subject; 9] = [
         numbers: &[0, 4],
         ours: |c| holds(restoration::region_is_empty(region(c))),
         rule: |c| ruled(expected::is_empty(wide(c)), |holds| [i128::from(holds)]),
-        rust: |c| Answer::new(0, &[i128::from(original(c).is_empty())]),
+        original: |c| Answer::new(0, &[i128::from(original(c).is_empty())]),
         near: &[("near zero", &[(-9, 9), (-9, 9), (0, 9), (0, 9)])],
         named: &[&[-3, 5, 0, 4], &[-3, 5, 4, 0], &[0, 0, 1, 1]],
     },
@@ -32,7 +32,7 @@ pub const SUBJECTS: [Subject; 9] = [
         numbers: &[0, 4],
         ours: |c| edge(restoration::region_right(region(c))),
         rule: |c| ruled(expected::right(wide(c)), |edge| [edge]),
-        rust: |c| Answer::new(0, &[original(c).right().into()]),
+        original: |c| Answer::new(0, &[original(c).right().into()]),
         near: &[("near zero", &[(-9, 9), (-9, 9), (0, 9), (0, 9)])],
         named: &[&[1_048_576, 0, 16_384, 1], &[-1_048_576, 0, 0, 0]],
     },
@@ -43,7 +43,7 @@ pub const SUBJECTS: [Subject; 9] = [
         numbers: &[0, 4],
         ours: |c| edge(restoration::region_bottom(region(c))),
         rule: |c| ruled(expected::bottom(wide(c)), |edge| [edge]),
-        rust: |c| Answer::new(0, &[original(c).bottom().into()]),
+        original: |c| Answer::new(0, &[original(c).bottom().into()]),
         near: &[("near zero", &[(-9, 9), (-9, 9), (0, 9), (0, 9)])],
         named: &[&[0, 1_048_576, 1, 16_384], &[0, -1_048_576, 0, 0]],
     },
@@ -58,7 +58,7 @@ pub const SUBJECTS: [Subject; 9] = [
                 [i128::from(holds)]
             })
         },
-        rust: |c| Answer::new(0, &[i128::from(original(c).contains(original(&c[4..])))]),
+        original: |c| Answer::new(0, &[i128::from(original(c).contains(original(&c[4..])))]),
         near: &[("near zero", TWO_NEAR)],
         named: &[
             &[0, 0, 8, 8, 100, 100, 0, 5],
@@ -77,7 +77,7 @@ pub const SUBJECTS: [Subject; 9] = [
             whole(restoration::region_translate(region(c), x, y))
         },
         rule: |c| ruled(expected::translate(wide(c), c[4], c[5]), of_wide),
-        rust: |c| accepted(original(c).translate(c[4] as i32, c[5] as i32)),
+        original: |c| accepted(original(c).translate(c[4] as i32, c[5] as i32)),
         near: &[(
             "near zero",
             &[(-3, 3), (-3, 3), (0, 2), (0, 2), (-4, 4), (-4, 4)],
@@ -98,7 +98,7 @@ pub const SUBJECTS: [Subject; 9] = [
             whole(restoration::region_intersection(a, b))
         },
         rule: |c| ruled(expected::intersection(wide(c), wide(&c[4..])), of_wide),
-        rust: |c| accepted(original(c).intersection(original(&c[4..]))),
+        original: |c| accepted(original(c).intersection(original(&c[4..]))),
         near: &[("near zero", TWO_NEAR)],
         named: &[
             &[0, 0, 8, 8, 8, 0, 8, 8],
@@ -113,7 +113,7 @@ pub const SUBJECTS: [Subject; 9] = [
         numbers: &[0, 4],
         ours: |c| whole(restoration::region_pad(region(c), c[4] as u32)),
         rule: |c| ruled(expected::pad(wide(c), c[4]), of_wide),
-        rust: |c| accepted(original(c).pad(c[4] as u32)),
+        original: |c| accepted(original(c).pad(c[4] as u32)),
         near: &[("near zero", &[(-5, 5), (-5, 5), (0, 5), (0, 5), (0, 9)])],
         named: &[
             &[-3, 2, 5, 6, 3],
@@ -129,7 +129,7 @@ pub const SUBJECTS: [Subject; 9] = [
         numbers: &[0, 4, 9],
         ours: |c| whole(restoration::region_downsample(region(c), c[4] as u32)),
         rule: |c| ruled(expected::downsample(wide(c), c[4]), of_wide),
-        rust: |c| accepted(original(c).downsample(c[4] as u32)),
+        original: |c| accepted(original(c).downsample(c[4] as u32)),
         near: &[
             ("columns", &[(-18, 18), (-3, 3), (0, 17), (0, 2), (0, 17)]),
             ("rows", &[(-3, 3), (-18, 18), (0, 2), (0, 17), (0, 17)]),
@@ -152,7 +152,7 @@ pub const SUBJECTS: [Subject; 9] = [
             whole(restoration::region_container_aligned(region(c), dim))
         },
         rule: |c| ruled(expected::container_aligned(wide(c), c[4]), of_wide),
-        rust: |c| accepted(oracle::container_aligned(original(c), c[4] as u32)),
+        original: |c| accepted(oracle::container_aligned(original(c), c[4] as u32)),
         near: &[
             ("columns", &[(-18, 18), (-3, 3), (0, 17), (0, 2), (0, 33)]),
             ("rows", &[(-3, 3), (-18, 18), (0, 2), (0, 17), (0, 33)]),

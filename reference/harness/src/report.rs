@@ -2,20 +2,20 @@
 
 use std::{fmt::Debug, time::Instant};
 
-/// Differences that are written out for a row.
+/// How many differences of a row are printed.
 const SHOWN: u64 = 5;
 
 /// How much is compared.
 #[derive(Clone, Copy)]
 pub enum Amount {
-    /// All cases, and so many times the random ones.
+    /// All cases; the random ones are multiplied.
     All(u64),
-    /// Of each row a thousand cases or more, or all that it has, for a run under valgrind.
+    /// At least a thousand cases of each row, or all if it has fewer, for a run under valgrind.
     Some,
 }
 
 impl Amount {
-    /// Of a kind of which a row has few cases.
+    /// How many cases of a row that has few.
     pub fn few(self, cases: u64) -> u64 {
         match self {
             Self::All(scale) => cases * scale,
@@ -24,26 +24,27 @@ impl Amount {
     }
 }
 
-/// With some cases, so many of a row before any is passed over.
+/// `Amount::Some` compares this many cases of a row before it skips any.
 const ENOUGH: u64 = 1_000;
-/// With some cases, each second after so many, each fourth after twice as many, and so on.
+/// `Amount::Some` then compares every second case after this many, every fourth after twice as many,
+/// and so on.
 const THINNED: u64 = 256;
-/// How often a number must be due that a row has to show.
+/// How often a required number must be expected.
 const SEEN: u64 = 1_000;
 
 /// One line of the table.
 pub struct Row {
     subject: &'static str,
     inputs: &'static str,
-    /// Cases at hand or draws so far, whether they are compared or not.
+    /// Cases or draws so far, whether they are compared or not.
     offered: u64,
     cases: u64,
     differ: u64,
-    /// How often each of document 01's numbers was due; 0 is an accepted call.
+    /// How often each number was expected; 0 is an accepted call.
     numbers: [u64; 12],
-    /// Pictures of which the cases are bands.
+    /// Pictures whose bands are the cases.
     pictures: u64,
-    /// Those that must be due often enough.
+    /// The numbers that must be expected often enough.
     required: &'static [u32],
 }
 
@@ -61,8 +62,8 @@ impl Row {
         }
     }
 
-    /// Whether the next of the cases at hand is compared: of some cases the first thousand and
-    /// then ever fewer.
+    /// Whether the next case is compared. With `Amount::Some` these are the first thousand and then fewer
+    /// and fewer.
     pub fn takes(&mut self, amount: Amount) -> bool {
         let n = self.offered;
         self.offered += 1;
@@ -74,7 +75,7 @@ impl Row {
         }
     }
 
-    /// Whether another random draw is made, of so many before `--scale`.
+    /// Whether there is another random draw; `draws` is their number before `--scale`.
     pub fn draws(&mut self, draws: u64, amount: Amount) -> bool {
         self.offered += 1;
         match amount {
@@ -83,7 +84,7 @@ impl Row {
         }
     }
 
-    /// A picture that is compared band by band, and then with all its bands in one set.
+    /// A picture that is compared band by band, and then as a whole.
     pub fn by_bands(&mut self) {
         self.pictures += 1;
     }
@@ -93,8 +94,8 @@ impl Row {
         self.numbers[number as usize] += 1;
     }
 
-    /// Where all cases are compared, each of these numbers must have been due a thousand times, or
-    /// the row counts as differing.
+    /// If all cases are compared, each of these numbers must have been expected a thousand times, or the
+    /// row counts as differing.
     pub fn require(&mut self, numbers: &'static [u32], amount: Amount) {
         let Amount::All(_) = amount else {
             return;
@@ -103,17 +104,17 @@ impl Row {
         for &number in numbers {
             let seen = self.numbers[number as usize];
             if seen < SEEN {
-                self.differs(&("times that a number was due", number), &seen, &SEEN);
+                self.differs(&("times that a number was expected", number), &seen, &SEEN);
             }
         }
     }
 
-    pub fn differs(&mut self, case: &dyn Debug, given: &dyn Debug, due: &dyn Debug) {
+    pub fn differs(&mut self, case: &dyn Debug, given: &dyn Debug, expected: &dyn Debug) {
         self.differ += 1;
         if self.differ <= SHOWN {
             println!("{} at {case:?}", self.subject);
-            println!("  given {given:?}");
-            println!("  due   {due:?}");
+            println!("  given    {given:?}");
+            println!("  expected {expected:?}");
         }
     }
 
@@ -122,9 +123,9 @@ impl Row {
         self.differ
     }
 
-    /// Each number with how often it was due, and a mark where that had to be often enough.
-    fn due(&self) -> String {
-        let due: Vec<String> = (0..)
+    /// How often each number was expected, with a mark at the required ones.
+    fn counts(&self) -> String {
+        let counts: Vec<String> = (0..)
             .zip(self.numbers)
             .filter(|&(_, times)| times > 0)
             .map(|(number, times): (u32, u64)| {
@@ -136,10 +137,10 @@ impl Row {
                 format!("{number}: {times}{mark}")
             })
             .collect();
-        due.join(", ")
+        counts.join(", ")
     }
 
-    /// What a case is, where it is not a call or a picture.
+    /// What a case is if it is not a call or a picture.
     fn unit(&self) -> String {
         if self.pictures == 0 {
             return String::new();
@@ -165,10 +166,10 @@ impl Report {
         self.rows.push(row);
     }
 
-    /// Prints the table; true where nothing differs.
+    /// Prints the table and answers whether nothing differs.
     pub fn finish(&self) -> bool {
         println!(
-            "{:<18} {:<14} {:>9} {:>7}  numbers due (0 is accepted, * must be due {SEEN} times)",
+            "{:<18} {:<14} {:>9} {:>7}  numbers expected (0 is accepted, * must be expected {SEEN} times)",
             "compared", "inputs", "cases", "differ"
         );
         for row in &self.rows {
@@ -178,7 +179,7 @@ impl Report {
                 row.inputs,
                 row.cases,
                 row.differ,
-                row.due(),
+                row.counts(),
                 row.unit()
             );
         }

@@ -1,9 +1,9 @@
-//! Pictures at the ends of the finite floats: wholly subnormal, or wholly near overflow. All samples of
-//! one picture are scaled by the same power of two.
+//! Pictures at either end of the range of finite floats: all samples subnormal, or all near overflow. All
+//! samples of a picture are scaled by the same power of two.
 
 use crate::{picture::plain, random::Random};
 
-/// Which end the samples of a picture lie at.
+/// Which end of the range.
 #[derive(Debug, Clone, Copy)]
 pub enum End {
     Subnormal,
@@ -12,11 +12,11 @@ pub enum End {
 
 pub const ENDS: [End; 2] = [End::Subnormal, End::NearOverflow];
 
-/// Samples are from 1 to this many times a power of two: 2 - 2^-22, which is less than 2 after rounding
-/// to the smallest number too.
+/// The largest sample before scaling; the smallest is 1. 2 - 2^-22 stays below 2 even after rounding to
+/// the smallest subnormal.
 const MOST: f32 = 2.0 - 1.0 / (1 << 22) as f32;
 
-/// What a picture's samples are multiplied by.
+/// The power of two that a picture's samples are multiplied by.
 #[derive(Debug, Clone, Copy)]
 pub struct Scale {
     end: End,
@@ -31,8 +31,8 @@ impl End {
         }
     }
 
-    /// A power with which all samples are subnormal; or one with which all are finite and the sums of
-    /// a few of them may not be.
+    /// A power with which all samples are subnormal, or one with which all are finite but the sum of a few
+    /// may not be.
     pub fn draw(self, random: &mut Random) -> Scale {
         let (least, most) = self.powers();
         let power = random.within(least.into(), most.into()) as i32;
@@ -55,7 +55,7 @@ impl End {
 }
 
 impl Scale {
-    /// Samples that differ much or little, all positive, all negative, or of either sign.
+    /// Samples that differ by much or little; all positive, all negative, or of either sign.
     pub fn samples(self, count: usize, random: &mut Random) -> Vec<f32> {
         let depth = random.one_of(&[0.5, 0.05, 0.01, 0.002]);
         let signs: &[f32] = random.one_of(&[&[1.0], &[1.0], &[-1.0], &[1.0, -1.0]]);
@@ -68,8 +68,8 @@ impl Scale {
         samples
     }
 
-    /// Channel scales divided by the power and perhaps a little more, so that neighbours have weight; finite
-    /// ones stay finite.
+    /// Channel scales divided by the power, and sometimes by a little more, so that neighbours have weight.
+    /// Finite ones stay finite.
     pub fn channel_scale(self, scale: [f32; 3], random: &mut Random) -> [f32; 3] {
         let more = random.one_of(&[0, 4, 8]);
         scale.map(|scale| {

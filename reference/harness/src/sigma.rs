@@ -1,22 +1,27 @@
-//! Block sigmas: frames of 1 to 4 groups each way with filter regions where groups meet, grids that
-//! are missing or too narrow, and refusals.
+//! Block sigmas: frames of 1 to 4 groups per row and column, filter regions where groups meet, grids
+//! that are missing or too small, and refusals.
 
 use core::{fmt, hint::black_box};
 
+use restoration::{
+    BLOCK, Blocks, CHANNELS, GROUP_DIM, MAX_AREA, MAX_GRID_SIDE, MAX_GROUP_SIZE_SHIFT,
+    MAX_LF_LEVEL, MAX_OFFSET, MAX_SIDE, TABLE_ENTRY,
+};
+
 use crate::{
-    bits,
+    bits, convert,
     expected::{self, sigma as rule},
-    picture::{agree, any_flag, any_len, judge, plain, special},
+    picture::{agree, any_flag, any_len, compare_answer, plain, special},
     random::Random,
     report::{Amount, Report, Row},
 };
 
-/// Filter regions where groups meet for each count of groups, before `--scale`, by group size shift.
+/// Filter regions where groups meet, for each number of groups, before `--scale`; by group size shift.
 const MEETINGS: [u64; 4] = [40, 10, 3, 2];
-/// The most groups each way by group size shift.
+/// The most groups per row and column, by group size shift.
 pub const GROUPS: [u32; 4] = [4, 4, 4, 2];
 
-/// A group size shift: larger groups have larger grids, so they are drawn less often.
+/// A group size shift. Larger groups have larger grids, so they are drawn less often.
 pub const fn seldom_large(n: u64) -> u32 {
     match n {
         0 => 3,
@@ -26,26 +31,38 @@ pub const fn seldom_large(n: u64) -> u32 {
     }
 }
 
-/// Frames with narrow grids, before `--scale`.
+/// Frames with grids that are too small, before `--scale`.
 const NARROW: u64 = 2_000;
-/// Draws of wrong inputs, before `--scale`.
+/// Draws of damaged inputs, before `--scale`.
 const DRAWS: u64 = 60_000;
-/// Cells of a grid repeat after so many, a prime that is no sum of few rows.
+/// Cells of a grid repeat after this many: a prime, so that rows and grids do not repeat with it.
 const PERIOD: usize = 8_191;
 
 const NAME: &str = "block sigmas";
-/// The numbers that block sigmas can give.
+/// The numbers that block sigmas can answer.
 const NUMBERS: [u32; 5] = [0, 4, 7, 8, 9];
 
-/// Sides of frames and filter regions, and corners in blocks, at their limits.
-const SIDES: [u32; 6] = [0, 1, 8, 16_384, 16_385, u32::MAX];
-const CORNERS: [u32; 5] = [127, 128, 131_072, 131_073, u32::MAX];
+/// Sides of frames and filter regions, and left and top in blocks, at their limits.
+pub const SIDES: [u32; 6] = [0, 1, BLOCK, MAX_SIDE, MAX_SIDE + 1, u32::MAX];
+const CORNERS: [u32; 5] = [
+    GROUP_DIM - 1,
+    GROUP_DIM,
+    MAX_OFFSET as u32 / BLOCK,
+    MAX_OFFSET as u32 / BLOCK + 1,
+    u32::MAX,
+];
+/// Presences out of range, and sides of grids at their limits.
+const PRESENCES: [u32; 3] = [2, 3, u32::MAX];
+const GRID_SIDES: [u32; 5] = [0, 1, MAX_GRID_SIDE, MAX_GRID_SIDE + 1, u32::MAX];
+/// Samples along a side of a group whose group size shift is 0.
+const GROUP: u32 = BLOCK * GROUP_DIM;
 
-/// What is asked but the lent sigmas. The filter region's left and top are in blocks.
+/// The inputs of block sigmas, without the buffer for the sigmas. The filter region's left and top are in
+/// blocks.
 #[derive(Clone)]
 pub struct Case {
     pub frame: oracle::Frame,
-    pub blocks: restoration::Blocks,
+    pub blocks: Blocks,
     pub table: Vec<u32>,
     pub grids: Vec<f32>,
     pub modular: f32,
@@ -64,31 +81,19 @@ impl fmt::Debug for Case {
 
 impl Case {
     pub fn ours(&self, on: u32, sigmas: &mut [f32]) -> u32 {
-        let frame = restoration::Frame {
-            width: self.frame.width,
-            height: self.frame.height,
-            upsampling: self.frame.upsampling,
-            lf_level: self.frame.lf_level,
-            group_size_shift: self.frame.group_size_shift,
-        };
+        let frame = convert::frame(self.frame);
         restoration::block_sigmas(
             on, frame, self.blocks, &self.table, &self.grids, self.modular, sigmas,
         )
     }
 
-    fn handed(&self, on: u32, sigmas: usize) -> rule::Handed<'_> {
-        rule::Handed {
+    fn input(&self, on: u32, sigmas: usize) -> rule::Input<'_> {
+        rule::Input {
             on,
-            frame: rule::Frame {
-                width: self.frame.width.into(),
-                height: self.frame.height.into(),
-                upsampling: self.frame.upsampling.into(),
-                lf_level: self.frame.lf_level.into(),
-                group_size_shift: self.frame.group_size_shift.into(),
-            },
+            frame: convert::wide_frame(self.frame),
             filter: expected::Region {
-                left: 8 * i128::from(self.blocks.left),
-                top: 8 * i128::from(self.blocks.top),
+                left: i128::from(BLOCK) * i128::from(self.blocks.left),
+                top: i128::from(BLOCK) * i128::from(self.blocks.top),
                 width: self.blocks.width.into(),
                 height: self.blocks.height.into(),
             },
@@ -98,38 +103,38 @@ impl Case {
         }
     }
 
-    /// Table and grids have the bits that they had.
+    /// Table and grids have the same bits as before.
     fn is_left_as(&self, before: &Self) -> bool {
         *black_box(&self.table) == before.table && bits::same(&self.grids, &before.grids)
     }
 
-    /// The filter region of a case that is accepted.
+    /// The filter region of an accepted case.
     pub fn filter(&self) -> oracle::Region {
         oracle::Region {
-            left: 8 * self.blocks.left as i32,
-            top: 8 * self.blocks.top as i32,
+            left: (BLOCK * self.blocks.left) as i32,
+            top: (BLOCK * self.blocks.top) as i32,
             width: self.blocks.width,
             height: self.blocks.height,
         }
     }
 
-    /// The grids of a case that is accepted.
-    pub fn rust_grids(&self) -> Vec<Option<oracle::SigmaGrid>> {
-        rust_grids(&self.table, &self.grids)
+    /// The grids of an accepted case, for the original.
+    pub fn original_grids(&self) -> Vec<Option<oracle::SigmaGrid>> {
+        original_grids(&self.table, &self.grids)
     }
 
-    /// Blocks of the filter region; one where it is larger than any.
+    /// Blocks of the filter region; 1 if the region is too large.
     pub fn count(&self) -> usize {
-        let (width, height) = (self.blocks.width as usize, self.blocks.height as usize);
-        if width.max(height) > 16_384 || width * height > 16_777_216 {
+        let Blocks { width, height, .. } = self.blocks;
+        if width.max(height) > MAX_SIDE || width * height > MAX_AREA {
             return 1;
         }
-        width.div_ceil(8) * height.div_ceil(8)
+        (width.div_ceil(BLOCK) * height.div_ceil(BLOCK)) as usize
     }
 }
 
-/// The grids of a table with its cells, as the original has them.
-pub fn rust_grids(table: &[u32], grids: &[f32]) -> Vec<Option<oracle::SigmaGrid>> {
+/// The grids of a table and its cells, for the original.
+pub fn original_grids(table: &[u32], grids: &[f32]) -> Vec<Option<oracle::SigmaGrid>> {
     let mut rest = grids;
     let mut grid = |entry: &[u32]| {
         let (width, height) = (entry[1] as usize, entry[2] as usize);
@@ -141,7 +146,7 @@ pub fn rust_grids(table: &[u32], grids: &[f32]) -> Vec<Option<oracle::SigmaGrid>
         })
     };
     table
-        .chunks_exact(3)
+        .chunks_exact(TABLE_ENTRY)
         .map(|entry| if entry[0] == 1 { grid(entry) } else { None })
         .collect()
 }
@@ -149,7 +154,7 @@ pub fn rust_grids(table: &[u32], grids: &[f32]) -> Vec<Option<oracle::SigmaGrid>
 pub fn compare(amount: Amount, report: &mut Report) {
     let mut random = Random::for_name(NAME);
     let mut row = Row::new(NAME, "instances");
-    for shift in 0..4 {
+    for shift in 0..=MAX_GROUP_SIZE_SHIFT {
         for case in carried(shift, &mut random) {
             carry(&case, &mut random, &mut row);
         }
@@ -178,7 +183,7 @@ pub fn compare(amount: Amount, report: &mut Report) {
     whole_frames(&mut random, report);
     let mut row = Row::new(NAME, "refusals");
     while row.draws(DRAWS, amount) {
-        wrong(&mut random, &mut row);
+        damaged(&mut random, &mut row);
     }
     row.require(&NUMBERS, amount);
     report.add(row);
@@ -186,8 +191,13 @@ pub fn compare(amount: Amount, report: &mut Report) {
 
 fn whole_frames(random: &mut Random, report: &mut Report) {
     let mut row = Row::new(NAME, "whole frames");
-    for (width, height) in [(16_384, 64), (64, 16_384), (2_040, 1_500), (1_500, 2_044)] {
-        for shift in 0..4 {
+    for (width, height) in [
+        (MAX_SIDE, 64),
+        (64, MAX_SIDE),
+        (2_040, 1_500),
+        (1_500, 2_044),
+    ] {
+        for shift in 0..=MAX_GROUP_SIZE_SHIFT {
             let case = whole(shift, width, height, random);
             check(&case, 1, case.count(), random, &mut row);
         }
@@ -195,49 +205,49 @@ fn whole_frames(random: &mut Random, report: &mut Report) {
     report.add(row);
 }
 
-/// The number and the sigmas are the rule's, and the sigmas are the original's in all rows that it
-/// shows.
-fn check(case: &Case, on: u32, lent: usize, random: &mut Random, row: &mut Row) {
-    let mut before: Vec<f32> = (0..lent).map(|_| special(random)).collect();
+/// The number and the sigmas must be the rule's, and the sigmas also the original's, in all rows in which
+/// the original shows them.
+fn check(case: &Case, on: u32, len: usize, random: &mut Random, row: &mut Row) {
+    let mut before: Vec<f32> = (0..len).map(|_| special(random)).collect();
     bits::sprinkle(&mut before, random);
     let mut ours = before.clone();
-    let handed = case.handed(on, lent);
-    let number = rule::number(handed);
+    let input = case.input(on, len);
+    let number = rule::number(input);
     let read = (number != 0).then(|| case.clone());
     let given = case.ours(on, &mut ours);
     if number != 0 || on == 0 {
-        let due = (number, &before[..]);
-        judge(case, (0, 0), (given, &ours), due, &|_| false, row);
+        let expected = (number, &before[..]);
+        compare_answer(case, (0, 0), (given, &ours), expected, &|_| false, row);
         if read.is_some_and(|read| !case.is_left_as(&read)) {
             row.differs(case, &"a changed table or grid", &"left");
         }
         return;
     }
-    let due = rule::sigmas(handed, &case.grids, case.modular);
-    judge(case, (0, 0), (given, &ours), (0, &due), &|_| true, row);
+    let expected = rule::sigmas(input, &case.grids, case.modular);
+    compare_answer(case, (0, 0), (given, &ours), (0, &expected), &|_| true, row);
     let shown = oracle::sigma_rows(
         case.filter(),
         case.frame,
-        &case.rust_grids(),
+        &case.original_grids(),
         settings(case.modular),
     );
     assert!(case.blocks.height < 7 || !shown.is_empty());
-    let across = case.blocks.width.div_ceil(8) as usize;
-    for (y, rust) in shown {
-        let at = (y / 8 - case.blocks.top as usize) * across;
-        let same = ours[at..].iter().zip(&rust).all(|(a, b)| agree(*a, *b));
-        if !same || rust.len() != across {
-            row.differs(&(case, y), &&ours[at..at + across], &rust);
+    let across = case.blocks.width.div_ceil(BLOCK) as usize;
+    for (y, original) in shown {
+        let at = (y / BLOCK as usize - case.blocks.top as usize) * across;
+        let same = ours[at..].iter().zip(&original).all(|(a, b)| agree(*a, *b));
+        if !same || original.len() != across {
+            row.differs(&(case, y), &&ours[at..at + across], &original);
         }
     }
 }
 
-/// Settings of one iteration; the original's sigmas depend on `sigma_for_modular` alone.
+/// Settings for one iteration; block sigmas depend on `sigma_for_modular` alone.
 fn settings(sigma_for_modular: f32) -> oracle::Edge {
     oracle::Edge {
         iters: 1,
         sharp_lut: [0.0; 8],
-        channel_scale: [1.0; 3],
+        channel_scale: [1.0; CHANNELS],
         sigma: oracle::Sigma {
             quant_mul: 1.0,
             pass0_sigma_scale: 1.0,
@@ -248,21 +258,21 @@ fn settings(sigma_for_modular: f32) -> oracle::Edge {
     }
 }
 
-/// Group row 0 has grids, row 1 none, and a filter region of one block column around their meeting.
+/// Group row 0 has grids, row 1 has none; a filter region of one block column where they meet.
 pub fn carried(shift: u32, random: &mut Random) -> [Case; 4] {
-    let dim = 128 << shift;
+    let dim = GROUP_DIM << shift;
     [(dim - 1, 16), (dim - 2, 39), (dim, 16), (dim + 1, 8)].map(|(top, height)| Case {
         frame: oracle::Frame {
-            width: 8,
-            height: 8 * dim + 8,
+            width: BLOCK,
+            height: BLOCK * (dim + 1),
             upsampling: 1,
             lf_level: 0,
             group_size_shift: shift,
         },
-        blocks: restoration::Blocks {
+        blocks: Blocks {
             left: 0,
             top,
-            width: 8,
+            width: BLOCK,
             height,
         },
         table: vec![1, 1, dim, 0, 0, 0],
@@ -271,7 +281,7 @@ pub fn carried(shift: u32, random: &mut Random) -> [Case; 4] {
     })
 }
 
-/// Blocks of group row 1 repeat the last row above, where the filter region has it.
+/// Blocks of group row 1 repeat the last block row above, if that is in the filter region.
 fn carry(case: &Case, random: &mut Random, row: &mut Row) {
     check(case, 1, case.count(), random, row);
     let mut sigmas = vec![0.0; case.count()];
@@ -288,25 +298,25 @@ fn carry(case: &Case, random: &mut Random, row: &mut Row) {
     }
 }
 
-/// A frame of so many groups each way, and a filter region around a corner of one of its groups.
-/// A narrow grid lacks a column or a row of its blocks.
+/// A frame with these groups per row and column, and a filter region near a corner of one of them. A
+/// narrow grid lacks a column or a row of its blocks.
 pub fn meeting(shift: u32, groups: (u32, u32), narrow: bool, random: &mut Random) -> Case {
     let frame = frame(shift, groups, random);
-    let dim = 128 << shift;
+    let dim = GROUP_DIM << shift;
     let (left, columns) = around(dim, groups.0, random);
     let (top, rows) = around(dim, groups.1, random);
-    let part = |random: &mut Random| random.within(0, 7) as u32;
-    let blocks = restoration::Blocks {
+    let part = |random: &mut Random| random.within(0, (BLOCK - 1).into()) as u32;
+    let blocks = Blocks {
         left,
         top,
-        width: 8 * columns - part(random),
-        height: 8 * rows - part(random),
+        width: BLOCK * columns - part(random),
+        height: BLOCK * rows - part(random),
     };
     filled(frame, blocks, groups, narrow, random)
 }
 
-/// Blocks around a place where groups of so many blocks meet, or at an end of the frame: the first
-/// and their count.
+/// Blocks near a place where groups of `dim` blocks meet, or near an end of the frame: the first block
+/// and the number of blocks.
 fn around(dim: u32, groups: u32, random: &mut Random) -> (u32, u32) {
     let place = dim * random.within(0, groups.into()) as u32;
     let first = place.saturating_sub(random.within(0, 6) as u32);
@@ -315,18 +325,21 @@ fn around(dim: u32, groups: u32, random: &mut Random) -> (u32, u32) {
     (first, random.within(1, most.into()) as u32)
 }
 
-/// A frame that has so many groups each way, with any upsampling and LF level that leave room.
+/// A frame with these groups per row and column, with any upsampling and LF level that its size allows.
 pub fn frame(shift: u32, groups: (u32, u32), random: &mut Random) -> oracle::Frame {
-    let group = 1_024 << shift;
+    let group = GROUP << shift;
     let least = |groups: u32| (groups - 1) * group + 1;
     let largest = least(groups.0.max(groups.1));
-    let (mut upsampling, mut lf_level) = (1 << random.within(0, 3), random.within(0, 4) as u32);
-    if (upsampling << (3 * lf_level)) * largest > 16_384 {
+    let (mut upsampling, mut lf_level) = (
+        1 << random.within(0, 3),
+        random.within(0, MAX_LF_LEVEL.into()) as u32,
+    );
+    if (upsampling << (3 * lf_level)) * largest > MAX_SIDE {
         (upsampling, lf_level) = (1, 0);
     }
     let shrink: u32 = upsampling << (3 * lf_level);
     let mut side = |groups: u32| {
-        let most = (groups * group).min(16_384 / shrink);
+        let most = (groups * group).min(MAX_SIDE / shrink);
         let samples = random.within(least(groups).into(), most.into()) as u32;
         samples * shrink - random.within(0, i128::from(shrink) - 1) as u32
     };
@@ -339,15 +352,15 @@ pub fn frame(shift: u32, groups: (u32, u32), random: &mut Random) -> oracle::Fra
     }
 }
 
-/// Grids for the blocks: each is missing, just large enough, a little larger, or narrow.
+/// Grids for the blocks. Each is missing, just large enough, a little larger, or narrow.
 pub fn filled(
     frame: oracle::Frame,
-    blocks: restoration::Blocks,
+    blocks: Blocks,
     (across, down): (u32, u32),
     narrow: bool,
     random: &mut Random,
 ) -> Case {
-    let dim = 128 << frame.group_size_shift;
+    let dim = GROUP_DIM << frame.group_size_shift;
     let mut table = Vec::new();
     let mut cells = 0;
     for group in 0..across * down {
@@ -376,9 +389,9 @@ pub fn filled(
     }
 }
 
-/// Cells of a group's grid that the blocks need along one direction.
+/// How many cells of a group's grid the blocks need on one axis.
 pub fn needed(group: u32, dim: u32, first: u32, side: u32) -> u32 {
-    let past = first + side.div_ceil(8);
+    let past = first + side.div_ceil(BLOCK);
     let start = group * dim;
     if past <= start || first >= start + dim {
         return 0;
@@ -386,7 +399,7 @@ pub fn needed(group: u32, dim: u32, first: u32, side: u32) -> u32 {
     (past - start).min(dim)
 }
 
-/// A filter region that is large, from the corner of the frame on.
+/// A large filter region at the corner of the frame.
 fn whole(shift: u32, width: u32, height: u32, random: &mut Random) -> Case {
     let frame = oracle::Frame {
         width,
@@ -395,13 +408,13 @@ fn whole(shift: u32, width: u32, height: u32, random: &mut Random) -> Case {
         lf_level: 0,
         group_size_shift: shift,
     };
-    let blocks = restoration::Blocks {
+    let blocks = Blocks {
         left: 0,
         top: 0,
         width,
         height,
     };
-    let groups = |side: u32| side.div_ceil(1_024 << shift);
+    let groups = |side: u32| side.div_ceil(GROUP << shift);
     filled(
         frame,
         blocks,
@@ -411,27 +424,27 @@ fn whole(shift: u32, width: u32, height: u32, random: &mut Random) -> Case {
     )
 }
 
-/// A sound case with one to three things wrong.
-fn wrong(random: &mut Random, row: &mut Row) {
+/// A valid case, damaged in one to three places.
+fn damaged(random: &mut Random, row: &mut Row) {
     let groups = (random.within(1, 2) as u32, random.within(1, 2) as u32);
     let narrow = random.once_in(4);
     let mut case = meeting(0, groups, narrow, random);
     let mut on = u32::from(!random.once_in(8));
-    let mut lent = on as usize * case.count();
+    let mut len = on as usize * case.count();
     for _ in 0..random.within(1, 3) {
         match random.within(0, 4) {
-            0 => wrong_frame(&mut case.frame, random),
+            0 => damage_frame(&mut case.frame, random),
             1 => {
-                wrong_blocks(&mut case.blocks, random);
-                lent = case.count();
+                damage_blocks(&mut case.blocks, random);
+                len = case.count();
             }
-            2 => wrong_table(&mut case.table, random),
+            2 => damage_table(&mut case.table, random),
             3 => {
-                let due = any_len(case.grids.len(), random);
-                case.grids.resize(due, 1.0);
+                let cells = any_len(case.grids.len(), random);
+                case.grids.resize(cells, 1.0);
             }
             _ => {
-                lent = any_len(lent, random);
+                len = any_len(len, random);
                 if random.once_in(4) {
                     on = any_flag(random);
                 }
@@ -439,10 +452,10 @@ fn wrong(random: &mut Random, row: &mut Row) {
         }
     }
     bits::sprinkle(&mut case.grids, random);
-    check(&case, on, lent, random, row);
+    check(&case, on, len, random, row);
 }
 
-pub fn wrong_frame(frame: &mut oracle::Frame, random: &mut Random) {
+pub fn damage_frame(frame: &mut oracle::Frame, random: &mut Random) {
     match random.within(0, 4) {
         0 => frame.width = random.one_of(&SIDES),
         1 => frame.height = random.one_of(&SIDES),
@@ -452,7 +465,7 @@ pub fn wrong_frame(frame: &mut oracle::Frame, random: &mut Random) {
     }
 }
 
-fn wrong_blocks(blocks: &mut restoration::Blocks, random: &mut Random) {
+fn damage_blocks(blocks: &mut Blocks, random: &mut Random) {
     match random.within(0, 4) {
         0 => blocks.width = random.one_of(&SIDES),
         1 => blocks.height = random.one_of(&SIDES),
@@ -462,21 +475,22 @@ fn wrong_blocks(blocks: &mut restoration::Blocks, random: &mut Random) {
     }
 }
 
-pub fn wrong_table(table: &mut Vec<u32>, random: &mut Random) {
-    let entry = 3 * random.within(0, table.len() as i128 / 3 - 1).max(0) as usize;
-    if table.len() < entry + 3 {
+pub fn damage_table(table: &mut Vec<u32>, random: &mut Random) {
+    let entries = (table.len() / TABLE_ENTRY) as i128;
+    let entry = TABLE_ENTRY * random.within(0, entries - 1).max(0) as usize;
+    if table.len() < entry + TABLE_ENTRY {
         return;
     }
     match random.within(0, 4) {
-        0 => table[entry] = random.one_of(&[2, 3, u32::MAX]),
-        1 => table[entry + 1] = random.one_of(&[0, 1, 1_024, 1_025, u32::MAX]),
-        2 => table[entry + 2] = random.one_of(&[0, 1, 1_024, 1_025, u32::MAX]),
+        0 => table[entry] = random.one_of(&PRESENCES),
+        1 => table[entry + 1] = random.one_of(&GRID_SIDES),
+        2 => table[entry + 2] = random.one_of(&GRID_SIDES),
         3 => table.truncate(any_len(table.len() - 1, random)),
-        _ => table.extend([0, 0, 0]),
+        _ => table.extend([0; TABLE_ENTRY]),
     }
 }
 
-/// Sigmas of so many cells.
+/// Sigmas for this many cells.
 pub fn sigmas(cells: usize, random: &mut Random) -> Vec<f32> {
     let first: Vec<f32> = (0..cells.min(PERIOD)).map(|_| sigma(random)).collect();
     let mut all = Vec::with_capacity(cells);
@@ -486,7 +500,7 @@ pub fn sigmas(cells: usize, random: &mut Random) -> Vec<f32> {
     all
 }
 
-/// A sigma: plain, at the copying limit or beside it, negative, zero, infinite or NaN.
+/// A sigma: plain, at the copying limit or next to it, negative, zero, infinite or NaN.
 pub fn sigma(random: &mut Random) -> f32 {
     match random.within(0, 9) {
         0..=5 => 0.3 + 4.0 * plain(random).abs(),

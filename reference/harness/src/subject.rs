@@ -1,4 +1,4 @@
-//! A function that is compared, and the cases on which it is.
+//! A function that is compared, and its cases.
 
 use crate::{
     kinds::{Draw, Kind},
@@ -6,10 +6,10 @@ use crate::{
     report::{Amount, Report, Row},
 };
 
-/// The most cases that a cross of all limits may have.
+/// The most cases in which all limits are combined.
 const MOST_CROSSED: usize = 10_000_000;
 
-/// A number and the result's fields in order, unused places 0.
+/// A number and the fields of the result in order; unused ones are 0.
 #[derive(Debug, Clone, Copy, PartialEq, Eq)]
 pub struct Answer {
     pub number: u32,
@@ -31,35 +31,35 @@ impl Answer {
     }
 }
 
-/// A named box of inputs, each with its least and largest number.
+/// A named range of inputs: the smallest and largest number of each.
 pub type Near = (&'static str, &'static [(i128, i128)]);
 
 pub struct Subject {
     pub name: &'static str,
-    /// What each input is.
+    /// The kind of each input.
     pub inputs: &'static [&'static Kind],
-    /// How many fields a result has.
+    /// How many fields the result has.
     pub outputs: usize,
-    /// The numbers that the function can give.
+    /// The numbers that the function can answer.
     pub numbers: &'static [u32],
     /// The proved function.
     pub ours: fn(&[i128]) -> Answer,
-    /// Document 01's rule.
+    /// The specification's rule.
     pub rule: fn(&[i128]) -> Answer,
-    /// The original, asked only where the rule refuses nothing.
-    pub rust: fn(&[i128]) -> Answer,
-    /// Boxes of which every case is compared.
+    /// The original; called only if the rule accepts the inputs.
+    pub original: fn(&[i128]) -> Answer,
+    /// Ranges of which every case is compared.
     pub near: &'static [Near],
-    /// Cases that stand first in a record.
+    /// Cases that come first in a record.
     pub named: &'static [&'static [i128]],
 }
 
 impl Subject {
-    /// What is due: the rule's number where it refuses, else what the original gives.
-    pub fn due(&self, case: &[i128]) -> Answer {
+    /// The expected answer: the rule's if it refuses the inputs, else the original's.
+    pub fn expected(&self, case: &[i128]) -> Answer {
         let rule = (self.rule)(case);
         if rule.number == 0 {
-            (self.rust)(case)
+            (self.original)(case)
         } else {
             rule
         }
@@ -91,22 +91,22 @@ impl Subject {
 
     fn check(&self, case: &[i128], row: &mut Row) {
         let rule = (self.rule)(case);
-        let due = self.due(case);
+        let expected = self.expected(case);
         let ours = (self.ours)(case);
-        row.count(due.number);
-        if ours != due {
-            row.differs(&case, &ours, &due);
-        } else if due != rule {
-            row.differs(&case, &due, &rule);
+        row.count(expected.number);
+        if ours != expected {
+            row.differs(&case, &ours, &expected);
+        } else if expected != rule {
+            row.differs(&case, &expected, &rule);
         }
     }
 
-    /// A random case: small, close, in measure, some inputs at limits, or some anywhere.
+    /// A random case: small, close, in range, some inputs at limits, or some anywhere.
     pub fn draw(&self, random: &mut Random) -> Vec<i128> {
         let how = random.one_of(&[
             Draw::Small,
             Draw::Close,
-            Draw::Sound,
+            Draw::Valid,
             Draw::Limits,
             Draw::Any,
         ]);
@@ -116,7 +116,7 @@ impl Subject {
             .collect()
     }
 
-    /// All limits crossed; where these are too many, the chief ones crossed and all in pairs.
+    /// All combinations of limits; if there are too many, those of the main ones, and pairs of all.
     pub fn for_each_limit(&self, visit: &mut dyn FnMut(&[i128])) {
         let edges: Vec<Vec<i128>> = self.inputs.iter().map(|kind| kind.edges()).collect();
         let edges: Vec<&[i128]> = edges.iter().map(Vec::as_slice).collect();
@@ -138,7 +138,7 @@ impl Subject {
     }
 }
 
-/// Every case that has each input in its range.
+/// Every case with each input in its range.
 pub fn for_each_in(ranges: &[(i128, i128)], visit: &mut dyn FnMut(&[i128])) {
     let lists: Vec<Vec<i128>> = ranges
         .iter()
@@ -148,13 +148,13 @@ pub fn for_each_in(ranges: &[(i128, i128)], visit: &mut dyn FnMut(&[i128])) {
     for_each_of(&lists, visit);
 }
 
-/// Every case that has each input in its list.
+/// Every case with each input from its list.
 fn for_each_of(lists: &[&[i128]], visit: &mut dyn FnMut(&[i128])) {
     let mut places = vec![0; lists.len()];
     let mut case: Vec<i128> = lists.iter().map(|list| list[0]).collect();
     loop {
         visit(&case);
-        // The next case: the last input that has another number takes it, those after it start again.
+        // The next case: the last input with a number left takes it, and those after it start again.
         let Some(turn) = (0..lists.len()).rfind(|&i| places[i] + 1 < lists[i].len()) else {
             return;
         };

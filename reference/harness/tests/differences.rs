@@ -1,16 +1,19 @@
-//! The rows of docs/DIFFERENCES.md: each smallest input, asked of the original where it answers, and of the
-//! proved library.
+//! The rows of docs/DIFFERENCES.md: the smallest input of each, with the original's answer, if it has one,
+//! and the proved library's.
 
 use std::panic::{AssertUnwindSafe, catch_unwind};
 
 use oracle::Place;
-use restoration::{Blocks, Encoding, EpfStep, Frame, GaborSettings, Region, Settings, Setup};
+use restoration::{
+    BLOCK, Blocks, CHANNELS, Encoding, EpfSettings, EpfStep, Frame, GaborSettings, Region,
+    Settings, Setup,
+};
 
 /// 2^-24.
 const TINY: f32 = 1.0 / (1 << 24) as f32;
-const DEFAULT_WEIGHTS: [f32; 2] = [0.115_169_525, 0.061_248_592];
+const DEFAULT_WEIGHTS: [f32; 2] = GaborSettings::DEFAULT.weights[0];
 
-/// The number of the edge filter's reader, `sigma_for_modular` and the next bit place.
+/// The number of the edge filter's reader, `sigma_for_modular` and the next bit position.
 fn read_epf(bytes: &[u8], encoding: Encoding) -> (u32, f32, usize) {
     let answer = restoration::read_epf(bytes, 0, encoding);
     (answer.number, answer.epf.sigma_for_modular, answer.next)
@@ -26,7 +29,7 @@ fn at(left: i32, top: i32, width: u32, height: u32) -> Region {
 }
 
 fn sized(width: u32, height: u32) -> Region {
-    at(0, 0, width, height)
+    Region::with_size(width, height)
 }
 
 fn original(r: Region) -> oracle::Region {
@@ -56,35 +59,32 @@ fn panics<T>(call: impl FnOnce() -> T) -> bool {
 }
 
 fn gabor(weights: [f32; 2]) -> GaborSettings {
-    GaborSettings {
-        enabled: 1,
-        weights: [weights; 3],
-    }
+    GaborSettings::with_weights([weights; CHANNELS])
 }
 
-/// The number of a Gabor-like pass over rows of full planes with sets so long.
+/// The number of a Gabor-like pass over rows of the whole image, with sets of this many samples.
 fn gabor_number(image: Region, filter: Region, (from, to): (u32, u32), samples: usize) -> u32 {
     let (source, mut target) = (vec![0.0; samples], vec![0.0; samples]);
     let settings = gabor(DEFAULT_WEIGHTS);
     restoration::gabor_pass(image, filter, 1, settings, from, to, &source, &mut target)
 }
 
-/// The first plane of a Gabor-like pass over a picture that is its filter region, by the original and here.
+/// The first plane of a Gabor-like pass over a whole picture, by the original and by the library.
 fn gabor_planes(width: u32, weights: [f32; 2], plane: &[f32]) -> [Vec<f32>; 2] {
     let height = plane.len() as u32 / width;
     let image = sized(width, height);
-    let rust = oracle::gabor(place(image, image, true), [weights; 3], three(plane));
-    let mut ours = [plane; 3].concat();
+    let original = oracle::gabor(place(image, image, true), [weights; CHANNELS], three(plane));
+    let mut ours = [plane; CHANNELS].concat();
     let source = ours.clone();
     let settings = gabor(weights);
     let number = restoration::gabor_pass(image, image, 1, settings, 0, height, &source, &mut ours);
     assert_eq!(number, 0);
     ours.truncate(plane.len());
-    let [first, ..] = rust;
+    let [first, ..] = original;
     [first, ours]
 }
 
-/// Settings of the original with scales and multipliers of 1, for the first channel alone.
+/// The original's settings with a scale of 1 for the first channel alone, and multipliers of 1.
 fn plain_edge(iters: u32) -> oracle::Edge {
     oracle::Edge {
         iters,
@@ -106,11 +106,12 @@ fn plain_step(step: u32) -> EpfStep {
         channel_scale: [1.0, 0.0, 0.0],
         multiplier: 1.0,
         border_sad_mul: 1.0,
+        ..EpfStep::DEFAULT
     }
 }
 
 fn step_number(filter: Region, step: u32) -> u32 {
-    let samples = 3 * (filter.width * filter.height) as usize;
+    let samples = CHANNELS * (filter.width * filter.height) as usize;
     let (source, mut target) = (vec![0.0; samples], vec![0.0; samples]);
     let settings = plain_step(step);
     restoration::epf_pass(
@@ -127,8 +128,8 @@ fn step_number(filter: Region, step: u32) -> u32 {
 }
 
 const SMALL: oracle::Frame = oracle::Frame {
-    width: 8,
-    height: 8,
+    width: BLOCK,
+    height: BLOCK,
     upsampling: 1,
     lf_level: 0,
     group_size_shift: 0,
@@ -153,56 +154,44 @@ fn grid(width: usize, height: usize, cells: &[f32]) -> Option<oracle::SigmaGrid>
     })
 }
 
-/// The number of block sigmas of a filter region on blocks, with the edge filter on.
+fn block_count(filter: Region) -> usize {
+    (filter.width.div_ceil(BLOCK) * filter.height.div_ceil(BLOCK)) as usize
+}
+
+/// The number of the block sigmas of a filter region on blocks, with the edge filter on.
 fn sigmas_number(f: oracle::Frame, filter: Region, table: &[u32], grids: &[f32]) -> u32 {
     let blocks = Blocks {
-        left: filter.left as u32 / 8,
-        top: filter.top as u32 / 8,
+        left: filter.left as u32 / BLOCK,
+        top: filter.top as u32 / BLOCK,
         width: filter.width,
         height: filter.height,
     };
-    let mut sigmas = vec![0.0; (filter.width.div_ceil(8) * filter.height.div_ceil(8)) as usize];
+    let mut sigmas = vec![0.0; block_count(filter)];
     restoration::block_sigmas(1, frame(f), blocks, table, grids, 1.0, &mut sigmas)
 }
 
 fn setup(image: Region, filter: Region, iterations: u32, band_height: u32) -> Setup {
-    let mut settings: Settings = restoration::Settings {
-        gabor: gabor(DEFAULT_WEIGHTS),
-        epf: restoration::EpfSettings {
-            iters: iterations,
-            channel_scale: [1.0; 3],
-            sigma: restoration::EpfSigma {
-                quant_mul: 1.0,
-                pass0_sigma_scale: 1.0,
-                pass2_sigma_scale: 1.0,
-                border_sad_mul: 1.0,
-            },
-            sigma_for_modular: 1.0,
-        },
+    let epf = EpfSettings {
+        iters: iterations,
+        ..EpfSettings::DEFAULT
     };
-    settings.gabor.enabled = 0;
     Setup {
-        image,
         filter,
-        preserve_outside: 0,
-        settings,
+        settings: Settings {
+            epf,
+            ..Settings::OFF
+        },
         band_height,
+        ..Setup::whole(image)
     }
 }
 
-/// Start on a picture of zeros with a table; block sigmas where there are iterations.
+/// Start on a picture of zeros, with room for block sigmas if there are iterations.
 fn start(setup: Setup, table: &[u32]) -> restoration::RunAnswer {
-    let samples = 3 * (setup.image.width * setup.image.height) as usize;
+    let samples = CHANNELS * (setup.image.width * setup.image.height) as usize;
     let (mut first, second) = (vec![0.0; samples], vec![0.0; samples]);
-    let blocks = setup.filter.width.div_ceil(8) * setup.filter.height.div_ceil(8);
-    let mut sigmas = vec![
-        0.0;
-        if setup.settings.epf.iters > 0 {
-            blocks
-        } else {
-            0
-        } as usize
-    ];
+    let on = usize::from(setup.settings.epf.iters > 0);
+    let mut sigmas = vec![0.0; on * block_count(setup.filter)];
     restoration::start(
         setup,
         frame(SMALL),
@@ -278,7 +267,7 @@ fn filter_regions() {
     assert!(panics(|| oracle::gabor(whole, weights, three(&[7.0, 7.0]))));
     assert_eq!(gabor_number(image, image, (0, 1), 2), 7);
     assert_eq!(gabor_number(image, image, (1, 0), 3), 9);
-    // No rows at all are accepted.
+    // An empty range of rows is accepted.
     assert_eq!(gabor_number(image, image, (1, 1), 3), 0);
 }
 
@@ -359,7 +348,7 @@ fn grids_and_groups() {
     let rows = || oracle::sigma_rows(original(below), SMALL, &grids, edge);
     assert!(panics(rows));
     assert_eq!(sigmas_number(SMALL, below, &[1, 1, 1], &[1.0]), 8);
-    // A grid without a touched block.
+    // A grid that lacks a block of the filter region.
     let two = sized(16, 8);
     let grids = [grid(1, 2, &[1.0, 2.0])];
     let shown = oracle::sigma_rows(original(two), SMALL, &grids, edge);
@@ -382,8 +371,8 @@ fn band_height_and_count() {
 #[test]
 fn a_run_without_passes() {
     let (image, filter) = (sized(2, 1), sized(1, 1));
-    let rust = oracle::filters(place(image, filter, false), None, None, three(&[7.0, 8.0]));
-    assert_eq!(rust, three(&[7.0, 8.0]));
+    let original = oracle::filters(place(image, filter, false), None, None, three(&[7.0, 8.0]));
+    assert_eq!(original, three(&[7.0, 8.0]));
     let answer = start(setup(image, filter, 0, 1), &[0; 3]);
     assert_eq!(answer.number, 0);
     let planes = [7.0, 8.0, 7.0, 8.0, 7.0, 8.0];
@@ -408,17 +397,17 @@ fn gabor_mirrors_at_the_filter_region() {
     let plane = [0.0, 16.0];
     let [part, ..] = oracle::gabor(place(image, filter, true), weights, three(&plane));
     assert_eq!(part, plane);
-    // Over the whole picture the first sample would have 16 × (1/2 + 2 × 1/4) / 4.
+    // Filtered as a whole picture the first sample would be 16 × (1/2 + 2 × 1/4) / 4.
     let [whole, ..] = oracle::gabor(place(image, image, true), weights, three(&plane));
     assert_eq!(whole[0], 4.0);
-    let source = [plane; 3].concat();
+    let source = [plane; CHANNELS].concat();
     let mut target = [1.0; 6];
     let settings = gabor([0.5, 0.25]);
     let number = restoration::gabor_pass(image, filter, 1, settings, 0, 2, &source, &mut target);
     assert_eq!((number, &target[..]), (0, &source[..]));
 }
 
-/// The mirrored kernel on a column of two, summed as inside a picture, and divided by a reciprocal.
+/// The mirrored kernel on a column of two, summed as for an inner sample, times the reciprocal.
 fn mirrored_column([w0, w1]: [f32; 2], [c, u]: [f32; 2]) -> f32 {
     let side = c + c + c + u;
     let diagonal = c + c + u + u;
@@ -438,7 +427,7 @@ fn gabor_order_of_sums() {
 
 #[test]
 fn gabor_divides_by_a_reciprocal() {
-    // 5/2 / 3, of which the sum and the divisor are exact.
+    // 5/2 / 3; sum and divisor are exact.
     for plane in gabor_planes(1, [0.5, 0.0], &[0.0, 5.0]) {
         assert_eq!(plane[0].to_bits(), 0x3F55_5556);
     }
@@ -456,7 +445,7 @@ fn halves() -> Vec<f32> {
     all
 }
 
-/// A channel's unnormalized sum, as the original has it.
+/// A channel's unnormalized sum, computed as in the original.
 fn kernel_sum(w0: f32, w1: f32) -> f32 {
     (1.0 + (w0 + w1) * 4.0).abs()
 }
@@ -509,7 +498,8 @@ fn ignored_fields_may_be_any_bits() {
     assert_eq!(read_epf(&bytes, Encoding::VarDct), (0, 1.0, 85));
 }
 
-/// Step 1 at the first of 0 0 / 2^-24 1 with sigma 2, differences summed in this order of the rule's five.
+/// Step 1 at the first sample of 0 0 / 2^-24 1 with sigma 2, with the five differences summed in this
+/// order.
 fn first_of_four(order: [(isize, isize); 5]) -> f32 {
     let plane = [0.0, 0.0, TINY, 1.0];
     let sample = |(x, y): (isize, isize)| plane[2 * oracle::mirror(y, 2) + oracle::mirror(x, 2)];
@@ -530,16 +520,16 @@ fn first_of_four(order: [(isize, isize); 5]) -> f32 {
 #[test]
 fn step_order_of_sums() {
     let planes = [vec![0.0, 0.0, TINY, 1.0], vec![0.0; 4], vec![0.0; 4]];
-    let mut rust = planes.clone();
+    let mut original = planes.clone();
     oracle::epf_step(
         1,
         plain_edge(1),
         &[2.0],
         (2, 0),
         planes.each_ref().map(Vec::as_slice),
-        rust.each_mut().map(Vec::as_mut_slice),
+        original.each_mut().map(Vec::as_mut_slice),
     );
-    assert_eq!(rust[0][0].to_bits(), 0x3032_B54E);
+    assert_eq!(original[0][0].to_bits(), 0x3032_B54E);
     let (image, source) = (sized(2, 2), planes.concat());
     let mut target = [0.0; 12];
     let settings = plain_step(1);

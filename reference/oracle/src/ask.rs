@@ -1,4 +1,4 @@
-//! Plain functions over the compiled files; nothing here computes what is compared.
+//! Plain functions that call the compiled files; nothing here computes what is compared.
 
 mod filters;
 mod headers;
@@ -12,7 +12,7 @@ pub use crate::filter::rows::{SigmaRows, gabor_plane};
 
 use crate::{Region, util};
 
-/// `Region::container_aligned`, which the original keeps to itself.
+/// `Region::container_aligned`, which is private in the original.
 pub fn container_aligned(region: Region, grid_dim: u32) -> Region {
     region.container_aligned(grid_dim)
 }

@@ -1,8 +1,8 @@
-//! The original Rust, asked through plain functions.
+//! The original Rust behind plain functions.
 //!
 //! `region.rs`, `filter/{epf,gabor,owned}.rs` and `filter/impls/generic*` are compiled whole and
-//! unchanged; `mirror` of `util.rs` and the channel exchange of `image.rs` are taken out of their
-//! files when this is built.
+//! unchanged; `mirror` of `util.rs` and the channel exchange of `image.rs` are extracted from their
+//! files by the build.
 
 extern crate alloc;
 extern crate standins as jxl_grid;

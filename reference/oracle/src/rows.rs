@@ -1,5 +1,5 @@
-//! The original's row functions over lent planes, with the rows that the original's passes hand
-//! them and without its allocations. A module of ours among the original's.
+//! The original's row functions over the caller's planes: called with the same rows as by the original's
+//! passes, but without their allocations. Our only module among the original's.
 
 use core::cell::RefCell;
 
@@ -11,6 +11,9 @@ use super::{
     impls::generic::{self, epf, gabor},
 };
 use crate::util;
+
+/// Samples along a side of a block.
+const BLOCK: usize = 8;
 
 /// One plane of the Gabor-like filter.
 pub fn gabor_plane(source: &[f32], target: &mut [f32], width: usize, weights: [f32; 2]) {
@@ -33,7 +36,7 @@ pub fn gabor_plane(source: &[f32], target: &mut [f32], width: usize, weights: [f
     }
 }
 
-/// One edge-preserving step over planes of a filter region. `top` is its first row in the image.
+/// One edge-preserving step over the planes of a filter region. `top` is its first row in the image.
 pub fn epf_planes(
     step: u32,
     params: &EpfParams,
@@ -43,7 +46,7 @@ pub fn epf_planes(
     targets: [&mut [f32]; 3],
 ) {
     let height = sources[0].len() / width;
-    let blocks = width.div_ceil(8);
+    let blocks = width.div_ceil(BLOCK);
     let [first, second, third] = targets.map(|target| target.chunks_exact_mut(width));
     for (y, ((first, second), third)) in first.zip(second).zip(third).enumerate() {
         let rows: [_; 7] = core::array::from_fn(|idx| {
@@ -56,7 +59,7 @@ pub fn epf_planes(
             output_rows: [first, second, third],
             width,
             y: top + y,
-            sigma_row: &sigmas[y / 8 * blocks..][..blocks],
+            sigma_row: &sigmas[y / BLOCK * blocks..][..blocks],
             epf_params: params,
             skip_inner: false,
         };
@@ -73,28 +76,28 @@ pub fn epf_planes(
 pub type SigmaRows = Vec<(usize, Vec<f32>)>;
 
 thread_local! {
-    /// The sigmas that `apply_epf` hands to a row handler, where they are asked for.
+    /// The sigmas that `apply_epf` passes to a row handler, while they are recorded.
     static SIGMA_ROWS: RefCell<Option<SigmaRows>> = const { RefCell::new(None) };
 }
 
-/// The sigma rows that a call of `apply_epf` hands to its row handler: those of rows which have
-/// three above and three below them in the filter region.
+/// The sigma rows that a call of `apply_epf` passes to its row handler: those of rows with three rows
+/// above and three below in the filter region.
 pub fn sigma_rows_of(call: impl FnOnce()) -> SigmaRows {
     SIGMA_ROWS.set(Some(Vec::new()));
     call();
-    SIGMA_ROWS.take().expect("a handler only adds rows")
+    SIGMA_ROWS.take().expect("handlers only add rows")
 }
 
-/// Stands among the vector handlers: the generic one, or where sigmas are asked for one that notes
-/// them and filters nothing.
+/// In place of the vector handlers: the generic one, or while sigmas are recorded one that records them
+/// and filters nothing.
 pub fn epf_row_handler<const STEP: usize>() -> Option<EpfRowHandler> {
     if SIGMA_ROWS.with_borrow(Option::is_some) {
-        return Some(note_sigmas);
+        return Some(record_sigmas);
     }
     generic::epf_row_handler::<STEP>()
 }
 
-fn note_sigmas(row: EpfRow<'_, '_>) {
+fn record_sigmas(row: EpfRow<'_, '_>) {
     SIGMA_ROWS.with_borrow_mut(|rows| {
         rows.get_or_insert_default()
             .push((row.y, row.sigma_row.to_vec()))

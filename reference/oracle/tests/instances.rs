@@ -1,4 +1,4 @@
-//! Document 01's instances, on the original: that it was compiled and is asked as it should be.
+//! The Specification's instances on the original, to see that it is compiled and called as it should be.
 
 use oracle::*;
 
@@ -180,7 +180,7 @@ fn missing_grid_repeats_the_sigma_above() {
 }
 
 #[test]
-fn cells_read_where_document_01_refuses() {
+fn cells_read_where_the_library_refuses() {
     let grid = |width, height, cells: &[f32]| {
         Some(SigmaGrid {
             width,

@@ -1,23 +1,24 @@
 use crate::Error;
 
-/// Bits of a slice from a place: bit p is bit p mod 8 of byte p / 8, a field's first bit its lowest.
+/// The bits of a slice from a position on: bit p is bit p mod 8 of byte p / 8; a field's first bit is its
+/// lowest.
 pub struct Bitstream<'a> {
     bytes: &'a [u8],
     place: usize,
 }
 
 impl<'a> Bitstream<'a> {
-    /// A stream whose next bit is the one at `place`, which may lie past the end.
+    /// A stream whose next bit is at `place`, which may be past the end.
     pub fn new(bytes: &'a [u8], place: usize) -> Self {
         Self { bytes, place }
     }
 
-    /// The place of the next bit.
+    /// The position of the next bit.
     pub fn place(&self) -> usize {
         self.place
     }
 
-    /// A field of up to 32 bits; nothing is passed over where the bits run out.
+    /// A field of up to 32 bits. If the bits run out the position stays.
     pub fn read_bits(&mut self, count: usize) -> Result<u32, Error> {
         let end = self.place.checked_add(count).ok_or(Error::BitsRunOut)?;
         if end > self.bytes.len() * 8 {
@@ -35,14 +36,14 @@ impl<'a> Bitstream<'a> {
         Ok(self.read_bits(1)? != 0)
     }
 
-    /// 16 bits as an IEEE 754 half-precision number, exactly; exponent field 31 is refused.
+    /// 16 bits as an IEEE 754 half-precision number, converted exactly; exponent field 31 is refused.
     pub fn read_f16_as_f32(&mut self) -> Result<f32, Error> {
         let bits = self.read_bits(16)?;
         let exponent = bits >> 10 & 31;
         if exponent == 31 {
             return Err(Error::HalfNotFinite);
         }
-        // Subnormals have the exponent of field 1 and no leading bit; 2^-24 is their unit.
+        // Subnormals have the exponent of field 1 and no leading bit; their unit is 2^-24.
         let (scale, lead) = if exponent == 0 {
             (0, 0)
         } else {
@@ -57,7 +58,7 @@ impl<'a> Bitstream<'a> {
         })
     }
 
-    /// A number in one of four ways; no comparison reads one.
+    /// A number in one of four encodings; no comparison reads one.
     pub fn read_u32<A, B, C, D>(&mut self, _: A, _: B, _: C, _: D) -> Result<u32, Error> {
         Err(Error::NotStoodIn)
     }
@@ -68,7 +69,7 @@ impl<'a> Bitstream<'a> {
     }
 }
 
-/// So many bits, in the description of a number.
+/// A number of bits, in the description of a number.
 pub struct U(pub usize);
 
 impl core::ops::Add<U> for u32 {

@@ -1,6 +1,6 @@
 use crate::{Bitstream, Error};
 
-/// What is read from bits, given a context.
+/// A value that is read from bits, given a context.
 pub trait Bundle<Ctx>: Sized {
     type Error;
 
@@ -19,10 +19,10 @@ impl<Ctx> Bundle<Ctx> for Name {
     }
 }
 
-/// Declares the structs of a table of fields, each with all fields at their type's default.
+/// Declares the structs of a table of fields, with the default of its type for each field.
 ///
-/// Of a field only its type is taken: no comparison reads a whole frame header, so conditions,
-/// defaults and contexts are passed over and no reader is made.
+/// Only the types of the fields are used: no comparison reads a whole frame header, so conditions,
+/// defaults and contexts are ignored and there is no reader.
 #[macro_export]
 macro_rules! define_bundle {
     ($(

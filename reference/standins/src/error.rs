@@ -1,16 +1,16 @@
-/// One error type for all the crates that the files name.
+/// One error type for all the crates that the files refer to.
 #[derive(Debug, Clone, Copy, PartialEq, Eq)]
 pub enum Error {
     /// A field reaches past the last bit (number 1).
     BitsRunOut,
     /// A half-precision number has exponent field 31 (number 2).
     HalfNotFinite,
-    /// What a file's own check refuses; `Gabor::parse` alone does (number 3).
+    /// A check in a file fails; only `Gabor::parse` has one (number 3).
     ValidationFailed(&'static str),
-    /// An enumeration's number is not in its list.
+    /// A number is not in the list of an enumeration.
     InvalidEnum { name: &'static str, value: u32 },
-    /// What the renderer says of a task that gave no result.
+    /// A task of the renderer has no result.
     NotSupported(&'static str),
-    /// Part of the original that no comparison reaches.
+    /// A part of the original that no comparison reaches.
     NotStoodIn,
 }

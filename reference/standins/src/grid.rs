@@ -1,10 +1,10 @@
 use crate::Error;
 
-/// Counts memory in the original; here it counts nothing.
+/// Counts allocated memory in the original; here it does nothing.
 #[derive(Debug, Clone)]
 pub struct AllocTracker;
 
-/// A grid of rows one after the other, without gaps.
+/// A grid with one row after another, without gaps.
 #[derive(Debug)]
 pub struct AlignedGrid<T> {
     width: usize,
@@ -26,7 +26,7 @@ impl<T: Default + Clone> AlignedGrid<T> {
         Ok(Self::from_cells(width, height, cells))
     }
 
-    /// The grid with these cells, row after row.
+    /// The grid with these cells, one row after another.
     pub fn from_cells(width: usize, height: usize, cells: Vec<T>) -> Self {
         assert_eq!(cells.len(), width * height);
         Self {
@@ -36,7 +36,7 @@ impl<T: Default + Clone> AlignedGrid<T> {
         }
     }
 
-    /// The cells, row after row.
+    /// The cells, one row after another.
     pub fn into_cells(self) -> Vec<T> {
         self.cells
     }

@@ -11,7 +11,7 @@ pub struct HfMetadata {
     pub epf_sigma: AlignedGrid<f32>,
 }
 
-/// How much smaller a channel is than its image, as a power of two.
+/// How much smaller a channel is than its image, as a shift.
 #[derive(Debug, Clone, Copy)]
 pub enum ChannelShift {
     Shifts(u32),
@@ -37,14 +37,14 @@ impl ChannelShift {
     }
 }
 
-/// Sides of an image.
+/// Width and height of an image.
 #[derive(Debug, Default)]
 pub struct SizeHeader {
     pub width: u32,
     pub height: u32,
 }
 
-/// An image that lies as it is stored; no comparison turns one.
+/// An image without orientation; no comparison rotates one.
 #[derive(Debug, Default)]
 pub struct ImageHeader {
     pub size: SizeHeader,
@@ -81,6 +81,6 @@ impl ImageMetadata {
 #[derive(Debug, Default)]
 pub struct BitDepth;
 
-/// Later additions to a bundle; no comparison reads one.
+/// Extensions of a bundle; no comparison reads one.
 #[derive(Debug, Default)]
 pub struct Extensions;

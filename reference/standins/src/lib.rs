@@ -1,8 +1,8 @@
-//! Small stand-ins for what the compiled files lean on and that is not among them.
+//! Small stand-ins for the dependencies of the compiled files.
 //!
-//! The names are those the files use; each crate that compiles them refers to this one by the
-//! original crates' names (`jxl_grid`, `jxl_bitstream`, ...). What no comparison reaches answers
-//! `Error::NotStoodIn`.
+//! The names are those that the files use; each crate that compiles them imports this one under the
+//! names of the original crates (`jxl_grid`, `jxl_bitstream`, ...). Parts that no comparison reaches
+//! answer `Error::NotStoodIn`.
 
 mod bits;
 mod bundle;

@@ -4,11 +4,11 @@ use core::{
     task::{Context, Poll, Waker},
 };
 
-/// What the original answers when a pool is gone; never here.
+/// The original's error for a pool that has ended; never here.
 #[derive(Debug)]
 pub struct Cancelled;
 
-/// Tasks that run where they are asked for, in order.
+/// Tasks that run inline, in order.
 pub struct Tasks;
 
 impl Tasks {
@@ -24,7 +24,7 @@ impl Tasks {
     }
 }
 
-/// The result of a future that never waits, as all are with inline tasks.
+/// The result of a future that never waits, which is all futures with inline tasks.
 pub fn block_on<F: Future>(future: F) -> F::Output {
     let mut future = pin!(future);
     match future

@@ -3,10 +3,10 @@ use mathlib.Core.Path.{_∙_}
 use native.Mathlib.Omega.{arith}
 use borrow.Author.Needs.{needs}
 use denote.Ref.{now}
-use Rattle.planes.specs.Stored.{filter-rows}
+use Rattle.planes.proofs.Stored.{filter-rows}
 use Rattle.epf_tiles.specs.Tile.{stepOver}
-use Rattle.epf_tiles.specs.Region.{region-long, region-done}
-use Rattle.epf.specs.Fits.{band-passed}
+use Rattle.epf_tiles.proofs.Region.{region-long, region-done}
+use Rattle.epf.proofs.Fits.{band-passed}
 use Rattle.epf.proofs.epf_band.Statement.{statement}
 use Rattle.epf.proofs.epf_band.Tie as tie
 

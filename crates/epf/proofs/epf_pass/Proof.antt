@@ -10,8 +10,8 @@ use Rattle.epf_tiles.specs.declared.Step.{Step}
 use Rattle.epf_tiles.specs.Tile.{stepOver}
 use Rattle.refusals.specs.Flags.{flagSet}
 use Rattle.planes_layout.specs.Outcome.{layoutOutcome}
-use Rattle.planes_layout.specs.Fits.{Accepted}
-use Rattle.epf.specs.Fits.{StepFits, step-fits, band-fits, not-placed, layout-held, refused, done}
+use Rattle.planes_layout.proofs.Fits.{Accepted}
+use Rattle.epf.proofs.Fits.{StepFits, step-fits, band-fits, not-placed, layout-held, refused, done}
 use Rattle.epf.proofs.epf_pass.Statement.{statement}
 use Rattle.epf.proofs.epf_pass.Tie as tie
 

@@ -8,7 +8,7 @@ use borrow.Author.Tests.{not-true, not-false}
 use Rattle.refusals.specs.Flags.{flagFits}
 use Rattle.region_placement.specs.Blocks.{onBlocks}
 use Rattle.epf_tiles.specs.Blocks.{blockColumns, blockRows}
-use Rattle.epf.specs.Fits.{SizeRoom, size-room, off-blocks, no-source, no-target, no-sigmas, no-step, no-flag, no-rows, all-held}
+use Rattle.epf.proofs.Fits.{SizeRoom, size-room, off-blocks, no-source, no-target, no-sigmas, no-step, no-flag, no-rows, all-held}
 use Rattle.epf.proofs.judged.Statement.{statement}
 use Rattle.epf.proofs.judged.Tie as tie
 

@@ -3,8 +3,8 @@ use mathlib.Core.Path.{ap, _∙_}
 use native.Mathlib.Omega.{arith}
 use denote.Ref.{now}
 use lib.ListN.{length}
-use Rattle.planes.specs.Fill.{length-fill}
-use Rattle.epf_distances.specs.Fields.{nearby-stored, nearby-single}
+use Rattle.planes.proofs.Fill.{length-fill}
+use Rattle.epf_distances.proofs.Fields.{nearby-stored, nearby-single}
 use Rattle.epf_distances.proofs.add_channel.Statement.{statement}
 use Rattle.epf_distances.proofs.add_channel.Tie as tie
 

@@ -5,8 +5,8 @@ use denote.Ref.{now}
 use lib.ListN.{getD}
 use lib.Ieee.{Float, nan}
 use Rattle.planes.specs.Samples.{_⊕_, _⊗_}
-use Rattle.planes.specs.Loop.{Written, written-none, written-all}
-use Rattle.epf_distances.specs.Runs.{run-more}
+use Rattle.planes.proofs.Loop.{Written, written-none, written-all}
+use Rattle.epf_distances.proofs.Runs.{run-more}
 use Rattle.epf_distances.specs.Seen.{nearby}
 use Rattle.epf_distances.proofs.add_nearby.Statement.{statement}
 use Rattle.epf_distances.proofs.add_nearby.Tie as tie

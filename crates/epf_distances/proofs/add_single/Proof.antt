@@ -6,8 +6,8 @@ use denote.Ref.{now}
 use lib.ListN.{getD}
 use lib.Ieee.{Float, nan}
 use Rattle.planes.specs.Samples.{_⊕_, _⊗_}
-use Rattle.planes.specs.Loop.{Written, written-none, written-all}
-use Rattle.epf_distances.specs.Runs.{run-more}
+use Rattle.planes.proofs.Loop.{Written, written-none, written-all}
+use Rattle.epf_distances.proofs.Runs.{run-more}
 use Rattle.epf_distances.specs.Seen.{nearby, apartBy}
 use Rattle.epf_distances.proofs.add_single.Statement.{statement}
 use Rattle.epf_distances.proofs.add_single.Tie as tie

@@ -1,7 +1,7 @@
 -- `epf_distances::behind` meets its contract. Assumes nothing.
 use native.Mathlib.Omega.{arith}
 use borrow.Author.Needs.{needs}
-use Rattle.epf_distances.specs.Taps.{shift-far}
+use Rattle.epf_distances.proofs.Taps.{shift-far}
 use Rattle.epf_distances.proofs.behind.Statement.{statement}
 use Rattle.epf_distances.proofs.behind.Tie as tie
 

@@ -3,7 +3,7 @@ use mathlib.Core.Path.{refl}
 use Prim.Native.Nat.{ℕ, _-_}
 use native.Mathlib.Omega.{arith}
 use Rattle.planes.specs.Samples.{b0}
-use Rattle.planes.specs.Loop.{Written, written-none, written-more, written-all}
+use Rattle.planes.proofs.Loop.{Written, written-none, written-more, written-all}
 use Rattle.epf_distances.proofs.clear.Statement.{statement}
 use Rattle.epf_distances.proofs.clear.Tie as tie
 

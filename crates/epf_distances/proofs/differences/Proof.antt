@@ -2,7 +2,7 @@
 use Prim.Native.Nat.{ℕ, _+_, _-_}
 use native.Mathlib.Omega.{arith}
 use borrow.Author.Needs.{needs}
-use Rattle.planes.specs.Loop.{Written, written-none, written-more, written-all}
+use Rattle.planes.proofs.Loop.{Written, written-none, written-more, written-all}
 use Rattle.epf_distances.specs.Seen.{apartBy}
 use Rattle.epf_distances.proofs.differences.Statement.{statement}
 use Rattle.epf_distances.proofs.differences.Tie as tie

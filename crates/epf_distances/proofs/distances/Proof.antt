@@ -1,7 +1,7 @@
 -- `epf_distances::distances` meets its contract. Where there are too many planes or rows the fields are as they were. Assumes nothing.
 use mathlib.Core.Path.{sym, _∙_}
 use native.Mathlib.Omega.{arith}
-use Rattle.epf_distances.specs.Fields.{many-planes, no-rows, many-rows, distances-done}
+use Rattle.epf_distances.proofs.Fields.{many-planes, no-rows, many-rows, distances-done}
 use Rattle.epf_distances.proofs.distances.Statement.{statement}
 use Rattle.epf_distances.proofs.distances.Tie as tie
 

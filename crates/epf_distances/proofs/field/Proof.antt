@@ -5,7 +5,7 @@ use native.Mathlib.Omega.{arith}
 use denote.Ref.{now}
 use lib.ListN.{length}
 use Rattle.planes.specs.Fill.{fill}
-use Rattle.epf_distances.specs.Fields.{channelsAt, channel-none, channel-turn, channel-end}
+use Rattle.epf_distances.proofs.Fields.{channelsAt, channel-none, channel-turn, channel-end}
 use Rattle.epf_distances.proofs.field.Statement.{statement}
 use Rattle.epf_distances.proofs.field.Tie as tie
 

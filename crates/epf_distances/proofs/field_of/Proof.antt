@@ -3,7 +3,7 @@ use mathlib.Core.Path.{_≡_, _∙_}
 use Prim.Native.Nat.{_-_, min}
 use native.Mathlib.Omega.{arith}
 use borrow.Author.Needs.{needs}
-use Rattle.epf_distances.specs.Taps.{field-low, field-high, field-first, field-second}
+use Rattle.epf_distances.proofs.Taps.{field-low, field-high, field-first, field-second}
 use Rattle.epf_distances.proofs.field_of.Statement.{statement}
 use Rattle.epf_distances.proofs.field_of.Tie as tie
 

@@ -6,8 +6,10 @@ use borrow.Author.Needs.{needs}
 use denote.Ref.{now}
 use lib.ListN.{length}
 use Rattle.epf_step.specs.Steps.{scaled}
-use Rattle.epf_distances.specs.Taps.{half, half-few, shift, shift-far}
-use Rattle.epf_distances.specs.Fields.{fieldsFill, field-turn, field-end}
+use Rattle.epf_distances.specs.Taps.{half, shift}
+use Rattle.epf_distances.proofs.Taps.{half-few, shift-far}
+use Rattle.epf_distances.specs.Fields.{fieldsFill}
+use Rattle.epf_distances.proofs.Fields.{field-turn, field-end}
 use Rattle.epf_distances.proofs.fill_fields.Statement.{statement}
 use Rattle.epf_distances.proofs.fill_fields.Tie as tie
 

@@ -1,6 +1,6 @@
 -- `epf_distances::half` meets its contract. Assumes nothing.
 use borrow.Author.Needs.{needs}
-use Rattle.epf_distances.specs.Taps.{half-other}
+use Rattle.epf_distances.proofs.Taps.{half-other}
 use Rattle.epf_distances.proofs.half.Statement.{statement}
 use Rattle.epf_distances.proofs.half.Tie as tie
 

@@ -2,7 +2,8 @@
 use mathlib.Core.Path.{_≡_}
 use Prim.Native.Nat.{ℕ, _<_}
 use borrow.Author.Needs.{needs}
-use Rattle.epf_distances.specs.Taps.{fieldOf, field-among, first-behind, first-ahead, other-ahead, other-behind}
+use Rattle.epf_distances.specs.Taps.{fieldOf}
+use Rattle.epf_distances.proofs.Taps.{field-among, first-behind, first-ahead, other-ahead, other-behind}
 use Rattle.epf_distances.proofs.neighbour.Statement.{statement}
 use Rattle.epf_distances.proofs.neighbour.Tie as tie
 

@@ -1,6 +1,6 @@
 -- `epf_distances::shift` meets its contract. Assumes nothing.
 use borrow.Author.Needs.{needs}
-use Rattle.epf_distances.specs.Taps.{shift-first, shift-one, shift-row}
+use Rattle.epf_distances.proofs.Taps.{shift-first, shift-one, shift-row}
 use Rattle.epf_distances.proofs.shift.Statement.{statement}
 use Rattle.epf_distances.proofs.shift.Tie as tie
 

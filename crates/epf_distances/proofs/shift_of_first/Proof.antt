@@ -1,5 +1,5 @@
 -- `epf_distances::shift_of_first` meets its contract. Assumes nothing.
-use Rattle.epf_distances.specs.Taps.{shift-last}
+use Rattle.epf_distances.proofs.Taps.{shift-last}
 use Rattle.epf_distances.proofs.shift_of_first.Statement.{statement}
 use Rattle.epf_distances.proofs.shift_of_first.Tie as tie
 

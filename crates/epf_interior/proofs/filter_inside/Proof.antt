@@ -6,8 +6,10 @@ use borrow.Author.Needs.{needs}
 use borrow.Author.Tests.{not-true, not-false}
 use denote.Ref.{now}
 use lib.ListN.{length}
-use Rattle.epf_rects.specs.Rects.{RectFits, rect-facts}
-use Rattle.epf_interior.specs.Inside.{liesInside, no-rect, no-source, many-columns, at-edge, inside-facts, inside-done}
+use Rattle.epf_rects.specs.Rects.{RectFits}
+use Rattle.epf_rects.proofs.Rects.{rect-facts}
+use Rattle.epf_interior.specs.Inside.{liesInside}
+use Rattle.epf_interior.proofs.Inside.{no-rect, no-source, many-columns, at-edge, inside-facts, inside-done}
 use Rattle.epf_interior.proofs.filter_inside.Statement.{statement}
 use Rattle.epf_interior.proofs.filter_inside.Tie as tie
 

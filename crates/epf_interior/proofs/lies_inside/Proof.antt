@@ -1,6 +1,6 @@
 -- `epf_interior::lies_inside` meets its contract. Assumes nothing.
 use native.Mathlib.Omega.{arith}
-use Rattle.epf_interior.specs.Inside.{at-left, at-top, at-right, at-bottom, inside-true}
+use Rattle.epf_interior.proofs.Inside.{at-left, at-top, at-right, at-bottom, inside-true}
 use Rattle.epf_interior.proofs.lies_inside.Statement.{statement}
 use Rattle.epf_interior.proofs.lies_inside.Tie as tie
 

@@ -7,8 +7,9 @@ use denote.Ref.{now}
 use lib.ListN.{length}
 use Rattle.planes.specs.Fill.{fill}
 use Rattle.epf_step.specs.Steps.{kernel}
-use Rattle.epf_distances.specs.Taps.{kernel-few}
-use Rattle.epf_lanes.specs.Lanes.{storedTo, stored-none, stored-four, stored-end}
+use Rattle.epf_distances.proofs.Taps.{kernel-few}
+use Rattle.epf_lanes.specs.Lanes.{storedTo}
+use Rattle.epf_lanes.proofs.Lanes.{stored-none, stored-four, stored-end}
 use Rattle.epf_lanes.proofs.blend.Statement.{statement}
 use Rattle.epf_lanes.proofs.blend.Tie as tie
 

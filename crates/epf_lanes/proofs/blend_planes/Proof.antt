@@ -6,9 +6,11 @@ use denote.Ref.{now}
 use lib.ListN.{length, getD}
 use lib.Ieee.{nan}
 use Rattle.planes.specs.Samples.{_⊘_}
-use Rattle.planes.specs.Rect.{planesFill, planes-end}
+use Rattle.planes.specs.Rect.{planesFill}
+use Rattle.planes.proofs.Rect.{planes-end}
 use Rattle.epf_step.specs.Steps.{kernel}
-use Rattle.epf_lanes.specs.Lanes.{storedTo, stored-divided, plane-next}
+use Rattle.epf_lanes.specs.Lanes.{storedTo}
+use Rattle.epf_lanes.proofs.Lanes.{stored-divided, plane-next}
 use Rattle.epf_lanes.proofs.blend_planes.Statement.{statement}
 use Rattle.epf_lanes.proofs.blend_planes.Tie as tie
 

@@ -1,7 +1,7 @@
 -- `epf_lanes::filter_row` meets its contract. The weights, then the sums of each plane. Assumes nothing.
 use native.Mathlib.Omega.{arith}
 use denote.Ref.{now}
-use Rattle.epf_lanes.specs.Lanes.{row-lanes}
+use Rattle.epf_lanes.proofs.Lanes.{row-lanes}
 use Rattle.epf_lanes.proofs.filter_row.Statement.{statement}
 use Rattle.epf_lanes.proofs.filter_row.Tie as tie
 

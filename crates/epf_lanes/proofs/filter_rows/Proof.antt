@@ -6,8 +6,10 @@ use borrow.Author.Needs.{needs}
 use denote.Ref.{now}
 use lib.ListN.{length}
 use Rattle.planes.specs.Rect.{planesFill}
-use Rattle.epf_slopes.specs.Slopes.{firstSlope, first-same, first-small}
-use Rattle.epf_lanes.specs.Lanes.{laneOf, row-next, rows-done, rows-end}
+use Rattle.epf_slopes.specs.Slopes.{firstSlope}
+use Rattle.epf_slopes.proofs.Slopes.{first-same, first-small}
+use Rattle.epf_lanes.specs.Lanes.{laneOf}
+use Rattle.epf_lanes.proofs.Lanes.{row-next, rows-done, rows-end}
 use Rattle.epf_lanes.proofs.filter_rows.Statement.{statement}
 use Rattle.epf_lanes.proofs.filter_rows.Tie as tie
 

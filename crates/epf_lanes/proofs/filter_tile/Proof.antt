@@ -2,7 +2,7 @@
 use mathlib.Core.Path.{sym, _∙_}
 use native.Mathlib.Omega.{arith}
 use borrow.Author.Needs.{needs}
-use Rattle.epf_lanes.specs.Lanes.{no-tile, many-planes, many-rows, lanes-done}
+use Rattle.epf_lanes.proofs.Lanes.{no-tile, many-planes, many-rows, lanes-done}
 use Rattle.epf_lanes.proofs.filter_tile.Statement.{statement}
 use Rattle.epf_lanes.proofs.filter_tile.Tie as tie
 

@@ -3,8 +3,8 @@ use mathlib.Core.Path.{refl}
 use Prim.Native.Nat.{ℕ, _-_}
 use native.Mathlib.Omega.{arith}
 use Rattle.planes.specs.Samples.{b1}
-use Rattle.planes.specs.Loop.{Written, written-none, written-all}
-use Rattle.epf_lanes.specs.Lanes.{written-more0}
+use Rattle.planes.proofs.Loop.{Written, written-none, written-all}
+use Rattle.epf_lanes.proofs.Lanes.{written-more0}
 use Rattle.epf_lanes.proofs.ones.Statement.{statement}
 use Rattle.epf_lanes.proofs.ones.Tie as tie
 

@@ -4,7 +4,7 @@ use Prim.Native.Nat.{_+_}
 use native.Mathlib.Omega.{arith}
 use borrow.Author.Needs.{needs}
 use Rattle.epf_distances.specs.declared.Tap.{Tap}
-use Rattle.epf_distances.specs.Taps.{TapRoom, tap-room}
+use Rattle.epf_distances.proofs.Taps.{TapRoom, tap-room}
 use Rattle.epf_lanes.proofs.samples_at.Statement.{statement}
 use Rattle.epf_lanes.proofs.samples_at.Tie as tie
 

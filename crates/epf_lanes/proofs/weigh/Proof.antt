@@ -6,9 +6,9 @@ use denote.Ref.{now}
 use lib.ListN.{getD}
 use lib.Ieee.{Float, nan}
 use Rattle.planes.specs.Samples.{_⊕_}
-use Rattle.planes.specs.Loop.{Written, written-none, written-more, written-all}
+use Rattle.planes.proofs.Loop.{Written, written-none, written-more, written-all}
 use Rattle.epf_step.specs.Steps.{weightBy}
-use Rattle.epf_lanes.specs.Lanes.{run-more0}
+use Rattle.epf_lanes.proofs.Lanes.{run-more0}
 use Rattle.epf_lanes.proofs.weigh.Statement.{statement}
 use Rattle.epf_lanes.proofs.weigh.Tie as tie
 

@@ -6,8 +6,9 @@ use borrow.Author.Needs.{needs}
 use denote.Ref.{now}
 use lib.ListN.{length}
 use Rattle.epf_step.specs.Steps.{kernel}
-use Rattle.epf_distances.specs.Taps.{kernel-few, TapRoom, tap-room}
-use Rattle.epf_lanes.specs.Lanes.{weightOf, Weighed, weighed-none, weighed-more}
+use Rattle.epf_distances.proofs.Taps.{kernel-few, TapRoom, tap-room}
+use Rattle.epf_lanes.specs.Lanes.{weightOf, Weighed}
+use Rattle.epf_lanes.proofs.Lanes.{weighed-none, weighed-more}
 use Rattle.epf_lanes.proofs.Divisors.{all-weighed}
 use Rattle.epf_lanes.proofs.weigh_all.Statement.{statement}
 use Rattle.epf_lanes.proofs.weigh_all.Tie as tie

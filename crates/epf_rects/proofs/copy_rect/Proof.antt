@@ -5,7 +5,8 @@ use borrow.Author.Needs.{needs}
 use borrow.Author.Tests.{not-true, not-false}
 use denote.Ref.{now}
 use lib.ListN.{length}
-use Rattle.epf_rects.specs.Rects.{RectFits, SourceRoom, rect-facts, source-room, not-copied, other-length, rect-copied, copied-as}
+use Rattle.epf_rects.specs.Rects.{RectFits}
+use Rattle.epf_rects.proofs.Rects.{SourceRoom, rect-facts, source-room, not-copied, other-length, rect-copied, copied-as}
 use Rattle.epf_rects.proofs.copy_rect.Statement.{statement}
 use Rattle.epf_rects.proofs.copy_rect.Tie as tie
 

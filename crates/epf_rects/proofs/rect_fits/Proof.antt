@@ -3,7 +3,7 @@ use mathlib.Core.Path.{sym, _∙_}
 use native.Mathlib.Omega.{arith}
 use borrow.Author.Needs.{needs}
 use borrow.Author.Tests.{not-true, not-false}
-use Rattle.epf_rects.specs.Rects.{no-set, too-wide, too-high, rows-decide}
+use Rattle.epf_rects.proofs.Rects.{no-set, too-wide, too-high, rows-decide}
 use Rattle.epf_rects.proofs.rect_fits.Statement.{statement}
 use Rattle.epf_rects.proofs.rect_fits.Tie as tie
 

@@ -4,8 +4,10 @@ use Prim.Native.Nat.{ℕ, _+_, _-_, _*_, _≤_, _<_}
 use native.Mathlib.Omega.{arith}
 use denote.Ref.{now}
 use lib.ListN.{length}
-use Rattle.planes.specs.Rect.{planesFill, planes-end}
-use Rattle.epf_rects.specs.Rects.{taken, PlaneRoom, plane-room, plane-next}
+use Rattle.planes.specs.Rect.{planesFill}
+use Rattle.planes.proofs.Rect.{planes-end}
+use Rattle.epf_rects.specs.Rects.{taken}
+use Rattle.epf_rects.proofs.Rects.{PlaneRoom, plane-room, plane-next}
 use Rattle.epf_rects.proofs.store_planes.Statement.{statement}
 use Rattle.epf_rects.proofs.store_planes.Tie as tie
 

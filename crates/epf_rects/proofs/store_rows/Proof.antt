@@ -6,8 +6,9 @@ use borrow.Author.Needs.{needs}
 use denote.Ref.{now}
 use lib.ListN.{length, getD}
 use lib.Ieee.{nan}
-use Rattle.planes.specs.Copy.{copied-run}
-use Rattle.planes.specs.Rect.{rowsFill, rows-turn, rows-end}
+use Rattle.planes.proofs.Copy.{copied-run}
+use Rattle.planes.specs.Rect.{rowsFill}
+use Rattle.planes.proofs.Rect.{rows-turn, rows-end}
 use Rattle.epf_rects.proofs.store_rows.Statement.{statement}
 use Rattle.epf_rects.proofs.store_rows.Tie as tie
 

@@ -5,7 +5,8 @@ use borrow.Author.Needs.{needs}
 use borrow.Author.Tests.{not-true, not-false}
 use denote.Ref.{now}
 use lib.ListN.{length}
-use Rattle.epf_rects.specs.Rects.{RectFits, rect-facts, not-stored, no-tile, many-rows, many-columns, tile-stored, tile-lies}
+use Rattle.epf_rects.specs.Rects.{RectFits}
+use Rattle.epf_rects.proofs.Rects.{rect-facts, not-stored, no-tile, many-rows, many-columns, tile-stored, tile-lies}
 use Rattle.epf_rects.proofs.store_tile.Statement.{statement}
 use Rattle.epf_rects.proofs.store_tile.Tie as tie
 

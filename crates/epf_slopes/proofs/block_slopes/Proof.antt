@@ -3,7 +3,7 @@ use Prim.Native.Nat.{ℕ, _-_}
 use native.Mathlib.Omega.{arith}
 use borrow.Author.Needs.{needs}
 use Rattle.planes.specs.Samples.{_⊗_}
-use Rattle.planes.specs.Loop.{Written, written-none, written-more, written-all}
+use Rattle.planes.proofs.Loop.{Written, written-none, written-more, written-all}
 use Rattle.epf_step.specs.Steps.{multiplier}
 use Rattle.epf_slopes.proofs.block_slopes.Statement.{statement}
 use Rattle.epf_slopes.proofs.block_slopes.Tie as tie

@@ -4,7 +4,8 @@ use Prim.Native.Nat.{_-_, _*_, _≤_}
 use native.Mathlib.Omega.{arith}
 use borrow.Author.Needs.{needs}
 use Rattle.planes.specs.Fill.{fill}
-use Rattle.epf_slopes.specs.Slopes.{slopeAt, block-next, blocks-end}
+use Rattle.epf_slopes.specs.Slopes.{slopeAt}
+use Rattle.epf_slopes.proofs.Slopes.{block-next, blocks-end}
 use Rattle.epf_slopes.proofs.row_slopes.Statement.{statement}
 use Rattle.epf_slopes.proofs.row_slopes.Tie as tie
 

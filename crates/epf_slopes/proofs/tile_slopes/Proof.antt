@@ -2,7 +2,7 @@
 use mathlib.Core.Path.{sym, _∙_}
 use native.Mathlib.Omega.{arith}
 use denote.Ref.{now}
-use Rattle.epf_slopes.specs.Slopes.{many-blocks, few-sigmas, slopes-done}
+use Rattle.epf_slopes.proofs.Slopes.{many-blocks, few-sigmas, slopes-done}
 use Rattle.epf_slopes.proofs.tile_slopes.Statement.{statement}
 use Rattle.epf_slopes.proofs.tile_slopes.Tie as tie
 

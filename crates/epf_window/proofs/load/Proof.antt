@@ -5,7 +5,8 @@ use borrow.Author.Needs.{needs}
 use borrow.Author.Tests.{not-true, not-false}
 use denote.Ref.{now}
 use lib.ListN.{length}
-use Rattle.epf_window.specs.Window.{WindowFits, no-source, no-column, no-row, no-top, no-rows, few-columns, many-columns, window-fits, window-loaded}
+use Rattle.epf_window.specs.Window.{WindowFits}
+use Rattle.epf_window.proofs.Window.{no-source, no-column, no-row, no-top, no-rows, few-columns, many-columns, window-fits, window-loaded}
 use Rattle.epf_window.proofs.load.Statement.{statement}
 use Rattle.epf_window.proofs.load.Tie as tie
 

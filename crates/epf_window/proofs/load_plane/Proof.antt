@@ -5,9 +5,11 @@ use native.Mathlib.Omega.{arith}
 use borrow.Author.Needs.{needs}
 use lib.IntN.{ℤ}
 use Rattle.mirror.specs.Mirror.{mirror}
-use Rattle.mirror.specs.Laws.{mirror-lt}
-use Rattle.planes.specs.Rect.{rowsFill, rows-turn, rows-end}
-use Rattle.epf_window.specs.Window.{planeSample, PlaneFits, row-room}
+use Rattle.mirror.proofs.Laws.{mirror-lt}
+use Rattle.planes.specs.Rect.{rowsFill}
+use Rattle.planes.proofs.Rect.{rows-turn, rows-end}
+use Rattle.epf_window.specs.Window.{planeSample, PlaneFits}
+use Rattle.epf_window.proofs.Window.{row-room}
 use Rattle.epf_window.proofs.load_plane.Statement.{statement}
 use Rattle.epf_window.proofs.load_plane.Tie as tie
 

@@ -3,9 +3,11 @@ use mathlib.Core.Path.{_≡_, refl}
 use Prim.Native.Nat.{ℕ, _+_, _-_, _≤_}
 use native.Mathlib.Omega.{arith}
 use denote.Ref.{now}
-use Rattle.planes.specs.Rect.{planesFill, planes-end}
-use Rattle.planes.specs.Room.{PlaneRoom, plane-room}
-use Rattle.epf_window.specs.Window.{windowSample, plane-fits, plane-next}
+use Rattle.planes.specs.Rect.{planesFill}
+use Rattle.planes.proofs.Rect.{planes-end}
+use Rattle.planes.proofs.Room.{PlaneRoom, plane-room}
+use Rattle.epf_window.specs.Window.{windowSample}
+use Rattle.epf_window.proofs.Window.{plane-fits, plane-next}
 use Rattle.epf_window.proofs.load_planes.Statement.{statement}
 use Rattle.epf_window.proofs.load_planes.Tie as tie
 

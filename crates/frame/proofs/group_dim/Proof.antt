@@ -2,7 +2,7 @@
 use borrow.Author.Needs.{needs}
 use native.Mathlib.Nat.{mod-eq-of-lt}
 use native.Mathlib.Omega.{arith}
-use Rattle.frame.specs.Laws.{group-dim-le}
+use Rattle.frame.proofs.Laws.{group-dim-le}
 use Rattle.frame.proofs.group_dim.Statement.{statement}
 use Rattle.frame.proofs.group_dim.Tie as tie
 

@@ -5,7 +5,7 @@ use borrow.Author.Tests.{eq-eqb, ne-eqb}
 use native.Mathlib.Omega.{arith}
 use Rattle.refusals.specs.Checks.{firstOf}
 use Rattle.frame.specs.Outcome.{frameChecks}
-use Rattle.frame.specs.Laws.{frame-sound}
+use Rattle.frame.proofs.Laws.{frame-sound}
 use Rattle.frame.proofs.group_sizes.Statement.{statement}
 use Rattle.frame.proofs.group_sizes.Tie as tie
 

@@ -4,7 +4,7 @@ use Prim.Native.Nat.{ℕ, _*_}
 use borrow.Author.Needs.{needs}
 use native.Mathlib.Omega.{arith}
 use Rattle.frame.specs.Sizes.{dividedUp}
-use Rattle.frame.specs.Laws.{group-dim-ge, group-dim-le}
+use Rattle.frame.proofs.Laws.{group-dim-ge, group-dim-le}
 use Rattle.frame.proofs.groups_along.Statement.{statement}
 use Rattle.frame.proofs.groups_along.Tie as tie
 

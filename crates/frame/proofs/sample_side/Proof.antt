@@ -3,7 +3,7 @@ use mathlib.Core.Path.{_≡_, refl, _∙_}
 use Prim.Native.Nat.{ℕ, zero, suc, _*_, _%_, _^_, _≤_, _<_}
 use borrow.Author.Needs.{needs}
 use native.Mathlib.Omega.{arith}
-use Rattle.frame.specs.Laws.{divided-up-le}
+use Rattle.frame.proofs.Laws.{divided-up-le}
 use Rattle.frame.proofs.sample_side.Statement.{statement}
 use Rattle.frame.proofs.sample_side.Tie as tie
 

@@ -6,7 +6,8 @@ use native.Mathlib.Nat.{mul-le-mul}
 use native.Mathlib.Omega.{arith}
 use Rattle.frame.specs.declared.Frame.{Frame}
 use Rattle.frame.specs.Sizes.{sampleSide, groupsAlong, sizesOf}
-use Rattle.frame.specs.Laws.{Sound, sample-side-le, groups-along-le}
+use Rattle.frame.specs.Sound.{Sound}
+use Rattle.frame.proofs.Laws.{sample-side-le, groups-along-le}
 use Rattle.frame.proofs.sizes.Statement.{statement}
 use Rattle.frame.proofs.sizes.Tie as tie
 

@@ -7,7 +7,7 @@ use native.Mathlib.Omega.{arith}
 use lib.Bits.{and-mask, bitAnd}
 use Rattle.frame.specs.declared.SplitAnswer.{SplitAnswer}
 use Rattle.frame.specs.Sizes.{groupDim, groupShift}
-use Rattle.frame.specs.Laws.{group-dim-ge, group-shift-is, group-shift-power}
+use Rattle.frame.proofs.Laws.{group-dim-ge, group-shift-is, group-shift-power}
 use Rattle.frame.proofs.split_block.Statement.{statement}
 use Rattle.frame.proofs.split_block.Tie as tie
 

@@ -8,7 +8,7 @@ use lib.ListN.{length}
 use Rattle.refusals.specs.Flags.{flagFits, flagSet}
 use Rattle.planes.specs.Band.{setFits, rowsFit}
 use Rattle.planes_layout.specs.Outcome.{layoutOutcome}
-use Rattle.gabor.specs.Fits.{outcome-placed, outcome-source, outcome-target, outcome-flag, outcome-rows, outcome-fits, outcome-sides, outcome-passed}
+use Rattle.gabor.proofs.Fits.{outcome-placed, outcome-source, outcome-target, outcome-flag, outcome-rows, outcome-fits, outcome-sides, outcome-passed}
 use Rattle.gabor.proofs.gabor_pass.Statement.{statement}
 use Rattle.gabor.proofs.gabor_pass.Tie as tie
 

@@ -6,7 +6,8 @@ use borrow.Author.Needs.{needs}
 use borrow.Author.Tests.{not-true, not-false, ne-eqb}
 use denote.Ref.{now}
 use lib.ListN.{length}
-use Rattle.gabor_plane.specs.Plane.{regionFits, region-facts, no-region, no-length, no-row, plane-rows}
+use Rattle.gabor_plane.specs.Plane.{regionFits}
+use Rattle.gabor_plane.proofs.Plane.{region-facts, no-region, no-length, no-row, plane-rows}
 use Rattle.gabor_plane.proofs.gabor_plane.Statement.{statement}
 use Rattle.gabor_plane.proofs.gabor_plane.Tie as tie
 

@@ -6,8 +6,10 @@ use native.Mathlib.Omega.{arith}
 use denote.Ref.{now}
 use borrow.Author.Needs.{needs}
 use lib.ListN.{length}
-use Rattle.planes.specs.Rect.{rowsFill, rows-turn, rows-end}
-use Rattle.gabor_plane.specs.Rows.{RegionFits, row-room, row-below, start-room}
+use Rattle.planes.specs.Rect.{rowsFill}
+use Rattle.planes.proofs.Rect.{rows-turn, rows-end}
+use Rattle.gabor_plane.specs.Rows.{RegionFits}
+use Rattle.gabor_plane.proofs.RowLaws.{row-room, row-below, start-room}
 use Rattle.gabor_plane.specs.Plane.{regionRows}
 use Rattle.gabor_plane.proofs.gabor_rows.Statement.{statement}
 use Rattle.gabor_plane.proofs.gabor_rows.Tie as tie

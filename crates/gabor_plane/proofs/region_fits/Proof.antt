@@ -6,9 +6,10 @@ use native.Mathlib.Nat.{mul-le-mul}
 use native.Mathlib.Omega.{arith}
 use borrow.Author.Tests.{le-leb}
 use lib.Dec.{leb}
-use Rattle.planes.specs.Room.{run-ends}
+use Rattle.planes.proofs.Room.{run-ends}
 use Rattle.gabor_plane.specs.Rows.{RegionFits}
-use Rattle.gabor_plane.specs.Plane.{regionFits, region-facts}
+use Rattle.gabor_plane.specs.Plane.{regionFits}
+use Rattle.gabor_plane.proofs.Plane.{region-facts}
 use Rattle.gabor_plane.proofs.region_fits.Statement.{statement}
 use Rattle.gabor_plane.proofs.region_fits.Tie as tie
 

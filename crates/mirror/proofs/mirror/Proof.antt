@@ -8,7 +8,7 @@ use borrow.Author.Tests.{lt-ltb, le-ltb}
 use native.Mathlib.Omega.{arith}
 use mir.Facts.{toZ-ofZ}
 use Rattle.mirror.specs.Mirror.{mirror}
-use Rattle.mirror.specs.Laws.{mirror-mag}
+use Rattle.mirror.proofs.Laws.{mirror-mag}
 use Rattle.mirror.specs.Outcome.{mirrorAnswered}
 use Rattle.mirror.proofs.mirror.Statement.{statement}
 use Rattle.mirror.proofs.mirror.Tie as tie

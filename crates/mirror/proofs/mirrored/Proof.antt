@@ -2,7 +2,7 @@
 use mathlib.Core.Path.{_∙_}
 use native.Mathlib.Omega.{arith}
 use borrow.Author.Needs.{needs}
-use Rattle.mirror.specs.Laws.{mirror-ahead, mirror-back}
+use Rattle.mirror.proofs.Laws.{mirror-ahead, mirror-back}
 use Rattle.mirror.proofs.mirrored.Statement.{statement}
 use Rattle.mirror.proofs.mirrored.Tie as tie
 

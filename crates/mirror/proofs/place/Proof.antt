@@ -4,7 +4,7 @@ use native.Mathlib.Nat.{mod-lt}
 use native.Mathlib.Omega.{arith}
 use borrow.Author.Needs.{needs}
 use lib.IntN.{pos}
-use Rattle.mirror.specs.Laws.{mirror-in, mirror-none, mirror-even, mirror-odd}
+use Rattle.mirror.proofs.Laws.{mirror-in, mirror-none, mirror-even, mirror-odd}
 use Rattle.mirror.proofs.place.Statement.{statement}
 use Rattle.mirror.proofs.place.Tie as tie
 

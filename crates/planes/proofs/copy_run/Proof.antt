@@ -5,7 +5,7 @@ use lib.ListN.{length}
 use denote.Ref.{now}
 use borrow.Author.Needs.{needs}
 use borrow.Author.Tests.{leb-true, not-true, not-false}
-use Rattle.planes.specs.Copy.{copied-run, no-room, no-source}
+use Rattle.planes.proofs.Copy.{copied-run, no-room, no-source}
 use Rattle.planes.proofs.copy_run.Statement.{statement}
 use Rattle.planes.proofs.copy_run.Tie as tie
 

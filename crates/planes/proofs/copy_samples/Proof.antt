@@ -4,7 +4,7 @@ use Prim.Native.Nat.{ℕ, _+_, _-_}
 use native.Mathlib.Omega.{arith}
 use lib.ListN.{getD}
 use lib.Ieee.{nan}
-use Rattle.planes.specs.Loop.{Written, written-none, written-more, written-all}
+use Rattle.planes.proofs.Loop.{Written, written-none, written-more, written-all}
 use Rattle.planes.proofs.copy_samples.Statement.{statement}
 use Rattle.planes.proofs.copy_samples.Tie as tie
 

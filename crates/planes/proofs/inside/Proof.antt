@@ -5,7 +5,7 @@ use Prim.Native.Nat.{ℕ, _+_, _<_}
 use native.Mathlib.Omega.{arith}
 use borrow.Author.Tests.{lt-leb}
 use lib.Dec.{leb}
-use Rattle.planes.specs.Room.{run-ends}
+use Rattle.planes.proofs.Room.{run-ends}
 use Rattle.planes.proofs.inside.Statement.{statement}
 use Rattle.planes.proofs.inside.Tie as tie
 

@@ -7,7 +7,8 @@ use native.Mathlib.Omega.{arith}
 use borrow.Author.Needs.{needs}
 use borrow.Author.Tests.{not-true, not-false, le-leb, lt-leb}
 use lib.Dec.{leb}
-use Rattle.planes.specs.Stored.{LayoutFits, layout-fits}
+use Rattle.planes.specs.Fits.{LayoutFits}
+use Rattle.planes.proofs.Stored.{layout-fits}
 use Rattle.planes.proofs.set_fits.Statement.{statement}
 use Rattle.planes.proofs.set_fits.Tie as tie
 

@@ -1,6 +1,6 @@
 -- `planes_layout::layout_of` meets its contract. Assumes nothing.
 use borrow.Author.Needs.{needs}
-use Rattle.planes_layout.specs.Fits.{answer-refused, answer-accepted}
+use Rattle.planes_layout.proofs.Fits.{answer-refused, answer-accepted}
 use Rattle.planes_layout.proofs.layout_of.Statement.{statement}
 use Rattle.planes_layout.proofs.layout_of.Tie as tie
 

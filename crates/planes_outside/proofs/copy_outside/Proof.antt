@@ -9,7 +9,8 @@ use denote.Ref.{now}
 use lib.Dec.{eqb}
 use lib.ListN.{length}
 use Rattle.planes.specs.Band.{setFits, rowsFit, passed, inner, copiedOutside}
-use Rattle.planes.specs.Stored.{BandFits, band-fits, and-first, and-second, full-rows, copied-alone, copied-nothing, copied-full, no-source, no-target, no-rows, all-fit}
+use Rattle.planes.specs.Fits.{BandFits}
+use Rattle.planes.proofs.Stored.{band-fits, and-first, and-second, full-rows, copied-alone, copied-nothing, copied-full, no-source, no-target, no-rows, all-fit}
 use Rattle.planes_outside.proofs.copy_outside.Statement.{statement}
 use Rattle.planes_outside.proofs.copy_outside.Tie as tie
 

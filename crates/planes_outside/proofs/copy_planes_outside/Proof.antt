@@ -3,9 +3,11 @@ use mathlib.Core.Path.{_≡_, refl, _∙_}
 use Prim.Native.Nat.{_-_, _≤_}
 use native.Mathlib.Omega.{arith}
 use lib.ListN.{length}
-use Rattle.planes.specs.Rect.{planesFill, planes-end}
-use Rattle.planes.specs.Outside.{planesOutside, plane-next}
-use Rattle.planes.specs.Room.{RowsRoom, rows-room}
+use Rattle.planes.specs.Rect.{planesFill}
+use Rattle.planes.proofs.Rect.{planes-end}
+use Rattle.planes.specs.Outside.{planesOutside}
+use Rattle.planes.proofs.Outside.{plane-next}
+use Rattle.planes.proofs.Room.{RowsRoom, rows-room}
 use Rattle.planes_outside.proofs.copy_planes_outside.Statement.{statement}
 use Rattle.planes_outside.proofs.copy_planes_outside.Tie as tie
 

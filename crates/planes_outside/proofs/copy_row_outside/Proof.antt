@@ -2,8 +2,8 @@
 use mathlib.Core.Path.{refl, _∙_}
 use native.Mathlib.Omega.{arith}
 use borrow.Author.Needs.{needs}
-use Rattle.planes.specs.Copy.{copied-run}
-use Rattle.planes.specs.Outside.{row-above, row-below, row-beside}
+use Rattle.planes.proofs.Copy.{copied-run}
+use Rattle.planes.proofs.Outside.{row-above, row-below, row-beside}
 use Rattle.planes_outside.proofs.copy_row_outside.Statement.{statement}
 use Rattle.planes_outside.proofs.copy_row_outside.Tie as tie
 

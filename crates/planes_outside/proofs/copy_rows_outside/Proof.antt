@@ -3,9 +3,11 @@ use mathlib.Core.Path.{_≡_, refl, _∙_}
 use Prim.Native.Nat.{_+_, _-_, _*_, _≤_}
 use native.Mathlib.Omega.{arith}
 use lib.ListN.{length}
-use Rattle.planes.specs.Rect.{rowsFill, rows-turn, rows-end}
-use Rattle.planes.specs.Outside.{rowsOutside, row-next}
-use Rattle.planes.specs.Room.{row-room, next-row}
+use Rattle.planes.specs.Rect.{rowsFill}
+use Rattle.planes.proofs.Rect.{rows-turn, rows-end}
+use Rattle.planes.specs.Outside.{rowsOutside}
+use Rattle.planes.proofs.Outside.{row-next}
+use Rattle.planes.proofs.Room.{row-room, next-row}
 use Rattle.planes_outside.proofs.copy_rows_outside.Statement.{statement}
 use Rattle.planes_outside.proofs.copy_rows_outside.Tie as tie
 

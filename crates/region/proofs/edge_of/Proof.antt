@@ -3,7 +3,8 @@ use mathlib.Core.Path.{_≡_, sym, ap, _∙_}
 use Prim.Native.Nat.{ℕ}
 use borrow.Author.Needs.{needs}
 use Rattle.region_interval.proofs.Flags.{not-true, not-false, yes}
-use Rattle.region.specs.Answers.{edgeAnswer, given-fails, given-holds}
+use Rattle.region.specs.Answers.{edgeAnswer}
+use Rattle.region.proofs.Answers.{given-fails, given-holds}
 use Rattle.region.proofs.edge_of.Statement.{statement}
 use Rattle.region.proofs.edge_of.Tie as tie
 

@@ -5,7 +5,7 @@ use Prim.Native.Nat.{ℕ}
 use native.Mathlib.Omega.{arith}
 use borrow.Author.Needs.{needs}
 use Rattle.region_interval.proofs.Flags.{not-true, not-false, yes}
-use Rattle.region.specs.Laws.{measured-axes}
+use Rattle.region.proofs.Laws.{measured-axes}
 use Rattle.region.proofs.measured.Statement.{statement}
 use Rattle.region.proofs.measured.Tie as tie
 

@@ -1,7 +1,7 @@
 -- `within` meets its contract. Assumes nothing.
 use mathlib.Core.Path.{_≡_, ap, _∙_}
 use borrow.Author.Needs.{needs}
-use Rattle.region_axis.specs.Laws.{axis-ok}
+use Rattle.region_axis.proofs.Laws.{axis-ok}
 use Rattle.region.proofs.within.Statement.{statement}
 use Rattle.region.proofs.within.Tie as tie
 

@@ -7,10 +7,10 @@ use borrow.Author.Needs.{needs}
 use mir.Facts.{toZ-ofZ}
 use Rattle.region_interval.proofs.Flags.{not-true, not-false, yes, true-of}
 use Rattle.region_overlap.specs.Overlap.{vacant, meet}
-use Rattle.region.specs.Answers.{given-holds}
+use Rattle.region.proofs.Answers.{given-holds}
 use Rattle.region_arithmetic.specs.Answers.{regionAnswer, judgedNumber}
 use Rattle.region.specs.Measures.{measured}
-use Rattle.region.specs.Laws.{meet-measured}
+use Rattle.region.proofs.Laws.{meet-measured}
 use Rattle.region.specs.Regions.{columns, rows, regionOf}
 use Rattle.region_arithmetic.specs.Arithmetic.{intersected}
 use Rattle.region_interval.specs.declared.Span.{Span}

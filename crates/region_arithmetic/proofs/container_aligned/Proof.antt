@@ -7,8 +7,9 @@ use borrow.Author.Needs.{needs}
 use Rattle.region_interval.proofs.Flags.{not-true, not-false, yes}
 use lib.Count.{trailingZeros}
 use mir.Facts.{toZ-ofZ}
-use Rattle.region_arithmetic.specs.Answers.{regionAnswer, isAlignment, setting-given, setting-fails, setting-judged}
-use Rattle.region_interval.specs.Powers.{power-found}
+use Rattle.region_arithmetic.specs.Answers.{regionAnswer, isAlignment}
+use Rattle.region_arithmetic.proofs.Answers.{setting-given, setting-fails, setting-judged}
+use Rattle.region_interval.proofs.Powers.{power-found}
 use Rattle.region_arithmetic.specs.Arithmetic.{alignedTo}
 use Rattle.region.specs.Measures.{measured}
 use Rattle.region_arithmetic.proofs.container_aligned.Statement.{statement}

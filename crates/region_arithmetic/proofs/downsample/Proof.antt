@@ -7,7 +7,8 @@ use borrow.Author.Needs.{needs}
 use Rattle.region_interval.proofs.Flags.{not-true, not-false, yes}
 use borrow.Author.Tests.{lt-leb, le-leb}
 use mir.Facts.{toZ-ofZ}
-use Rattle.region_arithmetic.specs.Answers.{regionAnswer, isFactor, setting-given, setting-fails, setting-judged}
+use Rattle.region_arithmetic.specs.Answers.{regionAnswer, isFactor}
+use Rattle.region_arithmetic.proofs.Answers.{setting-given, setting-fails, setting-judged}
 use Rattle.region_arithmetic.specs.Arithmetic.{downsampled, shrunkBy}
 use Rattle.region.specs.Measures.{measured}
 use Rattle.region_arithmetic.proofs.downsample.Statement.{statement}

@@ -5,7 +5,7 @@ use Prim.Native.Nat.{ℕ}
 use native.Mathlib.Omega.{arith}
 use borrow.Author.Needs.{needs}
 use Rattle.region_interval.proofs.Flags.{not-true, not-false, yes}
-use Rattle.region.specs.Answers.{pair-first, pair-second, pair-holds}
+use Rattle.region.proofs.Answers.{pair-first, pair-second, pair-holds}
 use Rattle.region_arithmetic.specs.Answers.{regionAnswer}
 use Rattle.region_arithmetic.specs.Arithmetic.{intersected}
 use Rattle.region.specs.Measures.{measured}

@@ -9,7 +9,7 @@ use native.Mathlib.Omega.{arith}
 use borrow.Author.Needs.{needs}
 use lib.Count.{trailingZeros}
 use lib.Dec.{eqb, eqb→eq}
-use Rattle.region_interval.specs.Powers.{power-found, power-in}
+use Rattle.region_interval.proofs.Powers.{power-found, power-in}
 use Rattle.region_interval.specs.Interval.{powerBelow}
 use Rattle.region_arithmetic.proofs.is_alignment.Statement.{statement}
 use Rattle.region_arithmetic.proofs.is_alignment.Tie as tie

@@ -8,10 +8,10 @@ use Rattle.region_interval.proofs.Flags.{not-true, not-false, yes}
 use mir.Syntax.{w32}
 use mir.Facts.{toZ-ofZ}
 use Rattle.region_axis.specs.Measures.{measured as measuredSpan}
-use Rattle.region_axis.specs.Laws.{axis-ok, axis-yes}
+use Rattle.region_axis.proofs.Laws.{axis-ok, axis-yes}
 use Rattle.region_arithmetic.specs.Answers.{regionAnswer, judgedNumber}
 use Rattle.region.specs.Measures.{measured}
-use Rattle.region.specs.Laws.{measured-spans}
+use Rattle.region.proofs.Laws.{measured-spans}
 use Rattle.region.specs.Regions.{regionOf}
 use Rattle.region_arithmetic.proofs.judged.Statement.{statement}
 use Rattle.region_arithmetic.proofs.judged.Tie as tie

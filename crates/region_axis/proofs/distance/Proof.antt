@@ -8,7 +8,7 @@ use lib.Signed.{leZ, nonNeg, mag, natAbs-le}
 use mir.Syntax.{w64}
 use mir.Val.{SFits, Fits}
 use mir.Facts.{toZ-ofZ}
-use Rattle.region_interval.specs.Order.{le-to, not-le, ahead, not-negative, size-is, same-size, mag-add, mag-neg, above, below}
+use Rattle.region_interval.proofs.Order.{le-to, not-le, ahead, not-negative, size-is, same-size, mag-add, mag-neg, above, below}
 use Rattle.region_axis.proofs.distance.Statement.{statement}
 use Rattle.region_axis.proofs.distance.Tie as tie
 use Prim.Native.Nat.{_<_, _≤_, _+_}

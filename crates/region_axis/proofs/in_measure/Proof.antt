@@ -5,7 +5,7 @@ use lib.IntN.{ℤ, negsuc}
 use lib.Signed.{ltZ, leZ}
 use mir.Facts.{toZ-ofZ}
 use Rattle.region_axis.specs.Measures.{place}
-use Rattle.region_interval.specs.Order.{lt-not-le, not-lt-le}
+use Rattle.region_interval.proofs.Order.{lt-not-le, not-lt-le}
 use Rattle.region_axis.proofs.in_measure.Statement.{statement}
 use Rattle.region_axis.proofs.in_measure.Tie as tie
 

@@ -12,8 +12,8 @@ use mir.Val.{SFits}
 use mir.Facts.{toZ-ofZ}
 use Rattle.region_axis.specs.Measures.{place}
 use Rattle.region_interval.specs.declared.Span.{Span}
-use Rattle.region_axis.specs.Laws.{place-size, axis-unplaced, axis-long, axis-in, far-end}
-use Rattle.region_interval.specs.Order.{not-le, lt-not-le, not-lt-le}
+use Rattle.region_axis.proofs.Laws.{place-size, axis-unplaced, axis-long, axis-in, far-end}
+use Rattle.region_interval.proofs.Order.{not-le, lt-not-le, not-lt-le}
 use Rattle.region_interval.proofs.Flags.{not-true, not-false, yes}
 use Rattle.region_axis.proofs.judged.Statement.{statement}
 use Rattle.region_axis.proofs.judged.Tie as tie

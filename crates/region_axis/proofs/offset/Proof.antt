@@ -7,7 +7,7 @@ use borrow.Author.Needs.{needs}
 use lib.IntN.{ℤ, natAbs, _-ℤ_}
 use lib.Signed.{mag}
 use mir.Facts.{toZ-ofZ}
-use Rattle.region_interval.specs.Order.{above, below, one-side, difference-is, size-is, above-mag, below-mag}
+use Rattle.region_interval.proofs.Order.{above, below, one-side, difference-is, size-is, above-mag, below-mag}
 use Rattle.region_interval.proofs.Signed.{wider}
 use Rattle.region_axis.proofs.offset.Statement.{statement}
 use Rattle.region_axis.proofs.offset.Tie as tie

@@ -5,7 +5,7 @@ use lib.IntN.{pos, negℤ, +ℤ-idl}
 use mir.Syntax.{w64}
 use mir.Val.{SFits}
 use mir.Facts.{toZ-ofZ}
-use Rattle.region_interval.specs.Order.{mag-neg}
+use Rattle.region_interval.proofs.Order.{mag-neg}
 use Rattle.region_interval.proofs.negated.Statement.{statement}
 use Rattle.region_interval.proofs.negated.Tie as tie
 

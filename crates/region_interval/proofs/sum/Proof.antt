@@ -5,7 +5,7 @@ use lib.IntN.{_+ℤ_}
 use mir.Syntax.{w64}
 use mir.Val.{SFits}
 use mir.Facts.{toZ-ofZ}
-use Rattle.region_interval.specs.Order.{mag-add}
+use Rattle.region_interval.proofs.Order.{mag-add}
 use Rattle.region_interval.proofs.sum.Statement.{statement}
 use Rattle.region_interval.proofs.sum.Tie as tie
 

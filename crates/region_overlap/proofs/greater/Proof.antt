@@ -1,7 +1,7 @@
 -- `greater` meets its contract. Assumes nothing.
 use mathlib.Core.Path.{sym, _∙_}
 use mir.Facts.{toZ-ofZ}
-use Rattle.region_interval.specs.Order.{greatest-right, greatest-left}
+use Rattle.region_interval.proofs.Order.{greatest-right, greatest-left}
 use Rattle.region_overlap.proofs.greater.Statement.{statement}
 use Rattle.region_overlap.proofs.greater.Tie as tie
 

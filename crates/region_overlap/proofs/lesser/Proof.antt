@@ -1,7 +1,7 @@
 -- `lesser` meets its contract. Assumes nothing.
 use mathlib.Core.Path.{sym, _∙_}
 use mir.Facts.{toZ-ofZ}
-use Rattle.region_interval.specs.Order.{least-left, least-right}
+use Rattle.region_interval.proofs.Order.{least-left, least-right}
 use Rattle.region_overlap.proofs.lesser.Statement.{statement}
 use Rattle.region_overlap.proofs.lesser.Tie as tie
 

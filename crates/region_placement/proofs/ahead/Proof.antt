@@ -8,7 +8,7 @@ use mir.Val.{Fits, SFits}
 use lib.IntN.{ℤ, natAbs}
 use lib.Signed.{mag}
 use Rattle.region_placement.specs.Blocks.{ahead}
-use Rattle.region_placement.specs.BlockLaws.{ahead-small, not-negative, negative}
+use Rattle.region_placement.proofs.BlockLaws.{ahead-small, not-negative, negative}
 use Rattle.region_placement.proofs.ahead.Statement.{statement}
 use Rattle.region_placement.proofs.ahead.Tie as tie
 

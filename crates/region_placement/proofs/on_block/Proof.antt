@@ -1,7 +1,7 @@
 -- `region_placement::on_block` meets its contract. Assumes nothing.
 use borrow.Author.Needs.{needs}
 use mir.Facts.{toZ-ofZ}
-use Rattle.region_placement.specs.BlockLaws.{negative, multiple}
+use Rattle.region_placement.proofs.BlockLaws.{negative, multiple}
 use Rattle.region_placement.proofs.on_block.Statement.{statement}
 use Rattle.region_placement.proofs.on_block.Tie as tie
 

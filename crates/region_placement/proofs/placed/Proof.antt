@@ -8,11 +8,13 @@ use borrow.Author.Tests.{ne-eqb}
 use Rattle.region_interval.proofs.Flags.{not-true, not-false, yes, true-of}
 use mir.Syntax.{w32}
 use mir.Facts.{toZ-ofZ}
-use Rattle.region_placement.specs.Placed.{placedAnswer, placed-image, placed-filter, placed-outside, placed-inside}
+use Rattle.region_placement.specs.Placed.{placedAnswer}
+use Rattle.region_placement.proofs.PlacedLaws.{placed-image, placed-filter, placed-outside, placed-inside}
 use Rattle.region.specs.Measures.{measured, pictured}
-use Rattle.region.specs.Laws.{pictured-measured, pictured-width, pictured-height}
+use Rattle.region.proofs.Laws.{pictured-measured, pictured-width, pictured-height}
 use Rattle.region.specs.Regions.{inside}
-use Rattle.region.specs.Answers.{containsOutcome, pair-holds}
+use Rattle.region.specs.Answers.{containsOutcome}
+use Rattle.region.proofs.Answers.{pair-holds}
 use Rattle.region.specs.declared.Region.{Region}
 use Rattle.region.specs.declared.BoolAnswer.{BoolAnswer}
 use Rattle.region_placement.proofs.placed.Statement.{statement}

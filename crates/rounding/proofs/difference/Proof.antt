@@ -1,6 +1,6 @@
 -- `rounding::difference` meets its contract. Assumes nothing.
 use borrow.Author.Needs.{needs}
-use Rattle.rounding.specs.MagnitudeLaws.{difference-is}
+use Rattle.rounding.proofs.MagnitudeLaws.{difference-is}
 use Rattle.rounding.proofs.difference.Statement.{statement}
 use Rattle.rounding.proofs.difference.Tie as tie
 

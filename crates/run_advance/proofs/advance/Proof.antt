@@ -1,6 +1,6 @@
 -- `run_advance::advance` meets its contract. Assumes nothing.
 use borrow.Author.Needs.{needs}
-use Rattle.run_advance.specs.Accepted.{advance-refused, advance-few, advance-done}
+use Rattle.run_advance.proofs.Accepted.{advance-refused, advance-few, advance-done}
 use Rattle.run_advance.proofs.advance.Statement.{statement}
 use Rattle.run_advance.proofs.advance.Tie as tie
 

@@ -4,7 +4,7 @@ use native.Mathlib.Omega.{arith}
 use borrow.Author.Needs.{needs}
 use denote.Ref.{now}
 use Rattle.run_outcomes.specs.Band.{State}
-use Rattle.run_band.specs.Accepted.{room, number-is, band-refused, band-done}
+use Rattle.run_band.proofs.Accepted.{room, number-is, band-refused, band-done}
 use Rattle.run_band.proofs.band.Statement.{statement}
 use Rattle.run_band.proofs.band.Tie as tie
 

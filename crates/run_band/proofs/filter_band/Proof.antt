@@ -6,7 +6,7 @@ use borrow.Author.Needs.{needs}
 use denote.Ref.{now}
 use Rattle.run_setup.specs.Setup.{bandTo}
 use Rattle.run_outcomes.specs.Band.{State}
-use Rattle.run_band.specs.Accepted.{Room, room, first-rows, second-rows, second-written, first-written}
+use Rattle.run_band.proofs.Accepted.{Room, room, first-rows, second-rows, second-written, first-written}
 use Rattle.run_band.proofs.filter_band.Statement.{statement}
 use Rattle.run_band.proofs.filter_band.Tie as tie
 

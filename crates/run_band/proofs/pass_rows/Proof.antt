@@ -2,7 +2,7 @@
 use mathlib.Core.Path.{sym, _∙_}
 use borrow.Author.Needs.{needs}
 use denote.Ref.{now}
-use Rattle.run_band.specs.Rows.{gabor-rows, step-rows}
+use Rattle.run_band.proofs.Rows.{gabor-rows, step-rows}
 use Rattle.run_band.proofs.pass_rows.Statement.{statement}
 use Rattle.run_band.proofs.pass_rows.Tie as tie
 

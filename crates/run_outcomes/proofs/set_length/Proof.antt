@@ -3,7 +3,7 @@ use Prim.Native.Nat.{_*_, _≤_}
 use native.Mathlib.Nat.{mul-le-mul}
 use native.Mathlib.Omega.{arith}
 use borrow.Author.Needs.{needs}
-use Rattle.run_outcomes.specs.Tests.{sized-sides}
+use Rattle.run_outcomes.proofs.Tests.{sized-sides}
 use Rattle.run_outcomes.proofs.set_length.Statement.{statement}
 use Rattle.run_outcomes.proofs.set_length.Tie as tie
 

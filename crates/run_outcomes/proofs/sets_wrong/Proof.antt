@@ -5,7 +5,7 @@ use Prim.Native.Nat.{ℕ}
 use lib.Dec.{eqb}
 use borrow.Author.Needs.{needs}
 use borrow.Author.Tests.{not-true, not-false}
-use Rattle.run_outcomes.specs.Tests.{sets-unknown, first-wrong, sets-by-second}
+use Rattle.run_outcomes.proofs.Tests.{sets-unknown, first-wrong, sets-by-second}
 use Rattle.run_outcomes.proofs.sets_wrong.Statement.{statement}
 use Rattle.run_outcomes.proofs.sets_wrong.Tie as tie
 

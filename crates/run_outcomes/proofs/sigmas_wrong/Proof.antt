@@ -5,7 +5,7 @@ use native.Mathlib.Nat.{mul-le-mul}
 use native.Mathlib.Omega.{arith}
 use borrow.Author.Needs.{needs}
 use borrow.Author.Tests.{not-true, not-false}
-use Rattle.run_outcomes.specs.Tests.{sized-sides, sigmas-unknown, sigmas-none, filter-unknown, sigmas-by-count}
+use Rattle.run_outcomes.proofs.Tests.{sized-sides, sigmas-unknown, sigmas-none, filter-unknown, sigmas-by-count}
 use Rattle.run_outcomes.proofs.sigmas_wrong.Statement.{statement}
 use Rattle.run_outcomes.proofs.sigmas_wrong.Tie as tie
 

@@ -4,7 +4,7 @@ use mathlib.Core.Bool.{true}
 use borrow.Author.Needs.{needs}
 use borrow.Author.Tests.{not-true, not-false}
 use Rattle.run_setup.specs.Setup.{fullFits}
-use Rattle.run_outcomes.specs.Tests.{no-result, slice-unknown, slice-by-length}
+use Rattle.run_outcomes.proofs.Tests.{no-result, slice-unknown, slice-by-length}
 use Rattle.run_outcomes.proofs.slice_wrong.Statement.{statement}
 use Rattle.run_outcomes.proofs.slice_wrong.Tie as tie
 

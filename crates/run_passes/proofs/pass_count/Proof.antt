@@ -1,7 +1,7 @@
 -- `run_passes::pass_count` meets its contract. Assumes nothing.
 use borrow.Author.Needs.{needs}
 use native.Mathlib.Omega.{arith}
-use Rattle.run_passes.specs.PlanLaws.{plan-length}
+use Rattle.run_passes.proofs.PlanLaws.{plan-length}
 use Rattle.run_passes.proofs.pass_count.Statement.{statement}
 use Rattle.run_passes.proofs.pass_count.Tie as tie
 

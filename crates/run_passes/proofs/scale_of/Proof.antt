@@ -2,7 +2,7 @@
 use mathlib.Core.Path.{_≡_}
 use native.Mathlib.Omega.{arith}
 use Rattle.run_passes.specs.Plan.{scaleOf}
-use Rattle.run_passes.specs.PlanLaws.{scale-last}
+use Rattle.run_passes.proofs.PlanLaws.{scale-last}
 use Rattle.run_passes.proofs.scale_of.Statement.{statement}
 use Rattle.run_passes.proofs.scale_of.Tie as tie
 

@@ -2,7 +2,7 @@
 use mathlib.Core.Path.{_≡_, refl}
 use native.Mathlib.Omega.{arith}
 use Rattle.run_passes.specs.Plan.{stepMargin}
-use Rattle.run_passes.specs.PlanLaws.{step-margin-most}
+use Rattle.run_passes.proofs.PlanLaws.{step-margin-most}
 use Rattle.run_passes.proofs.step_margin.Statement.{statement}
 use Rattle.run_passes.proofs.step_margin.Tie as tie
 

@@ -5,7 +5,7 @@ use native.Mathlib.Omega.{arith}
 use borrow.Author.Needs.{needs}
 use borrow.Author.Tests.{not-true, not-false}
 use Rattle.run_record.specs.Record.{runFits, finished, bandMissing}
-use Rattle.run_record.specs.Laws.{fits-setup-of}
+use Rattle.run_record.proofs.Laws.{fits-setup-of}
 use Rattle.run_record.proofs.advance_number.Statement.{statement}
 use Rattle.run_record.proofs.advance_number.Tie as tie
 

@@ -7,7 +7,7 @@ use borrow.Author.Needs.{needs}
 use lib.ListN.{getD}
 use Rattle.refusals.specs.Flags.{flagSet}
 use Rattle.sigma_grids.specs.Table.{someBelow}
-use Rattle.sigma_grids.specs.Laws.{some-found, some-turn, some-end}
+use Rattle.sigma_grids.proofs.Laws.{some-found, some-turn, some-end}
 use Rattle.run_record.specs.Record.{isDone}
 use Rattle.run_record.proofs.band_missing.Statement.{statement}
 use Rattle.run_record.proofs.band_missing.Tie as tie

@@ -4,7 +4,7 @@ use mathlib.Core.Bool.{true, false}
 use borrow.Author.Needs.{needs}
 use borrow.Author.Tests.{not-true, not-false}
 use Rattle.run_record.specs.Record.{runFits, notOpen}
-use Rattle.run_record.specs.Laws.{fits-setup-of}
+use Rattle.run_record.proofs.Laws.{fits-setup-of}
 use Rattle.run_record.proofs.band_number.Statement.{statement}
 use Rattle.run_record.proofs.band_number.Tie as tie
 

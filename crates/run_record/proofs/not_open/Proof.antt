@@ -2,7 +2,7 @@
 use mathlib.Core.Path.{sym, _∙_}
 use native.Mathlib.Omega.{arith}
 use borrow.Author.Needs.{needs}
-use Rattle.run_record.specs.Tests.{over-not-open, no-such-band, open-by-done}
+use Rattle.run_record.proofs.Tests.{over-not-open, no-such-band, open-by-done}
 use Rattle.run_record.proofs.not_open.Statement.{statement}
 use Rattle.run_record.proofs.not_open.Tie as tie
 

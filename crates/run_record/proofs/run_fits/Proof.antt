@@ -5,7 +5,7 @@ use native.Mathlib.Omega.{arith}
 use borrow.Author.Needs.{needs}
 use borrow.Author.Tests.{not-true, not-false}
 use Rattle.run_record.specs.Record.{strayDone}
-use Rattle.run_record.specs.Tests.{bad-setup, past-last, fits-by-done}
+use Rattle.run_record.proofs.Tests.{bad-setup, past-last, fits-by-done}
 use Rattle.run_record.proofs.run_fits.Statement.{statement}
 use Rattle.run_record.proofs.run_fits.Tie as tie
 

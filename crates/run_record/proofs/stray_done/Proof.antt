@@ -6,7 +6,7 @@ use native.Mathlib.Omega.{arith}
 use borrow.Author.Needs.{needs}
 use lib.ListN.{getD}
 use Rattle.sigma_grids.specs.Table.{someBelow}
-use Rattle.sigma_grids.specs.Laws.{some-found, some-turn, some-end}
+use Rattle.sigma_grids.proofs.Laws.{some-found, some-turn, some-end}
 use Rattle.run_record.specs.Record.{strayFlag}
 use Rattle.run_record.proofs.stray_done.Statement.{statement}
 use Rattle.run_record.proofs.stray_done.Tie as tie

@@ -5,11 +5,12 @@ use native.Mathlib.Nat.{suc-mul, mul-le-mul, mul-le-mul-right, add-mul}
 use native.Mathlib.Omega.{arith}
 use lib.ListN.{length}
 use Rattle.planes.specs.declared.Layout.{Layout}
-use Rattle.planes.specs.Rect.{planesFill, planes-end}
-use Rattle.planes.specs.Stored.{LayoutFits}
-use Rattle.planes.specs.Room.{PlaneRoom, plane-room}
+use Rattle.planes.specs.Rect.{planesFill}
+use Rattle.planes.proofs.Rect.{planes-end}
+use Rattle.planes.specs.Fits.{LayoutFits}
+use Rattle.planes.proofs.Room.{PlaneRoom, plane-room}
 use Rattle.planes.specs.Band.{inner}
-use Rattle.run_result.specs.Part.{plane-next}
+use Rattle.run_result.proofs.Part.{plane-next}
 use Rattle.run_result.proofs.copy_planes.Statement.{statement}
 use Rattle.run_result.proofs.copy_planes.Tie as tie
 

@@ -1,7 +1,7 @@
 -- `run_result::copy_result` meets its contract. Assumes nothing.
 use native.Mathlib.Omega.{arith}
 use borrow.Author.Needs.{needs}
-use Rattle.run_result.specs.Part.{setup-part, source-length, target-length, setup-copied}
+use Rattle.run_result.proofs.Part.{setup-part, source-length, target-length, setup-copied}
 use Rattle.run_result.proofs.copy_result.Statement.{statement}
 use Rattle.run_result.proofs.copy_result.Tie as tie
 

@@ -5,10 +5,12 @@ use native.Mathlib.Omega.{arith}
 use borrow.Author.Needs.{needs}
 use lib.ListN.{length}
 use Rattle.planes.specs.declared.Layout.{Layout}
-use Rattle.planes.specs.Copy.{copied-run}
-use Rattle.planes.specs.Rect.{rowsFill, rows-end}
-use Rattle.planes.specs.Room.{row-room, next-row}
-use Rattle.run_result.specs.Part.{rowsOf, row-next}
+use Rattle.planes.proofs.Copy.{copied-run}
+use Rattle.planes.specs.Rect.{rowsFill}
+use Rattle.planes.proofs.Rect.{rows-end}
+use Rattle.planes.proofs.Room.{row-room, next-row}
+use Rattle.run_result.specs.Part.{rowsOf}
+use Rattle.run_result.proofs.Part.{row-next}
 use Rattle.run_result.proofs.copy_rows.Statement.{statement}
 use Rattle.run_result.proofs.copy_rows.Tie as tie
 

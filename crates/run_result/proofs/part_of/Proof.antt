@@ -1,6 +1,6 @@
 -- `run_result::part_of` meets its contract. Assumes nothing.
 use borrow.Author.Tests.{not-true, not-false}
-use Rattle.run_result.specs.Part.{part-alone, part-full}
+use Rattle.run_result.proofs.Part.{part-alone, part-full}
 use Rattle.run_result.proofs.part_of.Statement.{statement}
 use Rattle.run_result.proofs.part_of.Tie as tie
 

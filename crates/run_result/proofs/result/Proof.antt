@@ -7,7 +7,7 @@ use lib.ListN.{length}
 use Rattle.refusals.specs.Checks.{applies}
 use Rattle.run_outcomes.specs.Band.{setCheck}
 use Rattle.run_outcomes.specs.Result.{sliceCheck}
-use Rattle.run_result.specs.Tests.{sets-refused, slice-refused, record-refused, Lent, lent, from-first, from-second}
+use Rattle.run_result.proofs.Tests.{sets-refused, slice-refused, record-refused, Lent, lent, from-first, from-second}
 use Rattle.run_result.proofs.result.Statement.{statement}
 use Rattle.run_result.proofs.result.Tie as tie
 

@@ -2,7 +2,7 @@
 use borrow.Author.Needs.{needs}
 use native.Mathlib.Omega.{arith}
 use Rattle.run_setup.specs.Setup.{bandCount}
-use Rattle.run_setup.specs.Tests.{no-bands}
+use Rattle.run_setup.proofs.Tests.{no-bands}
 use Rattle.run_setup.proofs.band_count.Statement.{statement}
 use Rattle.run_setup.proofs.band_count.Tie as tie
 

@@ -2,7 +2,7 @@
 use mathlib.Core.Path.{_∙_}
 use borrow.Author.Needs.{needs}
 use native.Mathlib.Omega.{arith}
-use Rattle.run_setup.specs.Tests.{filter-off, filter-on}
+use Rattle.run_setup.proofs.Tests.{filter-off, filter-on}
 use Rattle.run_setup.proofs.blocks_fit.Statement.{statement}
 use Rattle.run_setup.proofs.blocks_fit.Tie as tie
 

@@ -1,6 +1,6 @@
 -- `run_setup::height_fits` meets its contract. Assumes nothing.
 use native.Mathlib.Omega.{arith}
-use Rattle.run_setup.specs.Tests.{no-band-height, height-by-most}
+use Rattle.run_setup.proofs.Tests.{no-band-height, height-by-most}
 use Rattle.run_setup.proofs.height_fits.Statement.{statement}
 use Rattle.run_setup.proofs.height_fits.Tie as tie
 

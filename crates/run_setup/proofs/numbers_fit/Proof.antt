@@ -8,7 +8,7 @@ use borrow.Author.Tests.{not-true, not-false}
 use lib.Dec.{leb}
 use Rattle.run_passes.specs.Plan.{gaborFits}
 use Rattle.run_setup.specs.Setup.{fullFits}
-use Rattle.run_setup.specs.Tests.{too-many-iters, no-full-fits, no-gabor-fits, no-height-fits, fits-by-count}
+use Rattle.run_setup.proofs.Tests.{too-many-iters, no-full-fits, no-gabor-fits, no-height-fits, fits-by-count}
 use Rattle.run_setup.proofs.numbers_fit.Statement.{statement}
 use Rattle.run_setup.proofs.numbers_fit.Tie as tie
 

@@ -2,7 +2,7 @@
 use mathlib.Core.Path.{sym, _∙_}
 use borrow.Author.Needs.{needs}
 use native.Mathlib.Omega.{arith}
-use Rattle.run_setup.specs.Tests.{full-rows, part-rows}
+use Rattle.run_setup.proofs.Tests.{full-rows, part-rows}
 use Rattle.run_setup.proofs.row_count.Statement.{statement}
 use Rattle.run_setup.proofs.row_count.Tie as tie
 

@@ -2,7 +2,7 @@
 use mathlib.Core.Path.{sym, _∙_}
 use borrow.Author.Tests.{not-true, not-false}
 use borrow.Author.Needs.{needs}
-use Rattle.run_setup.specs.Tests.{not-placed, not-on-blocks, fits-by-numbers}
+use Rattle.run_setup.proofs.Tests.{not-placed, not-on-blocks, fits-by-numbers}
 use Rattle.run_setup.proofs.setup_fits.Statement.{statement}
 use Rattle.run_setup.proofs.setup_fits.Tie as tie
 

@@ -2,7 +2,7 @@
 use Prim.Native.Nat.{_*_, _≤_}
 use native.Mathlib.Nat.{mul-le-mul}
 use native.Mathlib.Omega.{arith}
-use Rattle.run_setup.specs.Tests.{too-wide, too-high, no-width, no-height, sized-by-area}
+use Rattle.run_setup.proofs.Tests.{too-wide, too-high, no-width, no-height, sized-by-area}
 use Rattle.run_setup.proofs.sized.Statement.{statement}
 use Rattle.run_setup.proofs.sized.Tie as tie
 

@@ -1,6 +1,6 @@
 -- `run_start::blocks_of` meets its contract. Assumes nothing.
 use borrow.Author.Needs.{needs}
-use Rattle.run_start.specs.Tests.{same-blocks}
+use Rattle.run_start.proofs.Tests.{same-blocks}
 use mir.Facts.{toZ-ofZ}
 use Rattle.run_start.proofs.blocks_of.Statement.{statement}
 use Rattle.run_start.proofs.blocks_of.Tie as tie

@@ -1,7 +1,7 @@
 -- `run_start::groups_number` meets its contract. Assumes nothing.
 use borrow.Author.Needs.{needs}
 use denote.Ref.{now}
-use Rattle.run_start.specs.Tests.{same-groups}
+use Rattle.run_start.proofs.Tests.{same-groups}
 use Rattle.run_start.proofs.groups_number.Statement.{statement}
 use Rattle.run_start.proofs.groups_number.Tie as tie
 

@@ -9,7 +9,7 @@ use Rattle.run_passes.specs.Plan.{gaborFits}
 use Rattle.run_setup.specs.Setup.{itersFit, fullFits, heightFits, countFits, numbersFit}
 use Rattle.run_outcomes.specs.Band.{setCheck}
 use Rattle.run_start.specs.Pieces.{runsEpf}
-use Rattle.run_start.specs.Tests.{told-row}
+use Rattle.run_start.proofs.Tests.{told-row}
 use Rattle.run_start.proofs.own_number.Statement.{statement}
 use Rattle.run_start.proofs.own_number.Tie as tie
 

@@ -3,8 +3,8 @@ use mathlib.Core.Path.{_∙_}
 use borrow.Author.Needs.{needs}
 use denote.Ref.{now}
 use Rattle.run_outcomes.specs.Start.{Handed}
-use Rattle.run_start.specs.Tests.{same-sigmas}
-use Rattle.run_start.specs.Number.{refused, accepted}
+use Rattle.run_start.proofs.Tests.{same-sigmas}
+use Rattle.run_start.proofs.Number.{refused, accepted}
 use Rattle.run_start.proofs.start.Statement.{statement}
 use Rattle.run_start.proofs.start.Tie as tie
 

@@ -12,8 +12,8 @@ use Rattle.refusals.specs.Flags.{flagSet}
 use Rattle.sigma.specs.Sigma.{blockSigmas}
 use Rattle.sigma_groups.specs.Outcome.{sigmaCount}
 use Rattle.sigma.specs.Outcome.{SigmasOutcome, leftIn}
-use Rattle.sigma_groups.specs.Laws.{Accepted, accepted-fits}
-use Rattle.sigma.specs.Runs.{all-fits}
+use Rattle.sigma_groups.proofs.Laws.{Accepted, accepted-fits}
+use Rattle.sigma.proofs.Runs.{all-fits}
 use Rattle.sigma.proofs.block_sigmas.Statement.{statement}
 use Rattle.sigma.proofs.block_sigmas.Tie as tie
 

@@ -4,9 +4,10 @@ use Prim.Native.Nat.{ℕ, _+_, _-_}
 use native.Mathlib.Omega.{arith}
 use borrow.Author.Needs.{needs}
 use denote.Ref.{now}
-use Rattle.planes.specs.Loop.{Written, written-none, written-more, written-all}
+use Rattle.planes.proofs.Loop.{Written, written-none, written-more, written-all}
 use Rattle.sigma.specs.Sigma.{missing}
-use Rattle.sigma.specs.Runs.{aboveIn, above-same}
+use Rattle.sigma.specs.Runs.{aboveIn}
+use Rattle.sigma.proofs.Runs.{above-same}
 use Rattle.sigma.proofs.fill_missing.Statement.{statement}
 use Rattle.sigma.proofs.fill_missing.Tie as tie
 

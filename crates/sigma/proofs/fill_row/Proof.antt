@@ -5,11 +5,13 @@ use Prim.Native.Nat.{ℕ, _+_, _-_, _<_, _≤_}
 use native.Mathlib.Omega.{arith}
 use denote.Ref.{now}
 use lib.ListN.{length}
-use Rattle.planes.specs.Fill.{fill, fill-end}
+use Rattle.planes.specs.Fill.{fill}
+use Rattle.planes.proofs.Fill.{fill-end}
 use Rattle.sigma_groups.specs.Held.{notHeld}
-use Rattle.sigma_grids.specs.Laws.{none-below}
-use Rattle.sigma_groups.specs.Laws.{Held, held}
-use Rattle.sigma.specs.Runs.{rowSigma, RunOf, run-fits, row-turn}
+use Rattle.sigma_grids.proofs.Laws.{none-below}
+use Rattle.sigma_groups.proofs.Laws.{Held, held}
+use Rattle.sigma.specs.Runs.{rowSigma, RunOf}
+use Rattle.sigma.proofs.Runs.{run-fits, row-turn}
 use Rattle.sigma.proofs.fill_row.Statement.{statement}
 use Rattle.sigma.proofs.fill_row.Tie as tie
 

@@ -9,8 +9,8 @@ use denote.Ref.{now}
 use lib.ListN.{length}
 use Rattle.planes.specs.Fill.{fill}
 use Rattle.sigma_blocks.specs.Measures.{blocksAcross, blocksDown}
-use Rattle.sigma_blocks.specs.Laws.{down-le}
-use Rattle.sigma.specs.Runs.{flatSigma, row-fits, rows-turn, rows-end}
+use Rattle.sigma_blocks.proofs.Laws.{down-le}
+use Rattle.sigma.proofs.Runs.{flatSigma, row-fits, rows-turn, rows-end}
 use Rattle.sigma.proofs.fill_rows.Statement.{statement}
 use Rattle.sigma.proofs.fill_rows.Tie as tie
 

@@ -4,12 +4,13 @@ use Prim.Native.Nat.{_+_, _*_, _≤_}
 use borrow.Author.Needs.{needs}
 use native.Mathlib.Omega.{arith}
 use denote.Ref.{now}
-use Rattle.planes.specs.Copy.{copied-run}
-use Rattle.planes.specs.Fill.{fill-cong}
+use Rattle.planes.proofs.Copy.{copied-run}
+use Rattle.planes.proofs.Fill.{fill-cong}
 use Rattle.sigma_grids.specs.declared.StartAnswer.{StartAnswer}
 use Rattle.sigma_grids.specs.Table.{gridStart, gridWidth}
-use Rattle.sigma_grids.specs.Laws.{start-le, start-accepted}
-use Rattle.sigma.specs.Runs.{Holds, row-le, run-room, run-present, run-missing}
+use Rattle.sigma_grids.proofs.Laws.{start-le, start-accepted}
+use Rattle.sigma.specs.Runs.{Holds}
+use Rattle.sigma.proofs.Runs.{row-le, run-room, run-present, run-missing}
 use Rattle.sigma.proofs.fill_run.Statement.{statement}
 use Rattle.sigma.proofs.fill_run.Tie as tie
 

@@ -7,9 +7,9 @@ use native.Mathlib.Omega.{arith}
 use Rattle.frame.specs.declared.Frame.{Frame}
 use Rattle.frame.specs.declared.GroupSizes.{GroupSizes}
 use Rattle.frame.specs.Sizes.{sizesOf, groupOf, innerOf, groupDim}
-use Rattle.frame.specs.Laws.{Bounded, sizes-bounded, inner-lt}
+use Rattle.frame.proofs.Laws.{Bounded, sizes-bounded, inner-lt}
 use Rattle.sigma_groups.specs.Held.{groupAt}
-use Rattle.sigma_groups.specs.Laws.{split-group, split-inner}
+use Rattle.sigma_groups.proofs.Laws.{split-group, split-inner}
 use Rattle.sigma.proofs.run_at.Statement.{statement}
 use Rattle.sigma.proofs.run_at.Tie as tie
 

@@ -8,7 +8,7 @@ use native.Mathlib.Nat.{mul-le-mul}
 use native.Mathlib.Omega.{arith}
 use Rattle.frame.specs.Outcome.{badSide}
 use Rattle.sigma_blocks.specs.Measures.{badBlocks}
-use Rattle.sigma_grids.specs.Laws.{side-range}
+use Rattle.sigma_grids.proofs.Laws.{side-range}
 use Rattle.sigma_blocks.proofs.bad_blocks.Statement.{statement}
 use Rattle.sigma_blocks.proofs.bad_blocks.Tie as tie
 

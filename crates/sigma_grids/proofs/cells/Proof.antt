@@ -5,7 +5,7 @@ use borrow.Author.Needs.{needs}
 use native.Mathlib.Nat.{mul-le-mul}
 use native.Mathlib.Omega.{arith}
 use Rattle.sigma_grids.specs.Table.{gridWidth, gridHeight}
-use Rattle.sigma_grids.specs.Laws.{grid-sides, cells-present, cells-missing}
+use Rattle.sigma_grids.proofs.Laws.{grid-sides, cells-present, cells-missing}
 use Rattle.sigma_grids.proofs.cells.Statement.{statement}
 use Rattle.sigma_grids.proofs.cells.Tie as tie
 

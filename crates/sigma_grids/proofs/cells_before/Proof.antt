@@ -5,7 +5,7 @@ use Prim.Native.Nat.{_+_, _-_, _≤_}
 use denote.Ref.{now}
 use native.Mathlib.Omega.{arith}
 use Rattle.sigma_grids.specs.Table.{gridStart, badGrid, cells}
-use Rattle.sigma_grids.specs.Laws.{none-below, cells-le, start-le, start-more}
+use Rattle.sigma_grids.proofs.Laws.{none-below, cells-le, start-le, start-more}
 use Rattle.sigma_grids.proofs.cells_before.Statement.{statement}
 use Rattle.sigma_grids.proofs.cells_before.Tie as tie
 

@@ -11,7 +11,7 @@ use lib.ListN.{length}
 use Rattle.sigma_grids.specs.Table.{badGrid, someBelow}
 use Rattle.sigma_grids.specs.Start.{noEntries, startOutcome}
 use Rattle.sigma_grids.specs.declared.StartAnswer.{StartAnswer}
-use Rattle.sigma_grids.specs.Laws.{start-accepted}
+use Rattle.sigma_grids.proofs.Laws.{start-accepted}
 use Rattle.sigma_grids.proofs.grid_start.Statement.{statement}
 use Rattle.sigma_grids.proofs.grid_start.Tie as tie
 

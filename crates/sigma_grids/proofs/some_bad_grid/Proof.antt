@@ -4,7 +4,7 @@ use mathlib.Core.Bool.{false}
 use Prim.Native.Nat.{_-_, _≤_}
 use native.Mathlib.Omega.{arith}
 use Rattle.sigma_grids.specs.Table.{badGrid, someBelow}
-use Rattle.sigma_grids.specs.Laws.{some-found, some-turn, some-end}
+use Rattle.sigma_grids.proofs.Laws.{some-found, some-turn, some-end}
 use Rattle.sigma_grids.proofs.some_bad_grid.Statement.{statement}
 use Rattle.sigma_grids.proofs.some_bad_grid.Tie as tie
 

@@ -9,12 +9,12 @@ use lib.Ieee.{Float}
 use Rattle.refusals.specs.Numbers.{accepted, outOfMeasure, outOfRange}
 use Rattle.frame.specs.declared.Frame.{Frame}
 use Rattle.frame.specs.declared.FrameAnswer.{FrameAnswer}
-use Rattle.frame.specs.Laws.{frame-sizes}
+use Rattle.frame.proofs.Laws.{frame-sizes}
 use Rattle.sigma_blocks.specs.declared.Blocks.{Blocks}
 use Rattle.frame.specs.Outcome.{badSides, badSettings}
 use Rattle.sigma_blocks.specs.Measures.{badBlocks}
-use Rattle.sigma_blocks.specs.Laws.{measured}
-use Rattle.sigma_groups.specs.Laws.{sides-bad, sides-fit, settings-bad, settings-fit}
+use Rattle.sigma_blocks.proofs.Laws.{measured}
+use Rattle.sigma_groups.proofs.Laws.{sides-bad, sides-fit, settings-bad, settings-fit}
 use Rattle.sigma_groups.proofs.Number as number
 use Rattle.sigma_groups.proofs.check.Statement.{statement}
 use Rattle.sigma_groups.proofs.check.Tie as tie

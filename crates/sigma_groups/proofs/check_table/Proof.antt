@@ -14,15 +14,16 @@ use Rattle.refusals.specs.Flags.{flagSet}
 use Rattle.frame.specs.declared.Frame.{Frame}
 use Rattle.frame.specs.declared.GroupSizes.{GroupSizes}
 use Rattle.frame.specs.Sizes.{sizesOf}
-use Rattle.frame.specs.Laws.{fitting-sound, sizes-bounded}
+use Rattle.frame.proofs.Laws.{fitting-sound, sizes-bounded}
 use Rattle.sigma_blocks.specs.declared.Blocks.{Blocks}
 use Rattle.sigma_grids.specs.declared.StartAnswer.{StartAnswer}
-use Rattle.sigma_grids.specs.Laws.{start-inside, refused-bad, passed-good}
+use Rattle.sigma_grids.proofs.Laws.{start-inside, refused-bad, passed-good}
 use Rattle.sigma_grids.specs.Table.{someBelow, badGrid, badPresence, gridStart}
 use Rattle.sigma_groups.specs.Held.{someNotHeld}
 use Rattle.sigma_groups.specs.Outcome.{tableFits, someGroup, gridsFit}
-use Rattle.sigma_groups.specs.Laws.{TableOf}
-use Rattle.sigma_blocks.specs.Laws.{Measured, measured}
+use Rattle.sigma_groups.specs.Fitting.{TableOf}
+use Rattle.sigma_blocks.specs.Measured.{Measured}
+use Rattle.sigma_blocks.proofs.Laws.{measured}
 use Rattle.sigma_groups.proofs.Number as number
 use Rattle.sigma_groups.proofs.check_table.Statement.{statement}
 use Rattle.sigma_groups.proofs.check_table.Tie as tie

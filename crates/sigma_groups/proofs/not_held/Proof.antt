@@ -14,7 +14,8 @@ use Rattle.frame.specs.declared.SplitAnswer.{SplitAnswer}
 use Rattle.frame.specs.Outcome.{splitOutcome}
 use Rattle.sigma_grids.specs.Table.{lacks}
 use Rattle.sigma_groups.specs.Held.{notHeld}
-use Rattle.sigma_groups.specs.Laws.{TableOf, entry-lt, entries-le, split-group, split-inner}
+use Rattle.sigma_groups.specs.Fitting.{TableOf}
+use Rattle.sigma_groups.proofs.Laws.{entry-lt, entries-le, split-group, split-inner}
 use Rattle.sigma_groups.proofs.not_held.Statement.{statement}
 use Rattle.sigma_groups.proofs.not_held.Tie as tie
 

@@ -5,7 +5,7 @@ use Prim.Native.Nat.{ℕ, _+_, _-_, _≤_}
 use native.Mathlib.Omega.{arith}
 use Rattle.sigma_grids.specs.Table.{someBelow}
 use Rattle.sigma_groups.specs.Held.{notHeld}
-use Rattle.sigma_grids.specs.Laws.{some-found, some-turn, some-end}
+use Rattle.sigma_grids.proofs.Laws.{some-found, some-turn, some-end}
 use Rattle.sigma_groups.proofs.row_not_held.Statement.{statement}
 use Rattle.sigma_groups.proofs.row_not_held.Tie as tie
 

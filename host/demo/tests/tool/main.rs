@@ -1,17 +1,18 @@
-//! The built tool, run in a folder of its own.
+//! The built tool, run in a temporary folder.
 
 mod refused;
 mod shown;
 mod smoothed;
 mod stored;
+mod streams;
 
 use std::{
-    fs,
+    fs::{self, File},
     path::{Path, PathBuf},
     process::{Command, Output},
 };
 
-/// A folder that is there while a test runs.
+/// A folder that exists while a test runs.
 struct Folder(PathBuf);
 
 impl Folder {
@@ -48,12 +49,20 @@ impl Folder {
         tool.current_dir(&self.0).args(words).output().unwrap()
     }
 
-    /// Where a file cannot grow beyond 1,024 bytes.
+    /// With a file or folder of this one as standard input.
+    fn run_on(&self, input: &str, words: &[&str]) -> Output {
+        let input = File::open(self.0.join(input)).unwrap();
+        let mut tool = Command::new(env!("CARGO_BIN_EXE_demo"));
+        tool.current_dir(&self.0).args(words).stdin(input);
+        tool.output().unwrap()
+    }
+
+    /// With files limited to 1,024 bytes.
     fn run_with_short_files(&self, words: &[&str]) -> Output {
         self.run_after("trap '' XFSZ; ulimit -f 1; exec \"$0\" \"$@\"", words)
     }
 
-    /// Where no line can be written, neither to the standard output nor to the standard error.
+    /// With a full disk as standard output and standard error.
     fn run_unheard(&self, words: &[&str]) -> Output {
         self.run_after("exec \"$0\" \"$@\" >/dev/full 2>&1", words)
     }

@@ -77,9 +77,9 @@ fn both_byte_orders_are_smoothed_alike() {
     };
     let little = pfm(9, 9, texture(243));
     folder.write(PICTURE, &little);
-    let due = big(&smoothed(&folder, &[]));
+    let expected = big(&smoothed(&folder, &[]));
     folder.write(PICTURE, &big(&little));
-    assert_eq!(smoothed(&folder, &[]), due);
+    assert_eq!(smoothed(&folder, &[]), expected);
 }
 
 #[test]
@@ -105,7 +105,7 @@ fn rows_of_a_rectangle_count_from_the_top() {
     assert_eq!(smoothed(&folder, &options), pfm(1, 2, [4, 5, 6, 1, 2, 3]));
 }
 
-/// Document 01's instances of the Gabor-like pass, each plane with weights of its own.
+/// Known results of the Gabor-like pass, each plane with its own weights.
 #[test]
 fn weights_are_of_side_and_corner_by_plane() {
     let folder = Folder::new("weights_are_of_side_and_corner_by_plane");
@@ -116,18 +116,18 @@ fn weights_are_of_side_and_corner_by_plane() {
     let mut point = [[0.0; 3]; 9];
     point[4] = [16.0; 3];
     folder.write(PICTURE, &file(point));
-    let due = [1.0, 2.0, 1.0, 2.0, 4.0, 2.0, 1.0, 2.0, 1.0].map(|sample| [sample; 3]);
+    let expected = [1.0, 2.0, 1.0, 2.0, 4.0, 2.0, 1.0, 2.0, 1.0].map(|sample| [sample; 3]);
     let options = ["--gabor", "0.5,0.25", "--iters", "0"];
-    assert_eq!(smoothed(&folder, &options), file(due));
+    assert_eq!(smoothed(&folder, &options), file(expected));
     // Weights 0, 0 copy; 0.25, 0 give half to the centre and an eighth to each side.
     let options = ["--gabor", "0.5,0.25,0,0,0.25,0", "--iters", "0"];
     let third = [0.0, 2.0, 0.0, 2.0, 8.0, 2.0, 0.0, 2.0, 0.0];
-    let due = core::array::from_fn(|at| [due[at][0], point[at][1], third[at]]);
-    assert_eq!(smoothed(&folder, &options), file(due));
+    let expected = core::array::from_fn(|at| [expected[at][0], point[at][1], third[at]]);
+    assert_eq!(smoothed(&folder, &options), file(expected));
 }
 
-/// What the library itself gives for a file's samples: a header's defaults, one sigma, planes from
-/// the top row.
+/// What the library itself makes of a file's samples: a header's defaults, one sigma, planes from the
+/// top row.
 fn by_library(
     file: &[u32],
     (width, height): (u32, u32),
@@ -156,26 +156,15 @@ fn by_run(
         .unwrap();
     let mut settings = filter.into();
     change(&mut settings);
-    let (left, top, upsampling, lf_level, group_size_shift) = (0, 0, 1, 0, 3);
-    let image = Region {
-        left,
-        top,
-        width,
-        height,
-    };
     let setup = Setup {
-        image,
-        filter: image,
         preserve_outside: 1,
         settings,
         band_height: 16,
+        ..Setup::whole(Region::with_size(width, height))
     };
     let frame = Frame {
-        width,
-        height,
-        upsampling,
-        lf_level,
-        group_size_shift,
+        group_size_shift: 3,
+        ..Frame::with_size(width, height)
     };
     let smoothing = Smoothing::start(setup, frame, &[0; 3], &[], planes);
     smoothing.unwrap().finish().unwrap()
@@ -196,10 +185,7 @@ const OPTIONS: [(&[&str], Change); 6] = [
     }),
     (&["--iters", "0", "--gabor", "0.2,0.1"], |s| {
         s.epf.iters = 0;
-        s.gabor = GaborSettings {
-            enabled: 1,
-            weights: [[0.2, 0.1]; 3],
-        };
+        s.gabor = GaborSettings::with_weights([[0.2, 0.1]; 3]);
     }),
     (&["--gabor", "0.1,0.2,-0.3,0.4,0.5,0.6"], |s| {
         s.gabor.weights = [[0.1, 0.2], [-0.3, 0.4], [0.5, 0.6]];
@@ -232,9 +218,9 @@ fn options_are_the_librarys_settings() {
         let file = pfm(width, height, samples.iter().copied());
         folder.write(PICTURE, &file);
         for (options, change) in OPTIONS {
-            let due = by_library(&samples, (width as u32, height as u32), change);
-            assert!(smoothed(&folder, options) == due, "{options:?}");
-            let copied = due == file;
+            let expected = by_library(&samples, (width as u32, height as u32), change);
+            assert!(smoothed(&folder, options) == expected, "{options:?}");
+            let copied = expected == file;
             assert!(
                 !copied || samples[1] == 0xFFFF_FFFF,
                 "{options:?} change nothing"
@@ -268,7 +254,7 @@ fn a_rectangle_has_the_samples_of_the_whole() {
     }
 }
 
-/// Sides that are out of measure when they are widened.
+/// Sides that are out of range when extended.
 #[test]
 fn the_widest_picture() {
     let folder = Folder::new("the_widest_picture");

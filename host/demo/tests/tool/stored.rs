@@ -1,4 +1,4 @@
-//! Where the tool writes, and what it leaves where it cannot.
+//! Where the tool writes, and what it leaves if it cannot.
 
 use std::{
     fs,
@@ -8,13 +8,13 @@ use std::{
 
 use crate::{
     Folder, pfm,
-    refused::{expect, expect_refused},
+    refused::{expect, expect_line},
 };
 
 const PICTURE: &str = "picture.pfm";
 const OUT: &str = "out.pfm";
 const COPY: [&str; 5] = [PICTURE, "--no-gabor", "--iters", "0", "-o"];
-/// What a file had before.
+/// A file's content before the run.
 const OLD: &[u8] = b"old";
 
 /// A folder with a picture.
@@ -37,21 +37,27 @@ fn a_file_that_was_there_stays() {
     let folder = Folder::new("a_file_that_was_there_stays");
     folder.write(PICTURE, b"PF\n5 4\n-1.0\n");
     folder.write(OUT, OLD);
-    expect(&folder, &[PICTURE, "-o", OUT], 7);
+    let line = "'picture.pfm': has 0 of the 60 samples of 5 x 4";
+    expect(&folder, &[PICTURE, "-o", OUT], line);
     assert_eq!(folder.read(OUT), OLD);
 }
 
 #[test]
-fn a_target_that_is_no_file_is_left_alone() {
-    let (folder, _) = with_picture("a_target_that_is_no_file_is_left_alone");
+fn a_target_that_is_not_a_file_is_left_alone() {
+    let (folder, _) = with_picture("a_target_that_is_not_a_file_is_left_alone");
     let made = Command::new("mkfifo").arg(folder.0.join("pipe")).status();
     assert!(made.unwrap().success());
     fs::create_dir(folder.0.join("folder")).unwrap();
     symlink("pipe", folder.0.join("to-pipe")).unwrap();
     symlink("nowhere", folder.0.join("to-nowhere")).unwrap();
-    for target in ["pipe", "folder", "to-pipe", "to-nowhere"] {
-        expect(&folder, &[PICTURE, "-o", target], 9);
+    let refused = |target: &str, why| {
+        let line = format!("cannot write '{target}': {why}");
+        expect(&folder, &[PICTURE, "-o", target], &line);
+    };
+    for target in ["pipe", "folder", "to-pipe"] {
+        refused(target, "not a regular file");
     }
+    refused("to-nowhere", "No such file or directory");
     let kind = |name| {
         fs::symlink_metadata(folder.0.join(name))
             .unwrap()
@@ -107,19 +113,20 @@ fn no_part_of_a_file_is_left() {
     let (folder, _) = with_picture("no_part_of_a_file_is_left");
     folder.write(OUT, OLD);
     let names = folder.names();
-    for words in [
-        &[PICTURE, "-o", OUT][..],
-        &[PICTURE],
-        &["-o", "."],
-        &["-o", "new"],
+    for (words, target) in [
+        (&[PICTURE, "-o", OUT][..], OUT),
+        (&[PICTURE], "picture-smoothed.pfm"),
+        (&["-o", "."], "./before.png"),
+        (&["-o", "new"], "new/before.png"),
     ] {
-        expect_refused(&folder.run_with_short_files(words), 9);
+        let line = format!("cannot write '{target}': File too large");
+        expect_line(&folder.run_with_short_files(words), &line);
         assert_eq!(folder.names(), names, "{words:?}");
     }
     assert_eq!(folder.read(OUT), OLD);
 }
 
-/// The three pictures are written all or none, whichever of them cannot be.
+/// The three pictures are written all or none, whichever fails.
 #[test]
 fn of_three_pictures_none_is_changed_where_one_cannot_be_written() {
     let folder = Folder::new("of_three_pictures_none_is_changed_where_one_cannot_be_written");
@@ -129,7 +136,8 @@ fn of_three_pictures_none_is_changed_where_one_cannot_be_written() {
         let other = pictures.into_iter().find(|&name| name != blocked).unwrap();
         fs::create_dir(&path).unwrap();
         folder.write(other, OLD);
-        expect(&folder, &["-o", "."], 9);
+        let line = format!("cannot write './{blocked}': not a regular file");
+        expect(&folder, &["-o", "."], &line);
         assert!(path.is_dir());
         assert_eq!(folder.read(other), OLD);
         fs::remove_dir(path).unwrap();
@@ -138,8 +146,8 @@ fn of_three_pictures_none_is_changed_where_one_cannot_be_written() {
 }
 
 #[test]
-fn the_exit_status_tells_where_nobody_can_be_told() {
-    let (folder, file) = with_picture("the_exit_status_tells_where_nobody_can_be_told");
+fn the_exit_status_is_set_if_no_line_can_be_printed() {
+    let (folder, file) = with_picture("the_exit_status_is_set_if_no_line_can_be_printed");
     let refused = folder.run_unheard(&["absent.pfm"]);
     assert_eq!(refused.status.code(), Some(2));
     let copied = folder.run_unheard(&[&COPY[..], &[OUT]].concat());

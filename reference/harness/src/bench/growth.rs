@@ -5,25 +5,25 @@ use super::{head, plot, run};
 const SIDES: [u32; 7] = [64, 128, 256, 504, 1020, 2040, 4080];
 const PLOT: &str = "docs/cost.svg";
 
-/// A row a picture, and the plot of all.
+/// One row per picture, and the plot of all.
 pub fn print() {
     head(&[
         "picture",
         "ours, ms",
         "Rust, ms",
-        "ours, ns a sample",
-        "Rust, ns a sample",
+        "ours, ns per sample",
+        "Rust, ns per sample",
         "ratio",
     ]);
     let costs = SIDES.map(|side| {
-        let times = run::beside_rust(side);
-        let a_sample = times.a_sample((side * side) as usize);
+        let times = run::beside_original(side);
+        let per_sample = times.per_sample((side * side) as usize);
         println!(
             "| {side} × {side} | {:.2} | {:.2} | {:.1} | {:.1} | {:.2} |",
             times.ours / 1e6,
             times.theirs / 1e6,
-            a_sample.ours,
-            a_sample.theirs,
+            per_sample.ours,
+            per_sample.theirs,
             times.ratio()
         );
         (side, times)

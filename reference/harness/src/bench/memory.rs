@@ -1,4 +1,4 @@
-//! The memory of a run: what is lent to it, and the stack that its calls use.
+//! The memory of a run: the caller's buffers, and the stack that its calls use.
 
 use std::{arch::asm, fs, hint::black_box, thread};
 
@@ -6,9 +6,9 @@ use restoration::Run;
 
 use super::{head, run};
 
-/// The largest picture that the plot has.
+/// The largest picture of the plot.
 const LARGEST: u32 = 4080;
-/// Pictures of which the stack is measured.
+/// Pictures for which the stack is measured.
 const SIDES: [u32; 3] = [64, 504, LARGEST];
 const CALLS: [&str; 7] = [
     "start",
@@ -24,7 +24,7 @@ const FIRST_PASS: usize = 1;
 const ADVANCE: usize = 5;
 const RESULT: usize = 6;
 
-/// Bytes of stack that are painted, and those next to the painter, which are left alone.
+/// Bytes of stack that are painted, and bytes next to the painter's frame that are not.
 const PAINTED: usize = 1 << 18;
 const LEFT_ALONE: usize = 1 << 9;
 const PAINT: u8 = 0xA5;
@@ -32,7 +32,7 @@ const PAINT: u8 = 0xA5;
 const STACK: usize = 1 << 21;
 
 pub fn print() {
-    lent();
+    buffers();
     println!();
     let stacks = thread::Builder::new()
         .stack_size(STACK)
@@ -47,21 +47,21 @@ pub fn print() {
     }
 }
 
-/// What is lent to a run of the largest picture as computed, and what the process has of it.
-fn lent() {
+/// The caller's buffers for the largest picture: their computed size, and how much the process grows.
+fn buffers() {
     let before = resident();
-    let mut handed = run::handed(LARGEST);
+    let mut input = run::input(LARGEST);
     let mut out = run::result_slice(LARGEST);
-    handed.second.fill(black_box(1.0));
+    input.second.fill(black_box(1.0));
     out.fill(black_box(1.0));
     let made = resident();
     clear_peak();
-    run::with_result(&mut handed, &mut out);
+    run::with_result(&mut input, &mut out);
     let after = peak();
-    let sets = handed.first.len() + handed.second.len();
-    let blocks = handed.sigmas.len() + handed.grids.len() + handed.table.len();
+    let sets = input.first.len() + input.second.len();
+    let blocks = input.sigmas.len() + input.grids.len() + input.table.len();
     let mib = |samples: usize| 4.0 * samples as f64 / f64::from(1 << 20);
-    head(&[&format!("lent, {LARGEST} × {LARGEST}"), "MiB"]);
+    head(&[&format!("caller's buffers, {LARGEST} × {LARGEST}"), "MiB"]);
     println!("| both sets | {:.2} |", mib(sets));
     println!("| block sigmas, grids and table | {:.2} |", mib(blocks));
     println!("| the result's slice | {:.2} |", mib(out.len()));
@@ -77,7 +77,7 @@ fn lent() {
     println!("\nThe record has {} bytes.", size_of::<Run>());
 }
 
-/// KiB of this process in memory, and the most there were.
+/// Resident memory of this process in KiB, now and at its peak.
 fn resident() -> f64 {
     status("VmRSS:")
 }
@@ -87,53 +87,53 @@ fn peak() -> f64 {
 }
 
 fn clear_peak() {
-    fs::write("/proc/self/clear_refs", "5").expect("Linux clears the peak");
+    fs::write("/proc/self/clear_refs", "5").expect("Linux can clear the peak");
 }
 
 fn status(name: &str) -> f64 {
-    let text = fs::read_to_string("/proc/self/status").expect("Linux tells");
+    let text = fs::read_to_string("/proc/self/status").expect("Linux has a status file");
     let line = text.lines().find_map(|line| line.strip_prefix(name));
-    let mut words = line.expect("a line a name").split_whitespace();
+    let mut words = line.expect("one line per name").split_whitespace();
     words
         .next()
         .and_then(|word| word.parse().ok())
         .expect("a number")
 }
 
-/// The most stack that each call of a whole run uses.
+/// The most stack that each kind of call of a whole run uses.
 fn stacks(side: u32) -> [usize; CALLS.len()] {
-    let mut handed = run::handed(side);
+    let mut input = run::input(side);
     let mut out = run::result_slice(side);
     let mut most = [0; CALLS.len()];
     let mut answer = None;
-    most[START] = stack_of(|| answer = Some(handed.start()));
+    most[START] = stack_of(|| answer = Some(input.start()));
     let mut run = answer.and_then(|a| a.value().ok()).expect("accepted");
     for pass in 0..run::PASSES as usize {
         for k in 0..side.div_ceil(run.setup.band_height) {
-            let sets = (&mut handed.first, &mut handed.second);
+            let sets = (&mut input.first, &mut input.second);
             let used =
-                stack_of(|| run = restoration::band(run, &handed.sigmas, sets.0, sets.1, k).run);
+                stack_of(|| run = restoration::band(run, &input.sigmas, sets.0, sets.1, k).run);
             most[FIRST_PASS + pass] = used.max(most[FIRST_PASS + pass]);
         }
         most[ADVANCE] = stack_of(|| run = restoration::advance(run).run);
     }
     let mut number = 1;
     most[RESULT] =
-        stack_of(|| number = restoration::result(run, &handed.first, &handed.second, &mut out));
+        stack_of(|| number = restoration::result(run, &input.first, &input.second, &mut out));
     assert_eq!(number, 0);
     most
 }
 
-/// Bytes of stack that a call uses: those below are painted, and afterwards it is seen how far down
-/// the paint is gone.
+/// Bytes of stack that a call uses: the stack below is painted, and after the call the lowest byte that
+/// was overwritten is searched.
 #[inline(never)]
 fn stack_of(call: impl FnOnce()) -> usize {
     let here: usize;
-    // SAFETY: the stack pointer is read.
+    // SAFETY: only reads the stack pointer.
     unsafe { asm!("mov {}, rsp", out(reg) here, options(nomem, nostack, preserves_flags)) };
     let lowest = (here - LEFT_ALONE - PAINTED) as *mut u8;
     for at in 0..PAINTED {
-        // SAFETY: this thread's stack reaches farther down, and nothing in it is in use there.
+        // SAFETY: this thread's stack extends below that, and nothing there is in use.
         unsafe { lowest.add(at).write_volatile(PAINT) };
     }
     call();

@@ -1,10 +1,10 @@
-//! Each pass over all rows at once beside the original's row functions, and the whole of them.
+//! Each pass over all rows at once beside the original's row functions, and whole runs.
 
 use std::{cell::RefCell, hint::black_box};
 
-use restoration::{EpfStep, GaborSettings, Region};
+use restoration::{BLOCK, CHANNELS, EpfStep, GaborSettings, MAX_HEADER_BYTES, Region};
 
-use super::{FILTERED, Times, best, head, region, row, run, smooth};
+use super::{FILTERED, Times, best, head, row, run, smooth};
 use crate::{
     epf::{DEFAULTS, step_of},
     gabor::DEFAULT_WEIGHTS,
@@ -15,7 +15,7 @@ use crate::{
 const SIDES: [u32; 3] = [64, 504, 2040];
 /// Other pictures of the Gabor-like pass.
 const GABOR_SIZES: [(u32, u32); 3] = [(256, 256), (1024, 1024), (7, 2040)];
-/// A sigma that copies a block.
+/// A sigma with which blocks are copied.
 const COPIED: f32 = 0.1;
 
 const COLUMNS: [&str; 5] = ["pass", "picture", "ours, ns", "Rust, ns", "ratio"];
@@ -29,11 +29,11 @@ pub fn print() {
             let times = epf(step, side, FILTERED);
             row(&format!("step {step}"), (side, side), times);
         }
-        row("whole run", (side, side), run::beside_rust(side));
+        row("whole run", (side, side), run::beside_original(side));
     }
 }
 
-/// Other pictures, copied blocks, and headers.
+/// Other sizes, copied blocks, and headers.
 pub fn print_cases() {
     head(&COLUMNS);
     for (width, height) in GABOR_SIZES {
@@ -51,21 +51,16 @@ pub fn print_cases() {
 fn gabor(width: u32, height: u32) -> Times {
     let plane = width as usize * height as usize;
     let mut random = Random::for_name("bench gabor");
-    let source: Vec<f32> = (0..3 * plane)
+    let source: Vec<f32> = (0..CHANNELS * plane)
         .map(|_| random.within(0, 1 << 20) as f32 / 1024.0)
         .collect();
-    let target = RefCell::new(vec![0.0f32; 3 * plane]);
+    let target = RefCell::new(vec![0.0f32; CHANNELS * plane]);
     let weights = black_box(DEFAULT_WEIGHTS);
     let ours = || {
-        let enabled = 1;
-        let settings = GaborSettings { enabled, weights };
-        let image = region(width, height);
-        gabor_pass(
-            image,
-            settings,
-            black_box(&source),
-            &mut target.borrow_mut(),
-        );
+        let image = Region::with_size(width, height);
+        let settings = GaborSettings::with_weights(weights);
+        let source = black_box(&source);
+        gabor_pass(image, settings, source, &mut target.borrow_mut());
     };
     let theirs = || {
         let mut target = target.borrow_mut();
@@ -83,11 +78,11 @@ fn epf(step: u32, side: u32, sigma: f32) -> Times {
     let width = side as usize;
     let plane = width * width;
     let source = smooth(plane);
-    let target = RefCell::new(vec![0.0f32; 3 * plane]);
-    let sigmas = vec![sigma; width.div_ceil(8).pow(2)];
+    let target = RefCell::new(vec![0.0f32; CHANNELS * plane]);
+    let sigmas = vec![sigma; width.div_ceil(BLOCK as usize).pow(2)];
     let settings = black_box(DEFAULTS);
     let ours = || {
-        let (image, step) = (region(side, side), step_of(step, settings));
+        let (image, step) = (Region::with_size(side, side), step_of(step, settings));
         let source = black_box(&source);
         epf_pass(image, step, &sigmas, source, &mut target.borrow_mut());
     };
@@ -101,7 +96,7 @@ fn epf(step: u32, side: u32, sigma: f32) -> Times {
     best(ours, theirs)
 }
 
-/// All rows of an image that is filtered whole.
+/// All rows of an image whose filter region is the whole image.
 pub fn gabor_pass(image: Region, settings: GaborSettings, source: &[f32], target: &mut [f32]) {
     let to = image.height;
     let number = restoration::gabor_pass(image, image, 1, settings, 0, to, source, target);
@@ -114,11 +109,11 @@ pub fn epf_pass(image: Region, step: EpfStep, sigmas: &[f32], source: &[f32], ta
     assert_eq!(number, 0);
 }
 
-/// Reading both bundles at the last place of a slice of 64 KiB and at the first.
+/// Reading both filters at the last bit position of a slice of 64 KiB and at the first.
 fn header() {
-    const BITS: usize = 65_536 * 8;
+    const BITS: usize = 8 * MAX_HEADER_BYTES;
     const TIMES: usize = 1000;
-    let bytes = vec![0u8; 65_536];
+    let bytes = vec![0u8; MAX_HEADER_BYTES];
     let read = |place: usize| {
         for _ in 0..TIMES {
             let answer =
@@ -128,7 +123,7 @@ fn header() {
     };
     let times = best(|| read(BITS - 3), || read(0));
     println!(
-        "\nA header read at the last place of 64 KiB: {:.1} ns, at the first: {:.1} ns, ratio {:.2}.",
+        "\nA header read at the last bit position of 64 KiB: {:.1} ns, at the first: {:.1} ns, ratio {:.2}.",
         times.ours / TIMES as f64,
         times.theirs / TIMES as f64,
         times.ratio()

@@ -1,6 +1,8 @@
-//! The plot of what a whole run costs: milliseconds over samples a plane, both axes logarithmic.
+//! The plot of the cost of a whole run: milliseconds over samples per plane, both axes logarithmic.
 
 use std::fmt::Write;
+
+use restoration::CHANNELS;
 
 use super::Times;
 
@@ -19,7 +21,7 @@ const BLACK: &str = "#000000";
 const GREY: &str = "#d0d0d0";
 const TITLE: &str = "Gabor-like pass and three iterations, from start to result";
 
-/// A curve's name and colour, and where labels stand, so that a rising line does not cross them.
+/// A curve's name and colour, and the position of labels, which keeps them off the rising line.
 struct Style {
     name: &'static str,
     colour: &'static str,
@@ -53,13 +55,13 @@ pub fn svg(costs: &[(u32, Times)]) -> String {
     svg.0 + "</svg>\n"
 }
 
-/// Where an area lies from left to right.
+/// The horizontal position of an area.
 fn x(area: f64) -> f64 {
     let part = (area / AREAS.0).ln() / (AREAS.1 / AREAS.0).ln();
     LEFT + part * (RIGHT - LEFT)
 }
 
-/// Where a time lies from top to bottom.
+/// The vertical position of a time.
 fn y(milliseconds: f64) -> f64 {
     let (least, most) = (f64::from(*POWERS.start()), f64::from(*POWERS.end()));
     let part = (milliseconds.log10() - least) / (most - least);
@@ -74,7 +76,7 @@ struct Svg(String);
 
 impl Svg {
     fn add(&mut self, element: std::fmt::Arguments) {
-        writeln!(self.0, "{element}").expect("a string takes all");
+        writeln!(self.0, "{element}").expect("writing to a string does not fail");
     }
 
     fn label(&mut self, (x, y): (f64, f64), anchor: &str, colour: &str, text: &str) {
@@ -90,7 +92,7 @@ impl Svg {
         ));
     }
 
-    /// A line a power of ten of milliseconds, and one a picture.
+    /// One line per power of ten of milliseconds, and one per picture.
     fn axes(&mut self, costs: &[(u32, Times)]) {
         for power in POWERS {
             let (milliseconds, places) = (10f64.powi(power), usize::from(power < 0));
@@ -105,12 +107,12 @@ impl Svg {
             self.label((x, BOTTOM + 20.0), "middle", BLACK, &format!("{side}²"));
         }
         let middle = (LEFT + RIGHT) / 2.0;
-        let text = "samples a plane; at each point ns a sample of the three planes";
+        let text = "samples per plane; at each point ns per sample of the three planes";
         self.label((middle, BOTTOM + 48.0), "middle", BLACK, text);
         self.label((LEFT - 8.0, TOP - 14.0), "end", BLACK, "ms");
     }
 
-    /// A line through the costs, with its name at the middle and ns a sample at each point.
+    /// A line through the costs, with its name in the middle and ns per sample at each point.
     fn curve(&mut self, style: &Style, costs: &[(u32, Times)], cost: fn(&Times) -> f64) {
         let Style {
             name,
@@ -129,7 +131,7 @@ impl Svg {
             self.add(format_args!(
                 "<circle cx=\"{x:.1}\" cy=\"{y:.1}\" r=\"3.5\" fill=\"{colour}\"/>"
             ));
-            let text = format!("{:.1}", cost(times) / (3.0 * area(*side)));
+            let text = format!("{:.1}", cost(times) / (CHANNELS as f64 * area(*side)));
             self.label((x + label.0, y + label.1), anchor, colour, &text);
         }
         let (x, y) = points[points.len() / 2];

@@ -1,28 +1,28 @@
-//! A whole run, from start to result, beside its passes by themselves and beside the original's.
+//! A whole run, from start to result, beside its passes alone and beside the original.
 
 use std::hint::black_box;
 
-use restoration::{Run, Setup};
+use restoration::{BLOCK, CHANNELS, MAX_ITERS, Region, Run, Setup};
 
 use super::{
     FILTERED, Times, best_timed, head,
     passes::{epf_pass, gabor_pass},
-    region, row, smooth, timed,
+    row, smooth, timed,
 };
 use crate::{
     epf::{DEFAULTS, step_of},
-    runs::{Handed, Passes, defaults},
+    runs::{Input, Passes, defaults},
 };
 
 const SIDE: u32 = 504;
 const BAND: u32 = 64;
-/// With this group size shift the largest picture, of 4080 by 4080, has one group.
+/// With this group size shift the largest picture, 4080 × 4080, has one group.
 const ONE_GROUP: u32 = 2;
-/// Gabor and three iterations.
-pub const PASSES: u32 = 4;
+/// The Gabor-like pass and all iterations.
+pub const PASSES: u32 = 1 + MAX_ITERS;
 const ALL: Passes = Passes {
     gabor: true,
-    iterations: 3,
+    iterations: MAX_ITERS,
 };
 
 /// A run by bands beside the same passes, each over all rows at once.
@@ -34,15 +34,15 @@ pub fn print() {
         "all rows at once, ns",
         "ratio",
     ]);
-    let times = beside_passes(|handed, _| {
-        to_the_finish(handed);
+    let times = beside_passes(|input, _| {
+        to_the_finish(input);
     });
     row("start, bands, advances", (SIDE, SIDE), times);
     row("with the result", (SIDE, SIDE), beside_passes(with_result));
 }
 
-fn beside_passes(mut run: impl FnMut(&mut Handed, &mut [f32])) -> Times {
-    let given = handed(SIDE);
+fn beside_passes(mut run: impl FnMut(&mut Input, &mut [f32])) -> Times {
+    let given = input(SIDE);
     let (mut by_bands, mut alone) = (given.clone(), given.clone());
     let mut out = result_slice(SIDE);
     best_timed(
@@ -58,34 +58,33 @@ fn beside_passes(mut run: impl FnMut(&mut Handed, &mut [f32])) -> Times {
 }
 
 /// Start, all bands and advances, and the result, beside `apply_gabor_like` and `apply_epf`. Both
-/// smooth the same picture at each turn: what a run leaves in the first set is replaced before it.
-pub fn beside_rust(side: u32) -> Times {
-    let given = handed(side);
-    let mut handed = given.clone();
+/// filter the same picture each time: the first set, which a run overwrites, is filled before it.
+pub fn beside_original(side: u32) -> Times {
+    let given = input(side);
+    let mut input = given.clone();
     let mut out = result_slice(side);
     let times = best_timed(
         || {
-            handed.first.copy_from_slice(&given.first);
-            timed(|| with_result(black_box(&mut handed), &mut out))
+            input.first.copy_from_slice(&given.first);
+            timed(|| with_result(black_box(&mut input), &mut out))
         },
-        || timed(black_box(given.rust_run())),
+        || timed(black_box(given.original_run())),
     );
-    assert!(out == given.rust(), "both give the same samples");
+    assert!(out == given.original(), "both give the same samples");
     times
 }
 
-/// The Gabor-like pass and three iterations over a whole image of one group.
-pub fn handed(side: u32) -> Handed {
+/// The inputs of start for the Gabor-like pass and three iterations over a whole image of one group.
+pub fn input(side: u32) -> Input {
     let plane = (side * side) as usize;
-    let blocks = side.div_ceil(8);
+    let blocks = side.div_ceil(BLOCK);
     let cells = (blocks * blocks) as usize;
-    Handed {
+    Input {
         setup: Setup {
-            image: region(side, side),
-            filter: region(side, side),
             preserve_outside: 1,
             settings: defaults(ALL),
             band_height: BAND,
+            ..Setup::whole(Region::with_size(side, side))
         },
         frame: oracle::Frame {
             width: side,
@@ -97,25 +96,25 @@ pub fn handed(side: u32) -> Handed {
         table: vec![1, blocks, blocks],
         grids: vec![FILTERED; cells],
         first: smooth(plane),
-        second: vec![0.0; 3 * plane],
+        second: vec![0.0; CHANNELS * plane],
         sigmas: vec![FILTERED; cells],
     }
 }
 
 pub fn result_slice(side: u32) -> Vec<f32> {
-    vec![0.0; 3 * (side * side) as usize]
+    vec![0.0; CHANNELS * (side * side) as usize]
 }
 
 /// Start, and all bands and advances.
-fn to_the_finish(handed: &mut Handed) -> Run {
-    let answer = handed.start();
+fn to_the_finish(input: &mut Input) -> Run {
+    let answer = input.start();
     assert_eq!(answer.number, 0);
     let mut run = answer.run;
     let bands = run.setup.image.height.div_ceil(BAND);
     for _ in 0..PASSES {
         for k in 0..bands {
-            let sets = (&mut handed.first, &mut handed.second);
-            run = restoration::band(run, &handed.sigmas, sets.0, sets.1, k).run;
+            let sets = (&mut input.first, &mut input.second);
+            run = restoration::band(run, &input.sigmas, sets.0, sets.1, k).run;
         }
         run = restoration::advance(run).run;
     }
@@ -123,21 +122,21 @@ fn to_the_finish(handed: &mut Handed) -> Run {
     run
 }
 
-pub fn with_result(handed: &mut Handed, out: &mut [f32]) {
-    let run = to_the_finish(handed);
-    let number = restoration::result(run, &handed.first, &handed.second, out);
+pub fn with_result(input: &mut Input, out: &mut [f32]) {
+    let run = to_the_finish(input);
+    let number = restoration::result(run, &input.first, &input.second, out);
     assert_eq!(number, 0);
 }
 
 /// The same four passes, each over all rows at once.
-fn passes(handed: &mut Handed) {
-    let image = handed.setup.image;
-    let (first, second) = (&mut handed.first[..], &mut handed.second[..]);
-    gabor_pass(image, handed.setup.settings.gabor, first, second);
+fn passes(input: &mut Input) {
+    let image = input.setup.image;
+    let (first, second) = (&mut input.first[..], &mut input.second[..]);
+    gabor_pass(image, input.setup.settings.gabor, first, second);
     let (mut source, mut target) = (second, first);
     for step in 0..3 {
         let step = step_of(step, DEFAULTS);
-        epf_pass(image, step, &handed.sigmas, source, target);
+        epf_pass(image, step, &input.sigmas, source, target);
         (source, target) = (target, source);
     }
 }

@@ -1,4 +1,4 @@
-//! A step on pictures that are wholly subnormal or near overflow.
+//! A step on pictures with all samples subnormal or near overflow.
 
 use super::{NAMES, Pass, block_count, settings, tiled};
 use crate::{
@@ -10,9 +10,9 @@ use crate::{
     sigma::sigma,
 };
 
-/// Pictures of each end, before `--scale`.
+/// Pictures for each end of the range, before `--scale`.
 const PICTURES: u64 = 1_000;
-/// Sides: some pictures have tiles with samples on every side.
+/// Sides; some pictures have tiles that do not touch an edge.
 const WIDEST: i128 = 180;
 const HIGHEST: i128 = 24;
 

@@ -1,6 +1,8 @@
-//! Pictures of several tiles of the proved code, which takes 56 columns at a time. Step 2 on a tile
-//! that has samples of the filter region on every side reads the planes themselves, every other
-//! tile goes through a window; narrower pictures have no such tile.
+//! Pictures that are several tiles wide: the proved code filters 56 columns at a time. In step 2, a tile
+//! with samples of the filter region on every side is read from the planes directly, any other tile
+//! through a window; narrower pictures have no tile of the first kind.
+
+use restoration::BLOCK;
 
 use super::{around, block_count, with_sigmas};
 use crate::{
@@ -12,16 +14,14 @@ use crate::{
 
 /// Columns of a tile.
 const TILE: u32 = 56;
-/// Tiles of a picture, of which the last may be followed by a narrower one.
+/// Whole tiles across a picture.
 const TILES: core::ops::RangeInclusive<u32> = 2..=5;
-/// Columns beyond whole tiles: none, a few, about a block, and all but one of another tile.
-const BEYOND: [u32; 7] = [0, 1, 2, 7, 8, 9, TILE - 1];
-/// The widest, where widths are drawn too.
+/// Columns beyond the whole tiles: none, a few, about a block, and one less than a tile.
+const BEYOND: [u32; 7] = [0, 1, 2, BLOCK - 1, BLOCK, BLOCK + 1, TILE - 1];
+/// The largest width, also of random ones.
 const WIDEST: u32 = 300;
 const HIGHEST: u32 = 40;
-/// Rows and columns of a block.
-const BLOCK: u32 = 8;
-/// Blocks between the corner of a filter region and either axis.
+/// The largest left and top of a filter region, in blocks.
 const FARTHEST: i128 = 40;
 
 pub fn compare(step: u32, amount: Amount, random: &mut Random, row: &mut Row) {
@@ -41,7 +41,7 @@ fn widths() -> impl Iterator<Item = u32> {
         .filter(|&width| width <= WIDEST)
 }
 
-/// The filter region as the image, in one around it, or in one that starts before both axes.
+/// The filter region as the whole image, inside an image, or inside one with negative left and top.
 pub fn placed((width, height): (u32, u32), random: &mut Random) -> oracle::Place {
     let mut block = || (BLOCK * random.within(0, FARTHEST) as u32) as i32;
     let anywhere = oracle::Region {
@@ -62,7 +62,7 @@ pub fn placed((width, height): (u32, u32), random: &mut Random) -> oracle::Place
     }
 }
 
-/// An image region from left of and above both axes on, and a filter region at their corner.
+/// An image region with negative left and top, and a filter region at 0, 0.
 fn before((width, height): (u32, u32), random: &mut Random) -> (oracle::Region, oracle::Region) {
     let mut margin = || random.within(1, 20) as u32;
     let (left, top) = (margin(), margin());
@@ -82,7 +82,7 @@ fn one(step: u32, sides: (u32, u32), random: &mut Random, row: &mut Row) {
     with_sigmas(place, step, band, &sigmas, random, row);
 }
 
-/// Any height up to so many rows that is no multiple of 8.
+/// Any band height for these rows that is not a multiple of 8.
 pub fn band_height(rows: u32, random: &mut Random) -> u32 {
     let band = random.within(1, rows.into()) as u32;
     if band.is_multiple_of(BLOCK) {
@@ -92,8 +92,8 @@ pub fn band_height(rows: u32, random: &mut Random) -> u32 {
     }
 }
 
-/// A sigma for each block, often that of the block before, so that all blocks of a tile are copied,
-/// none, or some.
+/// One sigma per block, often that of the previous block, so that all, some or none of the blocks of a
+/// tile are copied.
 fn sigmas(filter: oracle::Region, random: &mut Random) -> Vec<f32> {
     let apart = random.one_of(&[1, 2, 8]);
     let mut last = sigma(random);

@@ -1,12 +1,14 @@
-//! Block sigmas from a frame's grids and then the steps of 1 to 3 iterations by bands, against
+//! Block sigmas from a frame's grids and then all steps of 1 to 3 iterations, band by band, against
 //! `apply_epf`.
+
+use restoration::{BLOCK, Blocks, MAX_GROUP_SIZE_SHIFT, MAX_ITERS};
 
 use super::{
     BANDS, DEFAULTS, Pass, SIDES, around, placements, settings, textured, two_samples, whole_images,
 };
 use crate::{
     pass::Pass as _,
-    picture::{self, is_written, judge, samples},
+    picture::{self, compare_answer, is_written, samples},
     random::Random,
     report::{Amount, Report, Row},
     sigma::{self, Case},
@@ -16,8 +18,6 @@ use crate::{
 const PICTURES: u64 = 3_000;
 /// Sides of random pictures.
 const LARGEST: u32 = 48;
-/// The most iterations.
-const ITERATIONS: u32 = 3;
 
 const NAME: &str = "apply_epf";
 
@@ -34,7 +34,7 @@ pub fn compare(amount: Amount, report: &mut Report) {
     }
     report.add(row);
     let mut row = Row::new(NAME, "instances");
-    for shift in 0..4 {
+    for shift in 0..=MAX_GROUP_SIZE_SHIFT {
         for case in sigma::carried(shift, &mut random) {
             random_steps(&case, &mut random, &mut row);
         }
@@ -50,10 +50,10 @@ pub fn compare(amount: Amount, report: &mut Report) {
     report.add(row);
 }
 
-/// Two samples under each named sigma, from a grid and from a missing one.
+/// Two samples with each named sigma, from a grid and from `sigma_for_modular`.
 fn named(random: &mut Random, row: &mut Row) {
     let frame = sigma::frame(0, (1, 1), random);
-    let blocks = restoration::Blocks {
+    let blocks = Blocks {
         left: 0,
         top: 0,
         width: 2,
@@ -72,7 +72,7 @@ fn named(random: &mut Random, row: &mut Row) {
                 modular,
             };
             for place in whole_images(2, 1) {
-                for iterations in 1..=ITERATIONS {
+                for iterations in 1..=MAX_ITERS {
                     let steps = Steps::new(&case, place, (iterations, DEFAULTS), 1);
                     steps.check(source.clone(), random, row);
                 }
@@ -81,16 +81,16 @@ fn named(random: &mut Random, row: &mut Row) {
     }
 }
 
-/// Every placement in a frame of one group, with every count of iterations.
+/// Every placement in a frame of one group, with every number of iterations.
 fn all_placements((width, height): (u32, u32), amount: Amount, random: &mut Random, row: &mut Row) {
     for place in placements((width, height), random) {
-        for iterations in 1..=ITERATIONS {
+        for iterations in 1..=MAX_ITERS {
             if !row.takes(amount) {
                 continue;
             }
-            let blocks = restoration::Blocks {
-                left: place.filter.left as u32 / 8,
-                top: place.filter.top as u32 / 8,
+            let blocks = Blocks {
+                left: place.filter.left as u32 / BLOCK,
+                top: place.filter.top as u32 / BLOCK,
                 width,
                 height,
             };
@@ -108,27 +108,27 @@ fn where_groups_meet(shift: u32, random: &mut Random, row: &mut Row) {
     let mut groups = || random.within(1, sigma::GROUPS[shift as usize].into()) as u32;
     let groups = (groups(), groups());
     let mut case = sigma::meeting(shift, groups, false, random);
-    // Fewer blocks need no other grids.
+    // The grids hold fewer blocks as well.
     case.blocks.width = case.blocks.width.min(LARGEST);
     case.blocks.height = case.blocks.height.min(LARGEST);
     random_steps(&case, random, row);
 }
 
-/// A case's filter region in an image around it.
+/// The filter region of a case, in an image around it.
 fn random_steps(case: &Case, random: &mut Random, row: &mut Row) {
     let place = oracle::Place {
         image: around(case.filter(), random),
         filter: case.filter(),
         preserve_outside: random.once_in(2),
     };
-    let iterations = random.within(1, ITERATIONS.into()) as u32;
+    let iterations = random.within(1, MAX_ITERS.into()) as u32;
     let band = random.within(1, 64) as u32;
     let steps = Steps::new(case, place, (iterations, settings(random)), band);
     let source = textured(picture::set_len(&place), random);
     steps.check(source, random, row);
 }
 
-/// What all steps are handed but the sets.
+/// The inputs of all steps without the sets.
 #[derive(Debug)]
 struct Steps<'a> {
     case: &'a Case,
@@ -159,23 +159,23 @@ impl<'a> Steps<'a> {
 
     fn check(&self, source: Vec<f32>, random: &mut Random, row: &mut Row) {
         let before = samples(source.len(), random);
-        let rust = oracle::epf(
+        let original = oracle::epf(
             self.place,
             self.case.frame,
-            &self.case.rust_grids(),
+            &self.case.original_grids(),
             self.settings,
             picture::planes(&source),
         );
         let (number, ours) = self.run([source, before.clone()]);
-        let mut due = before;
+        let mut expected = before;
         let rows = (0, picture::result(&self.place).height);
-        picture::store(&self.place, &rust, rows, &mut due);
+        picture::store(&self.place, &original, rows, &mut expected);
         let written = |at| is_written(&self.place, rows, at);
-        judge(self, rows, (number, &ours), (0, &due), &written, row);
+        compare_answer(self, rows, (number, &ours), (0, &expected), &written, row);
     }
 
-    /// The largest number that a call gave, and the set that the last step wrote. A step reads the
-    /// first set and writes over what the second had.
+    /// The largest number that a call answered, and the set that the last step wrote. Each step reads the
+    /// first set and overwrites the second, which has the samples from before.
     fn run(&self, mut sets: [Vec<f32>; 2]) -> (u32, Vec<f32>) {
         let before = sets[1].clone();
         let mut sigmas = vec![0.0; self.case.count()];

@@ -1,8 +1,8 @@
-//! Which number the Gabor-like pass is refused with.
+//! The number that the Gabor-like pass is refused with.
 
 use super::{Region, Ruled, pass};
 
-/// The number for rows of the result, with sets so long.
+/// 0 if the pass over these rows, with sets of these lengths, is accepted.
 pub fn number(
     image: Region,
     filter: Region,
@@ -10,12 +10,12 @@ pub fn number(
     rows: (i128, i128),
     lengths: [usize; 2],
 ) -> u32 {
-    let judged = || -> Ruled<()> {
+    let checked = || -> Ruled<()> {
         pass::placed(image, filter)?;
         pass::sets(image, lengths)?;
         let full = pass::flag(preserve_outside)?;
         let result = if full { image } else { filter };
         pass::rows(result, rows)
     };
-    judged().err().unwrap_or(0)
+    checked().err().unwrap_or(0)
 }

@@ -1,14 +1,13 @@
 //! The filter header's fields as a table: condition, width, default.
 
-use super::{Ruled, WRONG_LENGTH};
+use restoration::{CHANNELS, MAX_HEADER_BYTES};
 
-const BITS_RUN_OUT: u32 = 1;
-const HALF_NOT_FINITE: u32 = 2;
-const KERNEL_NEAR_ZERO: u32 = 3;
+use super::{
+    Ruled,
+    numbers::{BITS_RUN_OUT, HALF_NOT_FINITE, KERNEL_NEAR_ZERO, WRONG_LENGTH},
+};
 
-const LONGEST_SLICE: usize = 65_536;
-
-/// Fields in order, floats by their bits, and the next bit place.
+/// Fields in order, floats by their bits, and the next bit position.
 pub type Read = (Vec<u32>, usize);
 
 struct Bits<'a> {
@@ -44,7 +43,7 @@ impl Bits<'_> {
     }
 }
 
-/// The bits of the binary32 number that a half is.
+/// A half as binary32, by its bits.
 fn float_of_half(half: u32) -> Ruled<u32> {
     let sign = half >> 15 << 31;
     let exponent = half >> 10 & 31;
@@ -67,7 +66,7 @@ fn read(
     place: usize,
     fields: impl FnOnce(&mut Bits) -> Ruled<Vec<u32>>,
 ) -> Ruled<Read> {
-    if bytes.len() > LONGEST_SLICE {
+    if bytes.len() > MAX_HEADER_BYTES {
         return Err(WRONG_LENGTH);
     }
     let place = place as u128;
@@ -102,7 +101,7 @@ fn gabor_fields(bits: &mut Bits) -> Ruled<Vec<u32>> {
     }
     let mut fields = vec![1];
     let custom = bits.flag()?;
-    for _ in 0..3 {
+    for _ in 0..CHANNELS {
         let pair = if custom {
             bits.halves(2)?
         } else {
@@ -130,7 +129,7 @@ fn epf_fields(bits: &mut Bits, modular: bool) -> Ruled<Vec<u32>> {
         (0u8..8).map(|n| (f32::from(n) / 7.0).to_bits()).collect()
     });
     fields.extend(if bits.flag()? {
-        let scales = bits.halves(3)?;
+        let scales = bits.halves(CHANNELS)?;
         bits.field(32)?;
         scales
     } else {

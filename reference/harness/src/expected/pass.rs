@@ -1,19 +1,24 @@
-//! Which number a pass over rows is refused with: what all passes share.
+//! The checks that all passes over rows share.
 
-use super::{FARTHEST, LARGEST_SIDE, OUT_OF_MEASURE, Region, Ruled, SETTING, WRONG_LENGTH};
+use super::{
+    CHANNELS, MAX_AREA, MAX_OFFSET, MAX_SIDE, Region, Ruled,
+    numbers::{NOT_INSIDE, OUT_OF_MEASURE, OUT_OF_RANGE, WRONG_LENGTH},
+};
 
-pub const NOT_INSIDE: u32 = 5;
+/// Sides, of at least 1, and area are in range, so that lengths can be computed from them.
+pub fn sides_in_range(r: Region) -> bool {
+    let side = |length| (1..=MAX_SIDE).contains(&length);
+    side(r.width) && side(r.height) && r.width * r.height <= MAX_AREA
+}
 
-pub const LARGEST_AREA: i128 = 16_777_216;
+/// Sides, area, left and top are in range.
+pub fn in_range(r: Region) -> bool {
+    sides_in_range(r) && r.left.abs() <= MAX_OFFSET && r.top.abs() <= MAX_OFFSET
+}
 
-/// Sides of at least 1, and a limit to the area.
-pub fn measured(r: Region) -> bool {
-    let side = |length| (1..=LARGEST_SIDE).contains(&length);
-    side(r.width)
-        && side(r.height)
-        && r.width * r.height <= LARGEST_AREA
-        && r.left.abs() <= FARTHEST
-        && r.top.abs() <= FARTHEST
+/// Samples of all planes of a region.
+pub fn samples(r: Region) -> i128 {
+    CHANNELS * r.width * r.height
 }
 
 pub fn inside(inner: Region, outer: Region) -> bool {
@@ -23,32 +28,33 @@ pub fn inside(inner: Region, outer: Region) -> bool {
         && inner.bottom() <= outer.bottom()
 }
 
-/// Both regions are in measure, and the filter region lies in the image region.
+/// Both regions are in range, and the filter region lies inside the image region.
 pub fn placed(image: Region, filter: Region) -> Ruled<()> {
-    if !measured(image) || !measured(filter) {
+    if !in_range(image) || !in_range(filter) {
         return Err(OUT_OF_MEASURE);
     }
     inside(filter, image).then_some(()).ok_or(NOT_INSIDE)
 }
 
-/// Both sets are as long as three planes of the image region.
+/// Both sets have the length of all planes of the image region.
 pub fn sets(image: Region, lengths: [usize; 2]) -> Ruled<()> {
-    let samples = 3 * image.width * image.height;
-    let sound = lengths.iter().all(|&length| length as i128 == samples);
-    sound.then_some(()).ok_or(WRONG_LENGTH)
+    let valid = lengths
+        .iter()
+        .all(|&length| length as i128 == samples(image));
+    valid.then_some(()).ok_or(WRONG_LENGTH)
 }
 
-/// A yes or no that is handed in as a number.
+/// A flag: 0 or 1.
 pub fn flag(number: u32) -> Ruled<bool> {
     match number {
         0 => Ok(false),
         1 => Ok(true),
-        _ => Err(SETTING),
+        _ => Err(OUT_OF_RANGE),
     }
 }
 
-/// Rows `from` to `to` are rows of the result.
+/// Rows `from` up to `to` are rows of the result.
 pub fn rows(result: Region, (from, to): (i128, i128)) -> Ruled<()> {
-    let sound = from <= to && to <= result.height;
-    sound.then_some(()).ok_or(SETTING)
+    let valid = from <= to && to <= result.height;
+    valid.then_some(()).ok_or(OUT_OF_RANGE)
 }

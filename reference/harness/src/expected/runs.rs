@@ -1,31 +1,19 @@
-//! Which number start, band, advance and result are refused with. Each is a table of checks,
-//! ascending: a number, whether what the condition needs is in range, and the condition.
+//! The numbers that start, band, advance and result are refused with: a table of checks for each.
 
 use super::{
-    BLOCK, LARGEST_SIDE, OUT_OF_MEASURE, Region, SETTING, WRONG_LENGTH, blocks,
-    epf::NOT_ON_BLOCKS,
-    pass::{LARGEST_AREA, NOT_INSIDE, inside, measured},
-    sigma::{self, Frame, NOT_HELD, all_held, of_entries},
+    BLOCK, MAX_BANDS, MAX_ITERS, MAX_SIDE, Region, blocks,
+    checks::first_that_applies,
+    numbers::*,
+    pass::{in_range, inside, sides_in_range},
+    sigma::{self, Frame, all_held, of_entries},
 };
 
-const BAND_NOT_OPEN: u32 = 10;
-const PASS_NOT_DONE: u32 = 11;
+pub use super::pass::samples;
 
-const MOST_ITERATIONS: i128 = 3;
-const MOST_BANDS: i128 = 256;
-const PLANES: i128 = 3;
-/// A flag is 0 or this; another number is out of range.
+/// A flag is 0 or this; any other number is out of range.
 const YES: u32 = 1;
 
-type Check<'a> = (u32, bool, &'a dyn Fn() -> bool);
-
-fn first_of(checks: &[Check]) -> u32 {
-    assert!(checks.is_sorted_by_key(|check| check.0));
-    let applies = |&&(_, needs, fault): &&Check| needs && fault();
-    checks.iter().find(applies).map_or(0, |check| check.0)
-}
-
-/// What start is told and a record holds, as far as numbers depend on it.
+/// The part of a setup that numbers depend on.
 #[derive(Debug, Clone, Copy)]
 pub struct Setup {
     pub image: Region,
@@ -49,12 +37,12 @@ impl Setup {
         i128::from(self.gabor == YES) + self.iterations
     }
 
-    /// How many samples lie between a sample and each cut edge.
+    /// How many samples the passes read beyond a sample, in each direction.
     pub fn margin(&self) -> i128 {
         i128::from(self.gabor == YES) + [0, 2, 3, 6][self.iterations as usize]
     }
 
-    /// Bands over the rows of the result; its flag and the band height must be in range.
+    /// Bands of the result. `preserve_outside` and the band height must be in range.
     pub fn bands(&self) -> i128 {
         (self.result().height + self.band_height - 1) / self.band_height
     }
@@ -64,7 +52,7 @@ impl Setup {
         samples(self.image)
     }
 
-    /// One sigma a block of the filter region, none with the edge filter off.
+    /// One sigma per block of the filter region; none with the edge filter off.
     pub fn sigmas(&self) -> i128 {
         if self.edge_on() {
             blocks(self.filter.width) * blocks(self.filter.height)
@@ -86,7 +74,7 @@ impl Setup {
     }
 
     fn iterations_fit(&self) -> bool {
-        self.iterations <= MOST_ITERATIONS
+        self.iterations <= MAX_ITERS
     }
 
     fn on_blocks(&self) -> bool {
@@ -95,41 +83,36 @@ impl Setup {
     }
 
     fn height_fits(&self) -> bool {
-        (1..=LARGEST_SIDE).contains(&self.band_height)
+        (1..=MAX_SIDE).contains(&self.band_height)
     }
 
     fn wrong_sets(&self, lengths: [usize; 2]) -> bool {
         lengths.iter().any(|&length| length as i128 != self.set())
     }
 
-    /// Start would refuse none of it under 4, 5, 6 and 9.
+    /// Start would not refuse it with 4, 5, 6 or 9.
     fn fits(&self) -> bool {
-        measured(self.image)
-            && measured(self.filter)
+        in_range(self.image)
+            && in_range(self.filter)
             && inside(self.filter, self.image)
             && (!self.edge_on() || self.on_blocks())
             && self.iterations_fit()
             && self.full_fits()
             && self.gabor_fits()
             && self.height_fits()
-            && self.bands() <= MOST_BANDS
+            && self.bands() <= MAX_BANDS
     }
 }
 
-/// Samples of three planes of a region.
-pub fn samples(region: Region) -> i128 {
-    PLANES * region.width * region.height
-}
-
-/// The number of a margin, which depends on two numbers alone.
+/// The number of a margin call, which depends on these two settings alone.
 pub fn margin(s: Setup) -> u32 {
-    first_of(&[
-        (SETTING, true, &|| !s.gabor_fits()),
-        (SETTING, true, &|| !s.iterations_fit()),
+    first_that_applies(&[
+        (OUT_OF_RANGE, true, &|| !s.gabor_fits()),
+        (OUT_OF_RANGE, true, &|| !s.iterations_fit()),
     ])
 }
 
-/// Everything that start is handed, with the lengths of its slices.
+/// The inputs of start, with the lengths of its slices.
 #[derive(Debug, Clone, Copy)]
 pub struct Start<'a> {
     pub setup: Setup,
@@ -141,9 +124,9 @@ pub struct Start<'a> {
 }
 
 impl Start<'_> {
-    /// The part that block sigmas are asked with.
-    pub fn sigmas_of(&self) -> sigma::Handed<'_> {
-        sigma::Handed {
+    /// The inputs of the block sigmas.
+    pub fn sigmas_of(&self) -> sigma::Input<'_> {
+        sigma::Input {
             on: self.setup.edge_on().into(),
             frame: self.frame,
             filter: self.setup.filter,
@@ -154,51 +137,48 @@ impl Start<'_> {
     }
 }
 
-/// The number of a start.
-pub fn start(handed: Start) -> u32 {
-    let s = handed.setup;
+/// The number of a start call.
+pub fn start(input: Start) -> u32 {
+    let s = input.setup;
     let edge_runs = s.iterations_fit() && s.edge_on();
-    let groups = handed.frame.groups();
-    let length_fits = groups.is_ok_and(|[.., all]| handed.table.len() as i128 == 3 * all);
-    // An entry with a faulty presence has no sides, and then there is no length of the grids.
-    let entries = if length_fits {
-        of_entries(handed.sigmas_of())
-    } else {
-        Vec::new()
-    };
-    first_of(&[
-        (OUT_OF_MEASURE, true, &|| !measured(s.image)),
-        (OUT_OF_MEASURE, true, &|| !measured(s.filter)),
+    let groups = input.frame.groups();
+    let table_fits = input.sigmas_of().table_fits();
+    let entries = of_entries(input.sigmas_of());
+    first_that_applies(&[
+        (OUT_OF_MEASURE, true, &|| !in_range(s.image)),
+        (OUT_OF_MEASURE, true, &|| !in_range(s.filter)),
         (OUT_OF_MEASURE, true, &|| groups == Err(OUT_OF_MEASURE)),
-        (OUT_OF_MEASURE, length_fits, &|| {
+        (OUT_OF_MEASURE, table_fits, &|| {
             entries.contains(&OUT_OF_MEASURE)
         }),
         (NOT_INSIDE, true, &|| !inside(s.filter, s.image)),
         (NOT_ON_BLOCKS, edge_runs, &|| !s.on_blocks()),
-        (WRONG_LENGTH, true, &|| s.wrong_sets(handed.sets)),
-        (WRONG_LENGTH, groups.is_ok(), &|| !length_fits),
-        (WRONG_LENGTH, length_fits, &|| {
+        (WRONG_LENGTH, true, &|| s.wrong_sets(input.sets)),
+        (WRONG_LENGTH, groups.is_ok(), &|| !table_fits),
+        (WRONG_LENGTH, table_fits, &|| {
             entries.contains(&WRONG_LENGTH)
         }),
         (WRONG_LENGTH, s.iterations_fit(), &|| {
-            handed.sigmas as i128 != s.sigmas()
+            input.sigmas as i128 != s.sigmas()
         }),
-        (NOT_HELD, edge_runs && length_fits, &|| {
-            !all_held(handed.sigmas_of())
+        (BLOCK_NOT_HELD, edge_runs && table_fits, &|| {
+            !all_held(input.sigmas_of())
         }),
-        (SETTING, true, &|| !s.iterations_fit()),
-        (SETTING, true, &|| groups == Err(SETTING)),
-        (SETTING, length_fits, &|| entries.contains(&SETTING)),
-        (SETTING, true, &|| !s.full_fits()),
-        (SETTING, true, &|| !s.gabor_fits()),
-        (SETTING, true, &|| !s.height_fits()),
-        (SETTING, s.full_fits() && s.height_fits(), &|| {
-            s.bands() > MOST_BANDS
+        (OUT_OF_RANGE, true, &|| !s.iterations_fit()),
+        (OUT_OF_RANGE, true, &|| groups == Err(OUT_OF_RANGE)),
+        (OUT_OF_RANGE, table_fits, &|| {
+            entries.contains(&OUT_OF_RANGE)
+        }),
+        (OUT_OF_RANGE, true, &|| !s.full_fits()),
+        (OUT_OF_RANGE, true, &|| !s.gabor_fits()),
+        (OUT_OF_RANGE, true, &|| !s.height_fits()),
+        (OUT_OF_RANGE, s.full_fits() && s.height_fits(), &|| {
+            s.bands() > MAX_BANDS
         }),
     ])
 }
 
-/// A lent record, which may be anything.
+/// A record that a caller passes in, with any values.
 #[derive(Debug, Clone, Copy)]
 pub struct Record<'a> {
     pub setup: Setup,
@@ -211,8 +191,8 @@ impl Record<'_> {
         self.pass == self.setup.passes()
     }
 
-    /// The setup is in range, and accepted calls lead to the pass and the flags: that of a band is 0
-    /// or 1, that of no band is 0, and so are all once the run is finished.
+    /// The setup is in range, and accepted calls lead to this pass and these flags: a band's flag is 0 or
+    /// 1, a flag past the last band is 0, and all are 0 once the run is finished.
     fn fits(&self) -> bool {
         if !self.setup.fits() || self.pass > self.setup.passes() {
             return false;
@@ -236,30 +216,26 @@ impl Record<'_> {
     }
 }
 
-/// Sides and area are in measure: lengths that depend on the region are known.
-fn sized(r: Region) -> bool {
-    let side = |length| (1..=LARGEST_SIDE).contains(&length);
-    side(r.width) && side(r.height) && r.width * r.height <= LARGEST_AREA
-}
-
-/// The number of a band.
+/// The number of a band call.
 pub fn band(run: Record, sets: [usize; 2], sigmas: usize, k: i128) -> u32 {
     let s = run.setup;
-    let sigmas_known = s.iterations_fit() && (!s.edge_on() || sized(s.filter));
-    first_of(&[
-        (WRONG_LENGTH, sized(s.image), &|| s.wrong_sets(sets)),
+    let sigmas_known = s.iterations_fit() && (!s.edge_on() || sides_in_range(s.filter));
+    first_that_applies(&[
+        (WRONG_LENGTH, sides_in_range(s.image), &|| {
+            s.wrong_sets(sets)
+        }),
         (WRONG_LENGTH, sigmas_known, &|| sigmas as i128 != s.sigmas()),
-        (SETTING, true, &|| !run.fits()),
+        (OUT_OF_RANGE, true, &|| !run.fits()),
         (BAND_NOT_OPEN, true, &|| run.finished()),
         (BAND_NOT_OPEN, true, &|| k >= s.bands()),
         (BAND_NOT_OPEN, true, &|| run.is_done(k)),
     ])
 }
 
-/// The number of an advance.
+/// The number of an advance call.
 pub fn advance(run: Record) -> u32 {
-    first_of(&[
-        (SETTING, true, &|| !run.fits()),
+    first_that_applies(&[
+        (OUT_OF_RANGE, true, &|| !run.fits()),
         (PASS_NOT_DONE, true, &|| run.finished()),
         (PASS_NOT_DONE, true, &|| run.missing()),
     ])
@@ -268,12 +244,16 @@ pub fn advance(run: Record) -> u32 {
 /// The number of a result call.
 pub fn result(run: Record, sets: [usize; 2], out: usize) -> u32 {
     let s = run.setup;
-    first_of(&[
-        (WRONG_LENGTH, sized(s.image), &|| s.wrong_sets(sets)),
-        (WRONG_LENGTH, s.full_fits() && sized(s.result()), &|| {
-            out as i128 != samples(s.result())
+    first_that_applies(&[
+        (WRONG_LENGTH, sides_in_range(s.image), &|| {
+            s.wrong_sets(sets)
         }),
-        (SETTING, true, &|| !run.fits()),
+        (
+            WRONG_LENGTH,
+            s.full_fits() && sides_in_range(s.result()),
+            &|| out as i128 != samples(s.result()),
+        ),
+        (OUT_OF_RANGE, true, &|| !run.fits()),
         (PASS_NOT_DONE, true, &|| !run.finished()),
     ])
 }

@@ -1,16 +1,17 @@
-//! Block sigmas: the number that their inputs get, and the sigma of each block.
+//! Block sigmas: the number that a call is refused with, and the sigma of each block.
+
+use restoration::{MAX_GRID_SIDE, TABLE_ENTRY};
 
 use super::{
-    BLOCK, OUT_OF_MEASURE, Region, Ruled, SETTING, WRONG_LENGTH, blocks, group_sizes,
-    pass::{flag, measured},
+    BLOCK, Region, Ruled, blocks,
+    checks::first_that_applies,
+    group_sizes, limits,
+    numbers::{BLOCK_NOT_HELD, OUT_OF_MEASURE, OUT_OF_RANGE, WRONG_LENGTH},
+    pass::{flag, in_range},
     split_block,
 };
 
-pub const NOT_HELD: u32 = 8;
-
-const LARGEST_GRID_SIDE: u32 = 1_024;
-
-/// Frame sides, upsampling, LF level and group size shift.
+/// The frame header fields that groups depend on.
 #[derive(Debug, Clone, Copy)]
 pub struct Frame {
     pub width: i128,
@@ -33,15 +34,15 @@ impl Frame {
         Ok([across, down, all])
     }
 
-    /// Group and inner cell of a block column or row.
+    /// The group of a block column or row, and the block's index inside it.
     fn split(self, block: i128) -> [i128; 2] {
         split_block(block, self.group_size_shift).expect("the frame has groups")
     }
 }
 
-/// What block sigmas are asked with; the filter region's left and top are multiples of 8.
+/// The inputs of the block sigmas. The filter region's left and top are multiples of 8.
 #[derive(Debug, Clone, Copy)]
-pub struct Handed<'a> {
+pub struct Input<'a> {
     pub on: u32,
     pub frame: Frame,
     pub filter: Region,
@@ -50,58 +51,76 @@ pub struct Handed<'a> {
     pub sigmas: usize,
 }
 
-/// Where several numbers apply, the lowest.
-pub fn number(handed: Handed) -> u32 {
-    let mut numbers = Vec::new();
-    let (on, region_fits) = (flag(handed.on), measured(handed.filter));
-    numbers.extend(on.err());
-    if !region_fits {
-        numbers.push(OUT_OF_MEASURE);
-    } else if on.is_ok_and(|on| handed.sigmas as i128 != due_sigmas(handed, on)) {
-        numbers.push(WRONG_LENGTH);
+impl Input<'_> {
+    /// The table has one entry per group of the frame, so that its entries can be checked.
+    pub fn table_fits(&self) -> bool {
+        let groups = self.frame.groups();
+        groups.is_ok_and(|[.., all]| self.table.len() as i128 == limits::TABLE_ENTRY * all)
     }
-    match handed.frame.groups() {
-        Err(number) => numbers.push(number),
-        Ok([.., all]) if handed.table.len() as i128 != 3 * all => numbers.push(WRONG_LENGTH),
-        Ok(_) => {
-            numbers.extend(of_entries(handed));
-            if on == Ok(true) && region_fits && !all_held(handed) {
-                numbers.push(NOT_HELD);
-            }
-        }
-    }
-    numbers.into_iter().min().unwrap_or(0)
 }
 
-fn due_sigmas(handed: Handed, on: bool) -> i128 {
+/// 0 if the call is accepted.
+pub fn number(input: Input) -> u32 {
+    let (on, region_fits) = (flag(input.on), in_range(input.filter));
+    let (groups, table_fits) = (input.frame.groups(), input.table_fits());
+    let entries = of_entries(input);
+    first_that_applies(&[
+        (OUT_OF_MEASURE, true, &|| !region_fits),
+        (OUT_OF_MEASURE, true, &|| groups == Err(OUT_OF_MEASURE)),
+        (OUT_OF_MEASURE, table_fits, &|| {
+            entries.contains(&OUT_OF_MEASURE)
+        }),
+        (WRONG_LENGTH, region_fits && on.is_ok(), &|| {
+            input.sigmas as i128 != expected_sigmas(input, on == Ok(true))
+        }),
+        (WRONG_LENGTH, groups.is_ok(), &|| !table_fits),
+        (WRONG_LENGTH, table_fits, &|| {
+            entries.contains(&WRONG_LENGTH)
+        }),
+        (
+            BLOCK_NOT_HELD,
+            on == Ok(true) && region_fits && table_fits,
+            &|| !all_held(input),
+        ),
+        (OUT_OF_RANGE, true, &|| on.is_err()),
+        (OUT_OF_RANGE, true, &|| groups == Err(OUT_OF_RANGE)),
+        (OUT_OF_RANGE, table_fits, &|| {
+            entries.contains(&OUT_OF_RANGE)
+        }),
+    ])
+}
+
+fn expected_sigmas(input: Input, on: bool) -> i128 {
     if on {
-        blocks(handed.filter.width) * blocks(handed.filter.height)
+        blocks(input.filter.width) * blocks(input.filter.height)
     } else {
         0
     }
 }
 
-/// Presence is 0 or 1, a present grid's sides are 1 to 1,024, and the grids have all their cells.
-pub fn of_entries(handed: Handed) -> Vec<u32> {
+/// The numbers for the entries of a table that has one per group. Presence is 0 or 1, a present grid has
+/// sides of 1 to [`MAX_GRID_SIDE`], and `grids` has the cells of all present grids. If a presence is out
+/// of range, the number of cells is unknown.
+pub fn of_entries(input: Input) -> Vec<u32> {
     let mut numbers = Vec::new();
     let mut cells = Some(0);
-    for entry in handed.table.chunks_exact(3) {
+    for entry in input.table.chunks_exact(TABLE_ENTRY) {
         match entry[0] {
             0 => {}
             1 => {
-                let side = |length: u32| (1..=LARGEST_GRID_SIDE).contains(&length);
+                let side = |length: u32| (1..=MAX_GRID_SIDE).contains(&length);
                 if !side(entry[1]) || !side(entry[2]) {
                     numbers.push(OUT_OF_MEASURE);
                 }
                 cells = cells.map(|n| n + u128::from(entry[1]) * u128::from(entry[2]));
             }
             _ => {
-                numbers.push(SETTING);
+                numbers.push(OUT_OF_RANGE);
                 cells = None;
             }
         }
     }
-    if cells.is_some_and(|cells| cells != handed.grids as u128) {
+    if cells.is_some_and(|cells| cells != input.grids as u128) {
         numbers.push(WRONG_LENGTH);
     }
     numbers
@@ -116,46 +135,46 @@ fn touched(filter: Region) -> (core::ops::Range<i128>, core::ops::Range<i128>) {
     )
 }
 
-/// Each touched block's group is one of the frame, and its grid, if present, holds it.
-pub fn all_held(handed: Handed) -> bool {
-    let [across, down, _] = handed.frame.groups().expect("judged before");
-    let (columns, rows) = touched(handed.filter);
+/// Each block of the filter region is in a group of the frame and in the group's grid, if it is present.
+pub fn all_held(input: Input) -> bool {
+    let [across, down, _] = input.frame.groups().expect("checked before");
+    let (columns, rows) = touched(input.filter);
     rows.clone().all(|by| {
-        let [group_row, row] = handed.frame.split(by);
+        let [group_row, row] = input.frame.split(by);
         columns.clone().all(|bx| {
-            let [group_column, column] = handed.frame.split(bx);
+            let [group_column, column] = input.frame.split(bx);
             if group_column >= across || group_row >= down {
                 return false;
             }
             let group = (group_row * across + group_column) as usize;
-            let entry = &handed.table[3 * group..][..3];
+            let entry = &input.table[TABLE_ENTRY * group..][..TABLE_ENTRY];
             entry[0] != 1 || column < entry[1].into() && row < entry[2].into()
         })
     })
 }
 
-/// The sigma of each block of the filter region, where no number applies.
-pub fn sigmas(handed: Handed, grids: &[f32], modular: f32) -> Vec<f32> {
-    let [across, ..] = handed.frame.groups().expect("judged before");
+/// The sigma of each block of the filter region, for an accepted call.
+pub fn sigmas(input: Input, grids: &[f32], modular: f32) -> Vec<f32> {
+    let [across, ..] = input.frame.groups().expect("checked before");
     let cells = |entry: &[u32]| (entry[0] * entry[1] * entry[2]) as usize;
     let start = |group: usize| -> usize {
-        let before = &handed.table[..3 * group];
+        let before = &input.table[..TABLE_ENTRY * group];
         before
-            .chunks_exact(3)
+            .chunks_exact(TABLE_ENTRY)
             .filter(|e| e[0] == 1)
             .map(cells)
             .sum()
     };
-    let starts: Vec<usize> = (0..handed.table.len() / 3).map(start).collect();
-    let (columns, rows) = touched(handed.filter);
+    let starts: Vec<usize> = (0..input.table.len() / TABLE_ENTRY).map(start).collect();
+    let (columns, rows) = touched(input.filter);
     let mut above = vec![modular; columns.clone().count()];
     let mut sigmas = Vec::new();
     for by in rows {
-        let [group_row, row] = handed.frame.split(by);
+        let [group_row, row] = input.frame.split(by);
         for (bx, sigma) in columns.clone().zip(&mut above) {
-            let [group_column, column] = handed.frame.split(bx);
+            let [group_column, column] = input.frame.split(bx);
             let group = (group_row * across + group_column) as usize;
-            let entry = &handed.table[3 * group..][..3];
+            let entry = &input.table[TABLE_ENTRY * group..][..TABLE_ENTRY];
             if entry[0] == 1 {
                 *sigma = grids[starts[group] + row as usize * entry[1] as usize + column as usize];
             }

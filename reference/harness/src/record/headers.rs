@@ -7,10 +7,10 @@ use crate::{
     random::Random,
 };
 
-/// Headers that are drawn, among which the rows are chosen.
+/// Random headers from which the rows are chosen.
 const CANDIDATES: usize = 20_000;
 
-/// Two weights with which a kernel vanishes.
+/// Weights of kernels with sum zero.
 const VANISHING: [[u32; 2]; 4] = [
     [0xB000, 0xB000],
     [0xB400, 0x0000],
@@ -25,7 +25,7 @@ struct Drawn {
     modular: bool,
 }
 
-/// Of a class: the number, the encoding and how many bits are read.
+/// The number, the encoding and how many bits are read.
 type Class = (u32, bool, usize);
 
 pub fn rows(reader: &Reader) -> Vec<String> {
@@ -48,7 +48,7 @@ pub fn rows(reader: &Reader) -> Vec<String> {
     chosen.iter().map(|drawn| row(reader, drawn)).collect()
 }
 
-/// Every kind of half, each at another bit place.
+/// Every kind of half, each at another bit position.
 fn named(reader: &Reader) -> Vec<Drawn> {
     if reader.name != READERS[0].name {
         return Vec::new();
@@ -63,7 +63,7 @@ fn named(reader: &Reader) -> Vec<Drawn> {
         .collect()
 }
 
-/// A header, perhaps with other halves, perhaps cut short or read past its end.
+/// A random header, some with replaced halves, some cut short or read past the end.
 fn draw(random: &mut Random) -> Drawn {
     let (mut place, modular) = place_and_encoding(random);
     let mut fields = header(random, modular);
@@ -88,7 +88,7 @@ fn draw(random: &mut Random) -> Drawn {
     }
 }
 
-/// Puts other halves where halves are.
+/// Replaces some of the halves.
 fn replace(random: &mut Random, fields: &mut [Field], by: impl Fn(&mut Random) -> Vec<u32>) {
     let others = by(random);
     let halves: Vec<usize> = (0..fields.len()).filter(|&i| fields[i].1 == 16).collect();
@@ -101,20 +101,20 @@ fn replace(random: &mut Random, fields: &mut [Field], by: impl Fn(&mut Random) -
     }
 }
 
-/// Without most of the bytes that change nothing. Where the bits run out all bytes stay.
+/// Drops most of the bytes that do not change the answer. If the bits run out all bytes stay.
 fn trimmed(reader: &Reader, drawn: Drawn, random: &mut Random) -> Drawn {
     let Drawn {
         bytes,
         place,
         modular,
     } = &drawn;
-    let whole = reader.original((bytes, *place, *modular));
+    let whole = reader.original_reading((bytes, *place, *modular));
     let more = random.within(0, 2) as usize;
     if whole.number == 1 {
         return drawn;
     }
     let needed = (0..bytes.len())
-        .find(|&len| reader.original((&bytes[..len], *place, *modular)) == whole)
+        .find(|&len| reader.original_reading((&bytes[..len], *place, *modular)) == whole)
         .unwrap_or(bytes.len());
     Drawn {
         bytes: bytes[..bytes.len().min(needed + more)].to_vec(),
@@ -123,7 +123,7 @@ fn trimmed(reader: &Reader, drawn: Drawn, random: &mut Random) -> Drawn {
 }
 
 fn class(reader: &Reader, drawn: &Drawn) -> Class {
-    let reading = reader.original((&drawn.bytes, drawn.place, drawn.modular));
+    let reading = reader.original_reading((&drawn.bytes, drawn.place, drawn.modular));
     let bits = match reading.number {
         0 => reading.next - drawn.place,
         _ => 0,
@@ -131,9 +131,10 @@ fn class(reader: &Reader, drawn: &Drawn) -> Class {
     (reading.number, reader.encoded && drawn.modular, bits)
 }
 
-/// The bytes with their count, the place, the encoding, the number, the fields, the next place.
+/// The count of bytes, the bytes, the bit position, the encoding, the number, the fields and the next
+/// bit position.
 fn row(reader: &Reader, drawn: &Drawn) -> String {
-    let reading = reader.original((&drawn.bytes, drawn.place, drawn.modular));
+    let reading = reader.original_reading((&drawn.bytes, drawn.place, drawn.modular));
     let mut row = reader.name.replace(' ', "_");
     row += &format!(" {}", drawn.bytes.len());
     for byte in &drawn.bytes {

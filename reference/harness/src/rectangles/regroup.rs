@@ -1,16 +1,13 @@
-//! A frame with groups and grids of its own that give a part of a filter region the same sigmas.
+//! A frame with other groups and grids that give a part of a filter region the same sigmas.
 
-use restoration::{Region, Settings};
+use restoration::{BLOCK, GROUP_DIM, MAX_SIDE, Region, Settings};
 
 use crate::{
     picture::agree,
     random::Random,
-    runs::Handed,
+    runs::Input,
     sigma::{self, needed, sigma},
 };
-
-/// The largest side of a frame.
-const LARGEST_SIDE: u32 = 16_384;
 
 pub struct Groups {
     pub frame: oracle::Frame,
@@ -18,7 +15,7 @@ pub struct Groups {
     pub grids: Vec<f32>,
 }
 
-/// Sigmas that the blocks of a filter region have, counted from the frame's corner.
+/// The sigmas of the blocks of a filter region. Blocks are counted from the corner of the frame.
 struct Sigmas {
     left: u32,
     top: u32,
@@ -28,14 +25,17 @@ struct Sigmas {
 }
 
 impl Sigmas {
-    /// Those of a part of the larger picture's filter region, on blocks.
-    fn of(larger: &Handed, filter: Region) -> Self {
+    /// The sigmas in a part, on blocks, of the larger picture's filter region.
+    fn of(larger: &Input, filter: Region) -> Self {
         let whole = larger.setup.filter;
-        let all = larger.due_sigmas();
-        let stride = whole.width.div_ceil(8);
-        let (left, top) = (filter.left as u32 / 8, filter.top as u32 / 8);
-        let (across, down) = (filter.width.div_ceil(8), filter.height.div_ceil(8));
-        let (right, below) = (left - whole.left as u32 / 8, top - whole.top as u32 / 8);
+        let all = larger.expected_sigmas();
+        let stride = whole.width.div_ceil(BLOCK);
+        let (left, top) = (filter.left as u32 / BLOCK, filter.top as u32 / BLOCK);
+        let (across, down) = (filter.width.div_ceil(BLOCK), filter.height.div_ceil(BLOCK));
+        let (right, below) = (
+            left - whole.left as u32 / BLOCK,
+            top - whole.top as u32 / BLOCK,
+        );
         let cells = (0..across * down)
             .map(|n| (below + n / across) * stride + right + n % across)
             .map(|at| all[at as usize])
@@ -53,7 +53,7 @@ impl Sigmas {
         self.cells[((by - self.top) * self.across + bx - self.left) as usize]
     }
 
-    /// Blocks that lie in a group.
+    /// The blocks in a group.
     fn within(&self, group: (u32, u32), dim: u32) -> Vec<(u32, u32)> {
         let inside = |block: u32, group: u32| block / dim == group;
         let columns = (self.left..self.left + self.across).filter(|&bx| inside(bx, group.0));
@@ -63,7 +63,7 @@ impl Sigmas {
             .collect()
     }
 
-    /// Each of the blocks repeats the block above, in the top row `modular`.
+    /// Each of the blocks repeats the block above it, or has `modular` in the top row.
     fn carried(&self, blocks: &[(u32, u32)], modular: f32) -> bool {
         blocks.iter().all(|&(bx, by)| {
             let above = if by == self.top {
@@ -76,9 +76,9 @@ impl Sigmas {
     }
 }
 
-/// Groups for the sigmas that the larger picture has in the part; without the edge filter, any.
+/// Groups that give the part the larger picture's sigmas; any groups without the edge filter.
 pub fn groups(
-    larger: &Handed,
+    larger: &Input,
     filter: Region,
     settings: &mut Settings,
     random: &mut Random,
@@ -91,11 +91,11 @@ pub fn groups(
             grids: case.grids,
         };
     }
-    let due = Sigmas::of(larger, filter);
+    let expected = Sigmas::of(larger, filter);
     if random.once_in(2) {
-        settings.epf.sigma_for_modular = due.cells[0];
+        settings.epf.sigma_for_modular = expected.cells[0];
     }
-    let (shift, counts) = counts(&due, random);
+    let (shift, counts) = counts(&expected, random);
     let mut groups = Groups {
         frame: sigma::frame(shift, counts, random),
         table: Vec::new(),
@@ -103,37 +103,40 @@ pub fn groups(
     };
     for group in 0..counts.0 * counts.1 {
         let place = (group % counts.0, group / counts.0);
-        groups.add(&due, place, settings.epf.sigma_for_modular, random);
+        groups.add(&expected, place, settings.epf.sigma_for_modular, random);
     }
     groups
 }
 
-/// A group size shift, and groups each way that have all blocks and perhaps one more.
-fn counts(due: &Sigmas, random: &mut Random) -> (u32, (u32, u32)) {
+/// A group size shift, and groups per row and column: enough for all blocks, and sometimes one more.
+fn counts(expected: &Sigmas, random: &mut Random) -> (u32, (u32, u32)) {
     // Larger groups have larger grids.
     let shift = random.one_of(&[0, 0, 0, 0, 0, 0, 0, 0, 0, 0, 0, 0, 1, 1, 1, 2]);
     let mut count = |first: u32, blocks: u32| {
-        let needed = (first + blocks).div_ceil(128 << shift);
-        let most = LARGEST_SIDE.div_ceil(1_024 << shift);
+        let needed = (first + blocks).div_ceil(GROUP_DIM << shift);
+        let most = MAX_SIDE.div_ceil((BLOCK * GROUP_DIM) << shift);
         (needed + random.within(0, 1) as u32).min(most)
     };
-    let counts = (count(due.left, due.across), count(due.top, due.down));
+    let counts = (
+        count(expected.left, expected.across),
+        count(expected.top, expected.down),
+    );
     (shift, counts)
 }
 
 impl Groups {
-    /// The next group's entry: missing where its blocks may repeat those above, else a grid that
-    /// has them.
-    fn add(&mut self, due: &Sigmas, group: (u32, u32), modular: f32, random: &mut Random) {
-        let dim = 128 << self.frame.group_size_shift;
-        let blocks = due.within(group, dim);
-        if due.carried(&blocks, modular) && random.once_in(2) {
+    /// The next group's entry: none if its blocks repeat those above (not always), else a grid that has
+    /// them.
+    fn add(&mut self, expected: &Sigmas, group: (u32, u32), modular: f32, random: &mut Random) {
+        let dim = GROUP_DIM << self.frame.group_size_shift;
+        let blocks = expected.within(group, dim);
+        if expected.carried(&blocks, modular) && random.once_in(2) {
             self.table
                 .extend([0, random.next() as u32, random.next() as u32]);
             return;
         }
-        let width = needed(group.0, dim, due.left, 8 * due.across);
-        let height = needed(group.1, dim, due.top, 8 * due.down);
+        let width = needed(group.0, dim, expected.left, BLOCK * expected.across);
+        let height = needed(group.1, dim, expected.top, BLOCK * expected.down);
         let mut side = |need: u32| dim.min(need + random.within(0, 3) as u32).max(1);
         let (width, height) = (side(width), side(height));
         self.table.extend([1, width, height]);
@@ -143,7 +146,7 @@ impl Groups {
             .resize(start + width as usize * height as usize, filler);
         for (bx, by) in blocks {
             let at = (by % dim) * width + bx % dim;
-            self.grids[start + at as usize] = due.at(bx, by);
+            self.grids[start + at as usize] = expected.at(bx, by);
         }
     }
 }

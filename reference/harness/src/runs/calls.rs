@@ -1,10 +1,10 @@
-//! Calls with whatever they are lent: the number, the record and every lent slice are what is due.
+//! Calls with any inputs: the number, the record and every buffer are compared with the expected ones.
 
 use core::{fmt::Debug, hint::black_box};
 
-use restoration::{EpfSettings, EpfSigma, GaborSettings, Region, Run, Settings, Setup};
+use restoration::{Run, RunAnswer, Setup};
 
-use super::handed::{Handed, State, fields, place, record_rule, result_part, setup_rule};
+use super::input::{Input, State, fields, place, record_rule, result_part, setup_rule};
 use crate::{
     bits,
     expected::runs as rule,
@@ -12,50 +12,14 @@ use crate::{
     report::{Amount, Report, Row},
 };
 
-/// The numbers that each call can give.
+/// The numbers that each call can answer.
 const MARGIN_NUMBERS: [u32; 2] = [0, 9];
 const START_NUMBERS: [u32; 7] = [0, 4, 5, 6, 7, 8, 9];
 const BAND_NUMBERS: [u32; 4] = [0, 7, 9, 10];
 const ADVANCE_NUMBERS: [u32; 3] = [0, 9, 11];
 const RESULT_NUMBERS: [u32; 4] = [0, 7, 9, 11];
 
-const NO_REGION: Region = Region {
-    left: 0,
-    top: 0,
-    width: 0,
-    height: 0,
-};
-
-/// The record of a refused start.
-const NO_RUN: Run = Run {
-    setup: Setup {
-        image: NO_REGION,
-        filter: NO_REGION,
-        preserve_outside: 0,
-        settings: Settings {
-            gabor: GaborSettings {
-                enabled: 0,
-                weights: [[0.0; 2]; 3],
-            },
-            epf: EpfSettings {
-                iters: 0,
-                channel_scale: [0.0; 3],
-                sigma: EpfSigma {
-                    quant_mul: 0.0,
-                    pass0_sigma_scale: 0.0,
-                    pass2_sigma_scale: 0.0,
-                    border_sad_mul: 0.0,
-                },
-                sigma_for_modular: 0.0,
-            },
-        },
-        band_height: 0,
-    },
-    pass: 0,
-    done: [0; 256],
-};
-
-/// A row of the table for each kind of call.
+/// One row of the table for each kind of call.
 pub struct Tally {
     margin: Row,
     start: Row,
@@ -75,7 +39,7 @@ impl Tally {
         }
     }
 
-    /// Each number that a call can give must have been due often enough.
+    /// Each number that a call can answer must have been expected often enough.
     pub fn require(&mut self, amount: Amount) {
         self.margin.require(&MARGIN_NUMBERS, amount);
         self.start.require(&START_NUMBERS, amount);
@@ -92,65 +56,66 @@ impl Tally {
     }
 }
 
-/// The number is due, and so is each part that the call may have changed.
-fn judge(row: &mut Row, case: &dyn Debug, given: u32, due: u32, parts: &[(&str, bool)]) {
-    row.count(due);
-    if given != due {
-        row.differs(case, &given, &due);
-    } else if let Some((part, _)) = parts.iter().find(|(_, as_due)| !as_due) {
+/// Compares the number, and each part that the call may have changed.
+fn compare(row: &mut Row, case: &dyn Debug, given: u32, expected: u32, parts: &[(&str, bool)]) {
+    row.count(expected);
+    if given != expected {
+        row.differs(case, &given, &expected);
+    } else if let Some((part, _)) = parts.iter().find(|(_, as_expected)| !as_expected) {
         row.differs(case, &format!("number {given}, another {part}"), part);
     }
 }
 
-/// The same samples, NaNs alike.
+/// The same samples; all NaNs count as the same.
 pub fn same_samples(a: &[f32], b: &[f32]) -> bool {
     a.len() == b.len() && a.iter().zip(b).all(|(a, b)| agree(*a, *b))
 }
 
-/// The margin of settings, 0 where it is refused.
+/// Compares the margin, which is 0 in a refusal.
 pub fn margin(setup: &Setup, tally: &mut Tally) -> u32 {
     let s = setup_rule(setup);
-    let due = rule::margin(s);
-    let margin = if due == 0 { s.margin() as u32 } else { 0 };
+    let expected = rule::margin(s);
+    let margin = if expected == 0 { s.margin() as u32 } else { 0 };
     let answer = restoration::margin(setup.settings);
     let parts = [("margin", answer.margin == margin)];
-    judge(&mut tally.margin, setup, answer.number, due, &parts);
+    compare(&mut tally.margin, setup, answer.number, expected, &parts);
     answer.number
 }
 
-/// The number, and the record that was answered. An accepted start leaves the sets and fills the
+/// Answers the number and the record. An accepted start leaves the sets unchanged and fills in the
 /// sigmas; a refused one changes nothing and answers zeros.
-pub fn start(handed: &mut Handed, tally: &mut Tally) -> (u32, Run) {
-    let before = handed.clone();
-    let due = rule::start(before.rule());
-    let answer = handed.start();
-    let (run, sigmas_due) = if due == 0 {
+pub fn start(input: &mut Input, tally: &mut Tally) -> (u32, Run) {
+    let before = input.clone();
+    let expected = rule::start(before.rule());
+    let answer = input.start();
+    let (run, sigmas_as_expected) = if expected == 0 {
         let run = Run {
             setup: before.setup,
-            ..NO_RUN
+            ..Run::DEFAULT
         };
-        (run, same_samples(&handed.sigmas, &before.due_sigmas()))
+        (run, same_samples(&input.sigmas, &before.expected_sigmas()))
     } else {
-        (NO_RUN, bits::same(&handed.sigmas, &before.sigmas))
+        let refused = RunAnswer::refused(expected);
+        (refused.run, bits::same(&input.sigmas, &before.sigmas))
     };
     let parts = [
         ("record", fields(&answer.run) == fields(&run)),
-        ("table", *black_box(&handed.table) == before.table),
-        ("grids", bits::same(&handed.grids, &before.grids)),
-        ("first set", bits::same(&handed.first, &before.first)),
-        ("second set", bits::same(&handed.second, &before.second)),
-        ("sigmas", sigmas_due),
+        ("table", *black_box(&input.table) == before.table),
+        ("grids", bits::same(&input.grids, &before.grids)),
+        ("first set", bits::same(&input.first, &before.first)),
+        ("second set", bits::same(&input.second, &before.second)),
+        ("sigmas", sigmas_as_expected),
     ];
-    judge(&mut tally.start, &before, answer.number, due, &parts);
+    compare(&mut tally.start, &before, answer.number, expected, &parts);
     (answer.number, answer.run)
 }
 
-/// An accepted band writes its rows of the result in the set that is not read, and marks itself
-/// done. Whether the samples are right is seen in the run's result.
+/// An accepted band writes its rows of the result to the set that it does not read, and marks itself
+/// done. The samples are compared in the run's result.
 pub fn band(state: &mut State, k: u32, tally: &mut Tally) -> u32 {
     let mut before = state.clone();
     let run = record_rule(&before.run);
-    let due = rule::band(run, before.sets(), before.sigmas.len(), k.into());
+    let expected = rule::band(run, before.sets(), before.sigmas.len(), k.into());
     let answer = restoration::band(
         state.run,
         &state.sigmas,
@@ -158,7 +123,7 @@ pub fn band(state: &mut State, k: u32, tally: &mut Tally) -> u32 {
         &mut state.second,
         k,
     );
-    if due == 0 {
+    if expected == 0 {
         rewrite(&mut before, state, k);
         before.run.done[k as usize] = 1;
     }
@@ -170,54 +135,54 @@ pub fn band(state: &mut State, k: u32, tally: &mut Tally) -> u32 {
         ("second set", bits::same(&state.second, &before.second)),
     ];
     let case = (&before, k);
-    judge(&mut tally.band, &case, answer.number, due, &parts);
+    compare(&mut tally.band, &case, answer.number, expected, &parts);
     answer.number
 }
 
-/// Takes the band's rows of the set that it writes from the state after it.
+/// Copies the rows that the band has written from the state after the call.
 fn rewrite(before: &mut State, after: &mut State, k: u32) {
     let place = place(&before.run.setup);
     let part = picture::result(&place);
     let height = before.run.setup.band_height;
     let rows = (k * height, part.height.min((k + 1) * height));
-    let ([_, before], [_, after]) = (before.by_turns(), after.by_turns());
+    let ([_, before], [_, after]) = (before.read_and_written(), after.read_and_written());
     for run in picture::runs(place.image, part, rows) {
         before[run.clone()].copy_from_slice(&after[run]);
     }
 }
 
-/// An accepted advance goes on to the next pass, of which no band is done.
+/// An accepted advance goes on to the next pass, with no band done.
 pub fn advance(run: &mut Run, tally: &mut Tally) -> u32 {
     let before = *run;
-    let due = rule::advance(record_rule(&before));
+    let expected = rule::advance(record_rule(&before));
     let answer = restoration::advance(before);
-    *run = if due == 0 {
+    *run = if expected == 0 {
         Run {
-            setup: before.setup,
             pass: before.pass + 1,
-            done: [0; 256],
+            done: Run::DEFAULT.done,
+            ..before
         }
     } else {
         before
     };
     let parts = [("record", fields(run) == fields(&answer.run))];
-    judge(&mut tally.advance, &before, answer.number, due, &parts);
+    compare(&mut tally.advance, &before, answer.number, expected, &parts);
     *run = answer.run;
     answer.number
 }
 
-/// An accepted result call copies the result from the set that a next pass would read.
+/// An accepted result call copies the result from the set that another pass would read.
 pub fn result(state: &mut State, out: &mut [f32], tally: &mut Tally) -> u32 {
-    let (before, lent) = (state.clone(), out.to_vec());
+    let (before, out_before) = (state.clone(), out.to_vec());
     let run = record_rule(&before.run);
-    let due = rule::result(run, before.sets(), out.len());
+    let expected = rule::result(run, before.sets(), out.len());
     let number = restoration::result(state.run, &state.first, &state.second, out);
-    let copied = if due == 0 {
+    let copied = if expected == 0 {
         let setup = state.run.setup;
-        let [read, _] = state.by_turns();
+        let [read, _] = state.read_and_written();
         same_samples(out, &result_part(&setup, read))
     } else {
-        bits::same(out, &lent)
+        bits::same(out, &out_before)
     };
     let parts = [
         ("first set", bits::same(&state.first, &before.first)),
@@ -225,6 +190,6 @@ pub fn result(state: &mut State, out: &mut [f32], tally: &mut Tally) -> u32 {
         ("slice", copied),
     ];
     let case = (&before, out.len());
-    judge(&mut tally.result, &case, number, due, &parts);
+    compare(&mut tally.result, &case, number, expected, &parts);
     number
 }

@@ -1,48 +1,51 @@
-//! What is lent, with one to four things wrong: every field of a setup and a record, the frame, its
-//! table and grids, and lengths.
+//! Damages the inputs of calls in one to four places: any field of a setup or a record, the frame, its
+//! table and grids, and the lengths of slices.
 
-use restoration::{Region, Run, Settings, Setup};
+use restoration::{
+    BLOCK, CHANNELS, MAX_AREA, MAX_BANDS, MAX_OFFSET, MAX_SIDE, Region, Run, Settings, Setup,
+    TABLE_ENTRY,
+};
 
-use super::handed::{Handed, State, setup_rule};
+use super::input::{Input, State, setup_rule};
 use crate::{
     picture::{any_len, special},
     random::Random,
-    sigma,
+    sigma::{self, SIDES},
 };
 
-/// Sides and corners at their limits, and sides whose area is.
-const SIDES: [u32; 6] = [0, 1, 8, 16_384, 16_385, u32::MAX];
+/// Left and top at their limits, and sides whose area is at its limit.
 const CORNERS: [i32; 8] = [
     i32::MIN,
-    -1_048_577,
-    -1_048_576,
-    -8,
-    8,
-    1_048_576,
-    1_048_577,
+    -MAX_OFFSET - 1,
+    -MAX_OFFSET,
+    -(BLOCK as i32),
+    BLOCK as i32,
+    MAX_OFFSET,
+    MAX_OFFSET + 1,
     i32::MAX,
 ];
 const AREAS: [(u32, u32); 6] = [
-    (16_384, 1_024),
-    (16_384, 1_025),
-    (4_096, 4_096),
-    (4_097, 4_096),
-    (16_384, 16_384),
+    (MAX_SIDE, MAX_AREA / MAX_SIDE),
+    (MAX_SIDE, MAX_AREA / MAX_SIDE + 1),
+    (MAX_AREA.isqrt(), MAX_AREA.isqrt()),
+    (MAX_AREA.isqrt() + 1, MAX_AREA.isqrt()),
+    (MAX_SIDE, MAX_SIDE),
     (u32::MAX, u32::MAX),
 ];
-/// Flags, in a number and in a byte: mostly 0 or 1.
+const BAND_HEIGHTS: [u32; 7] = [0, 1, 2, BLOCK, MAX_SIDE, MAX_SIDE + 1, u32::MAX];
+/// Flags, as `u32` and as bytes: mostly 0 or 1.
 const FLAGS: [u32; 8] = [0, 1, 0, 1, 2, 255, 256, u32::MAX];
 const BYTES: [u8; 7] = [0, 1, 0, 1, 2, 128, 255];
-/// The most samples of a slice that is made as long as a damaged setup says.
+/// No slice is made longer than this to fit a damaged setup.
 pub const MOST_SAMPLES: i128 = 1 << 16;
 
-/// What start is handed.
-pub fn handed(h: &mut Handed, random: &mut Random) {
+/// The inputs of start.
+pub fn input(h: &mut Input, random: &mut Random) {
     for _ in 0..random.within(1, 4) {
         match random.within(0, 11) {
             0..=4 => setup(&mut h.setup, random),
-            5 => sigma::wrong_frame(&mut h.frame, random),
-            6 => sigma::wrong_table(&mut h.table, random),
+            5 => sigma::damage_frame(&mut h.frame, random),
+            6 => sigma::damage_table(&mut h.table, random),
             7 => narrow(h, random),
             8 => move_both(&mut h.setup, random),
             9 => resize(&mut h.grids, random),
@@ -55,7 +58,7 @@ pub fn handed(h: &mut Handed, random: &mut Random) {
     }
 }
 
-/// What a band, an advance or a result call is lent.
+/// The inputs of a band, an advance or a result call.
 pub fn state(t: &mut State, random: &mut Random) {
     for _ in 0..random.within(1, 4) {
         match random.within(0, 8) {
@@ -70,18 +73,26 @@ pub fn state(t: &mut State, random: &mut Random) {
     }
 }
 
+/// Any field: the pattern names all of them, so that a new one is not forgotten.
 fn setup(s: &mut Setup, random: &mut Random) {
+    let Setup {
+        image,
+        filter,
+        preserve_outside,
+        settings,
+        band_height,
+    } = s;
     match random.within(0, 9) {
-        0 | 1 => region(&mut s.image, random),
-        2 | 3 => region(&mut s.filter, random),
-        4 => s.preserve_outside = random.one_of(&FLAGS),
-        5 | 6 => passes(&mut s.settings, random),
-        7 | 8 => s.band_height = random.one_of(&[0, 1, 2, 8, 16_384, 16_385, u32::MAX]),
-        _ => floats(s, random),
+        0 | 1 => region(image, random),
+        2 | 3 => region(filter, random),
+        4 => *preserve_outside = random.one_of(&FLAGS),
+        5 | 6 => passes(settings, random),
+        7 | 8 => *band_height = random.one_of(&BAND_HEIGHTS),
+        _ => floats(settings, random),
     }
 }
 
-/// The two numbers that say which passes run.
+/// The two settings that say which passes run.
 pub fn passes(s: &mut Settings, random: &mut Random) {
     if random.once_in(2) {
         s.gabor.enabled = random.one_of(&FLAGS);
@@ -105,16 +116,16 @@ fn region(r: &mut Region, random: &mut Random) {
     }
 }
 
-/// No number depends on a float.
-fn floats(s: &mut Setup, random: &mut Random) {
-    let settings = &mut s.settings;
-    settings.gabor.weights[random.within(0, 2) as usize][0] = special(random);
-    settings.epf.channel_scale[random.within(0, 2) as usize] = special(random);
+/// No refusal depends on a float.
+fn floats(settings: &mut Settings, random: &mut Random) {
+    let channel = |random: &mut Random| random.within(0, CHANNELS as i128 - 1) as usize;
+    settings.gabor.weights[channel(random)][0] = special(random);
+    settings.epf.channel_scale[channel(random)] = special(random);
     settings.epf.sigma.border_sad_mul = special(random);
     settings.epf.sigma_for_modular = special(random);
 }
 
-/// Moves both regions: by some blocks, so that grids do not hold them, or off their blocks.
+/// Moves both regions: by whole blocks, out of the grids, or off the blocks.
 fn move_both(s: &mut Setup, random: &mut Random) {
     let ways = [-8, 8, 16, 40, 1_024, 16_384, -3, 1, 4];
     let (right, down) = match random.within(0, 2) {
@@ -128,12 +139,12 @@ fn move_both(s: &mut Setup, random: &mut Random) {
     }
 }
 
-/// A present grid loses a column or a row, and the grids slice its cells.
-fn narrow(h: &mut Handed, random: &mut Random) {
+/// Takes a column or a row from a grid, and its cells from the slice.
+fn narrow(h: &mut Input, random: &mut Random) {
     let present = |entry: &&mut [u32]| entry[0] == 1 && entry[1].min(entry[2]) > 1;
-    let entries = h.table.chunks_exact_mut(3);
+    let entries = h.table.chunks_exact_mut(TABLE_ENTRY);
     let mut grids: Vec<&mut [u32]> = entries.filter(present).collect();
-    // The largest is one that blocks are in.
+    // The largest grid has blocks of the filter region.
     grids.sort_by_key(|entry| core::cmp::Reverse(u64::from(entry[1]) * u64::from(entry[2])));
     let Some(entry) = grids.first_mut() else {
         return;
@@ -144,22 +155,23 @@ fn narrow(h: &mut Handed, random: &mut Random) {
     h.grids.truncate(h.grids.len().saturating_sub(lost));
 }
 
-/// The pass and the done bands.
+/// The pass and the flags of the bands: all fields of a record beside its setup.
 fn progress(run: &mut Run, random: &mut Random) {
+    let Run { setup, pass, done } = run;
     match random.within(0, 5) {
-        0 | 1 => run.pass = random.one_of(&[0, 1, 2, 3, 4, 5, u32::MAX]),
-        2 => run.done[random.within(0, 255) as usize] = random.one_of(&BYTES),
-        3 => run.done = [random.one_of(&BYTES); 256],
+        0 | 1 => *pass = random.one_of(&[0, 1, 2, 3, 4, 5, u32::MAX]),
+        2 => done[random.within(0, MAX_BANDS as i128 - 1) as usize] = random.one_of(&BYTES),
+        3 => *done = [random.one_of(&BYTES); MAX_BANDS],
         4 => {
             // All bands of the pass, or one too many.
-            let s = setup_rule(&run.setup);
+            let s = setup_rule(setup);
             let bands = if s.band_height > 0 { s.bands() } else { 0 };
-            let bands = bands.min(255) as usize + usize::from(random.once_in(2));
-            run.done = core::array::from_fn(|k| u8::from(k < bands));
+            let bands = bands.min(MAX_BANDS as i128 - 1) as usize + usize::from(random.once_in(2));
+            *done = core::array::from_fn(|k| u8::from(k < bands));
         }
         _ => {
             let k = random.within(0, 7) as usize;
-            run.done[k] ^= random.one_of(&[1, 1, 2, 255]);
+            done[k] ^= random.one_of(&[1, 1, 2, 255]);
         }
     }
 }
@@ -173,13 +185,13 @@ pub fn resize(slice: &mut Vec<f32>, random: &mut Random) {
     slice.resize(length, 1.0);
 }
 
-/// Lengths as the setup has them, so that what else is wrong with it shows.
+/// Makes the lengths fit the setup, so that its other faults are reached.
 fn refit(s: &Setup, slices: [&mut Vec<f32>; 3]) {
     let rule = setup_rule(s);
-    let dues = [rule.set(), rule.set(), rule.sigmas()];
-    for (slice, due) in slices.into_iter().zip(dues) {
-        if due <= MOST_SAMPLES {
-            slice.resize(due as usize, 1.0);
+    let expected = [rule.set(), rule.set(), rule.sigmas()];
+    for (slice, expected) in slices.into_iter().zip(expected) {
+        if expected <= MOST_SAMPLES {
+            slice.resize(expected as usize, 1.0);
         }
     }
 }

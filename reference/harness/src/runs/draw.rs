@@ -1,23 +1,34 @@
 //! Random pictures that start accepts.
 
-use restoration::{Blocks, GaborSettings, Region, Settings, Setup};
+use restoration::{
+    BLOCK, Blocks, GROUP_DIM, GaborSettings, MAX_BANDS, MAX_ITERS, MAX_OFFSET, MAX_SIDE, Region,
+    Settings, Setup,
+};
 
-use super::handed::{Handed, epf_settings, setup_rule};
+use super::input::{Input, setup_rule};
 use crate::{
+    convert::{epf_settings, region},
     epf, gabor,
-    picture::{self, samples},
+    picture::samples,
     random::Random,
     sigma,
 };
 
-const FARTHEST: i32 = 1_048_576;
-/// A run has at most so many bands.
-const MOST_BANDS: u32 = 256;
+/// Samples along a side of the smallest group, and places where groups of one to eight times this size
+/// meet.
+const GROUP: i32 = (BLOCK * GROUP_DIM) as i32;
+const MEETINGS: [i32; 8] = [
+    -8 * GROUP,
+    -GROUP,
+    0,
+    GROUP,
+    2 * GROUP,
+    8 * GROUP,
+    16 * GROUP,
+    1_016 * GROUP,
+];
 
-/// Places at which groups of 1,024 to 8,192 samples meet.
-const MEETINGS: [i32; 8] = [-8_192, -1_024, 0, 1_024, 2_048, 8_192, 16_384, 1_040_384];
-
-/// Which passes run: the Gabor-like one or not, and iterations of the edge filter.
+/// Which passes run.
 #[derive(Debug, Clone, Copy)]
 pub struct Passes {
     pub gabor: bool,
@@ -27,32 +38,32 @@ pub struct Passes {
 pub fn passes(random: &mut Random) -> Passes {
     Passes {
         gabor: random.once_in(2),
-        iterations: random.within(0, 3) as u32,
+        iterations: random.within(0, MAX_ITERS.into()) as u32,
     }
 }
 
-/// A picture with sides of at most so many samples.
-pub fn picture(most: u32, random: &mut Random) -> Handed {
+/// A picture with sides of at most `most` samples.
+pub fn picture(most: u32, random: &mut Random) -> Input {
     let passes = passes(random);
     with_passes(passes, most, random)
 }
 
-pub fn with_passes(passes: Passes, most: u32, random: &mut Random) -> Handed {
+pub fn with_passes(passes: Passes, most: u32, random: &mut Random) -> Input {
     let mut side = || random.within(1, most.into()) as u32;
     let (width, height) = (side(), side());
     with_sides(passes, (width, height), most, random)
 }
 
-/// A filter region with such sides in an image region with sides of at most so many samples.
+/// A filter region with these sides, in an image region with sides of at most `most` samples.
 pub fn with_sides(
     passes: Passes,
     (width, height): (u32, u32),
     most: u32,
     random: &mut Random,
-) -> Handed {
+) -> Input {
     let case = on_blocks(width, height, random);
     let filter = if passes.iterations > 0 {
-        picture::region(case.filter())
+        region(case.filter())
     } else {
         anywhere(width, height, random)
     };
@@ -65,15 +76,16 @@ pub fn with_sides(
         preserve_outside: preserve_outside.into(),
         settings: settings(passes, case.modular, random),
         band_height: band_height(rows, random),
+        ..Setup::DEFAULT
     };
-    lent(setup, case, random)
+    with_slices(setup, case, random)
 }
 
-/// The picture with slices of due lengths.
-fn lent(setup: Setup, case: sigma::Case, random: &mut Random) -> Handed {
+/// The inputs of start, with slices of the right lengths.
+fn with_slices(setup: Setup, case: sigma::Case, random: &mut Random) -> Input {
     let rule = setup_rule(&setup);
     let set = rule.set() as usize;
-    Handed {
+    Input {
         setup,
         frame: case.frame,
         table: case.table,
@@ -84,40 +96,38 @@ fn lent(setup: Setup, case: sigma::Case, random: &mut Random) -> Handed {
     }
 }
 
-/// The default settings of a header with such passes.
-pub fn defaults(passes: Passes) -> Settings {
-    let mut edge = epf::DEFAULTS;
-    edge.iters = passes.iterations;
-    Settings {
-        gabor: GaborSettings {
-            enabled: passes.gabor.into(),
-            weights: gabor::DEFAULT_WEIGHTS,
-        },
-        epf: epf_settings(edge),
+impl Passes {
+    /// Turns these passes on and all others off.
+    fn of(self, mut settings: Settings) -> Settings {
+        settings.gabor.enabled = self.gabor.into();
+        settings.epf.iters = self.iterations;
+        settings
     }
+}
+
+/// A header's default settings with these passes.
+pub fn defaults(passes: Passes) -> Settings {
+    passes.of(Settings::DEFAULT)
 }
 
 pub fn settings(passes: Passes, modular: f32, random: &mut Random) -> Settings {
     let mut edge = epf::settings(random);
-    edge.iters = passes.iterations;
     edge.sigma_for_modular = modular;
-    Settings {
-        gabor: GaborSettings {
-            enabled: passes.gabor.into(),
-            weights: gabor::weights(random),
-        },
+    passes.of(Settings {
+        gabor: GaborSettings::with_weights(gabor::weights(random)),
         epf: epf_settings(edge),
-    }
+        ..Settings::DEFAULT
+    })
 }
 
-/// Grids and a filter region with such sides around a place where groups meet.
+/// A filter region with these sides, near a place where groups meet, and grids for it.
 fn on_blocks(width: u32, height: u32, random: &mut Random) -> sigma::Case {
     let shift = sigma::seldom_large(random.within(0, 49) as u64);
     let mut groups = || random.within(1, sigma::GROUPS[shift as usize].into()) as u32;
     let groups = (groups(), groups());
-    let dim = 128 << shift;
+    let dim = GROUP_DIM << shift;
     let mut first = |side: u32, groups: u32| {
-        let count = side.div_ceil(8);
+        let count = side.div_ceil(BLOCK);
         let meeting = dim * random.within(0, groups.into()) as u32;
         let before = random.within(0, count.into()) as u32;
         meeting.saturating_sub(before).min(groups * dim - count)
@@ -132,14 +142,13 @@ fn on_blocks(width: u32, height: u32, random: &mut Random) -> sigma::Case {
     sigma::filled(frame, blocks, groups, false, random)
 }
 
-/// A region with its corner near zero, where groups would meet, at the ends of the measures, or
-/// anywhere between.
+/// A region with left and top near zero, near a place where groups meet, at their limits, or anywhere.
 fn anywhere(width: u32, height: u32, random: &mut Random) -> Region {
     let mut corner = || match random.within(0, 7) {
         0..=2 => random.within(-40, 40) as i32,
         3 | 4 => random.one_of(&MEETINGS) - random.within(0, 40) as i32,
-        5 => random.one_of(&[-FARTHEST, FARTHEST]),
-        _ => random.within((-FARTHEST).into(), FARTHEST.into()) as i32,
+        5 => random.one_of(&[-MAX_OFFSET, MAX_OFFSET]),
+        _ => random.within((-MAX_OFFSET).into(), MAX_OFFSET.into()) as i32,
     };
     Region {
         left: corner(),
@@ -149,7 +158,7 @@ fn anywhere(width: u32, height: u32, random: &mut Random) -> Region {
     }
 }
 
-/// An image region around a filter region, in one of four pictures the same.
+/// An image region around a filter region; one time in four they are the same.
 pub fn around(filter: Region, most: u32, random: &mut Random) -> Region {
     if random.once_in(4) {
         return filter;
@@ -157,7 +166,7 @@ pub fn around(filter: Region, most: u32, random: &mut Random) -> Region {
     let mut wider = |corner: i32, side: u32| {
         let room = most - side;
         let before = random.within(0, room.into()) as u32;
-        let before = before.min(corner.abs_diff(-FARTHEST));
+        let before = before.min(corner.abs_diff(-MAX_OFFSET));
         let after = random.within(0, (room - before).into()) as u32;
         (corner - before as i32, side + before + after)
     };
@@ -171,11 +180,11 @@ pub fn around(filter: Region, most: u32, random: &mut Random) -> Region {
     }
 }
 
-/// Any height that makes at most 256 bands, mostly less than the rows.
+/// Any band height with at most `MAX_BANDS` bands, mostly less than the rows.
 pub fn band_height(rows: u32, random: &mut Random) -> u32 {
-    let least = rows.div_ceil(MOST_BANDS);
+    let least = rows.div_ceil(MAX_BANDS as u32);
     let most = match random.within(0, 7) {
-        0 => 16_384,
+        0 => MAX_SIDE,
         1 => 4,
         _ => rows + 1,
     };

@@ -1,15 +1,16 @@
-//! Document 01's instances of runs.
+//! The Specification's instances for runs.
 
-use restoration::Setup;
+use restoration::{CHANNELS, MAX_GROUP_SIZE_SHIFT, MAX_ITERS, Setup};
 
 use super::{
     calls::{self, Tally},
     draw::{self, Passes},
-    handed::{Handed, State},
+    input::{Input, State},
     refusals,
 };
 use crate::{
-    picture::{self, agree, samples},
+    convert,
+    picture::{agree, samples},
     random::Random,
     report::{Report, Row},
     sigma,
@@ -20,12 +21,12 @@ pub fn compare(report: &mut Report) {
     let mut tally = Tally::new("named");
     let mut row = Row::new("runs", "instances");
     for gabor in [false, true] {
-        for iterations in 0..=3 {
+        for iterations in 0..=MAX_ITERS {
             let passes = Passes { gabor, iterations };
             two_bands(passes, &mut random, &mut row, &mut tally);
         }
     }
-    for shift in 0..4 {
+    for shift in 0..=MAX_GROUP_SIZE_SHIFT {
         for case in sigma::carried(shift, &mut random) {
             carry(case, &mut row, &mut tally);
         }
@@ -37,22 +38,22 @@ pub fn compare(report: &mut Report) {
     tally.report(report);
 }
 
-/// A call gave the number that is written here.
-pub fn expect(what: &str, given: u32, due: u32, row: &mut Row) {
-    row.count(due);
-    if given != due {
-        row.differs(&what, &given, &due);
+/// Compares a number with the one that is written here.
+pub fn expect(what: &str, given: u32, expected: u32, row: &mut Row) {
+    row.count(expected);
+    if given != expected {
+        row.differs(&what, &given, &expected);
     }
 }
 
-/// Band 0 twice: 10. Advance with band 1 missing: 11. A run with no passes is finished at once.
+/// Band 0 twice: 10. Advance with band 1 missing: 11. A run without passes is finished from the start.
 fn two_bands(passes: Passes, random: &mut Random, row: &mut Row, tally: &mut Tally) {
-    let mut handed = draw::with_sides(passes, (16, 16), 16, random);
-    handed.setup.band_height = 8;
-    let (number, run) = calls::start(&mut handed, tally);
+    let mut input = draw::with_sides(passes, (16, 16), 16, random);
+    input.setup.band_height = 8;
+    let (number, run) = calls::start(&mut input, tally);
     expect("start", number, 0, row);
-    let mut state = State::new(run, &handed);
-    let mut out = samples(3 * 16 * 16, random);
+    let mut state = State::new(run, &input);
+    let mut out = samples(CHANNELS * 16 * 16, random);
     let count = u32::from(passes.gabor) + passes.iterations;
     for _ in 0..count {
         let number = calls::band(&mut state, 0, tally);
@@ -78,8 +79,8 @@ fn two_bands(passes: Passes, random: &mut Random, row: &mut Row, tally: &mut Tal
     expect("result", number, 0, row);
 }
 
-/// Group row 0 has grids, row 1 none: its blocks repeat the last row above, where the filter
-/// region has it.
+/// Group row 0 has grids, row 1 has none: its blocks repeat the last block row above, if that is in the
+/// filter region.
 fn carry(case: sigma::Case, row: &mut Row, tally: &mut Tally) {
     let (dim, top) = (case.grids.len(), case.blocks.top as usize);
     let above = if top < dim {
@@ -87,31 +88,28 @@ fn carry(case: sigma::Case, row: &mut Row, tally: &mut Tally) {
     } else {
         case.modular
     };
-    let mut handed = one_iteration(case);
-    let (number, _) = calls::start(&mut handed, tally);
+    let mut input = one_iteration(case);
+    let (number, _) = calls::start(&mut input, tally);
     expect("start where groups meet", number, 0, row);
-    let missing = &handed.sigmas[dim.saturating_sub(top)..];
+    let missing = &input.sigmas[dim.saturating_sub(top)..];
     if missing.is_empty() || !missing.iter().all(|&sigma| agree(sigma, above)) {
-        row.differs(&handed, &missing, &above);
+        row.differs(&input, &missing, &above);
     }
 }
 
-/// A picture of zeros that is the filter region of a case.
-fn one_iteration(case: sigma::Case) -> Handed {
-    let filter = picture::region(case.filter());
+/// A picture of zeros whose filter region is that of a case.
+fn one_iteration(case: sigma::Case) -> Input {
+    let filter = convert::region(case.filter());
     let mut settings = draw::defaults(Passes {
         gabor: false,
         iterations: 1,
     });
     settings.epf.sigma_for_modular = case.modular;
-    let samples = (3 * filter.width * filter.height) as usize;
-    Handed {
+    let samples = CHANNELS * (filter.width * filter.height) as usize;
+    Input {
         setup: Setup {
-            image: filter,
-            filter,
-            preserve_outside: 0,
             settings,
-            band_height: 64,
+            ..Setup::whole(filter)
         },
         sigmas: vec![0.0; case.count()],
         frame: case.frame,

@@ -1,37 +1,51 @@
-//! NaNs of any kind in all that a call is handed, so that a refused one is seen to leave their bits.
+//! NaNs of every kind in all inputs of a call, to see that a refused call leaves their bits.
 
-use restoration::Setup;
+use restoration::{EpfSettings, EpfSigma, GaborSettings, Settings};
 
-use super::handed::{Handed, State};
+use super::input::{Input, State};
 use crate::{bits, random::Random};
 
-pub fn in_handed(h: &mut Handed, random: &mut Random) {
-    in_setup(&mut h.setup, random);
+pub fn in_input(h: &mut Input, random: &mut Random) {
+    in_settings(&mut h.setup.settings, random);
     for buffer in [&mut h.grids, &mut h.first, &mut h.second, &mut h.sigmas] {
         bits::sprinkle(buffer, random);
     }
 }
 
 pub fn in_state(t: &mut State, random: &mut Random) {
-    in_setup(&mut t.run.setup, random);
+    in_settings(&mut t.run.setup.settings, random);
     for buffer in [&mut t.first, &mut t.second, &mut t.sigmas] {
         bits::sprinkle(buffer, random);
     }
 }
 
-/// Some of the floats of the settings.
-fn in_setup(s: &mut Setup, random: &mut Random) {
-    let epf = &mut s.settings.epf;
-    let sigma = &mut epf.sigma;
+/// Some floats of the settings. The patterns name all fields, so that a new one is not forgotten.
+fn in_settings(settings: &mut Settings, random: &mut Random) {
+    let Settings { gabor, epf } = settings;
+    let GaborSettings {
+        enabled: _,
+        weights,
+    } = gabor;
+    let EpfSettings {
+        iters: _,
+        channel_scale,
+        sigma,
+        sigma_for_modular,
+    } = epf;
+    let EpfSigma {
+        quant_mul,
+        pass0_sigma_scale,
+        pass2_sigma_scale,
+        border_sad_mul,
+    } = sigma;
     let single = [
-        &mut sigma.quant_mul,
-        &mut sigma.pass0_sigma_scale,
-        &mut sigma.pass2_sigma_scale,
-        &mut sigma.border_sad_mul,
-        &mut epf.sigma_for_modular,
+        quant_mul,
+        pass0_sigma_scale,
+        pass2_sigma_scale,
+        border_sad_mul,
+        sigma_for_modular,
     ];
-    let weights = s.settings.gabor.weights.as_flattened_mut();
-    let floats = weights.iter_mut().chain(&mut epf.channel_scale);
+    let floats = weights.as_flattened_mut().iter_mut().chain(channel_scale);
     for float in floats.chain(single) {
         if random.once_in(4) {
             *float = bits::nan(random);

@@ -1,18 +1,21 @@
-//! Named refusals: which number is given where several things are wrong, and which conditions a
-//! faulty setting hides.
+//! Named refusals: which number is answered for several faults at once, and which checks are skipped
+//! because they depend on a value that is out of range.
 
-use restoration::{Region, Setup};
+use restoration::{
+    BLOCK, CHANNELS, GROUP_DIM, MAX_BANDS, MAX_GRID_SIDE, MAX_ITERS, MAX_OFFSET, MAX_SIDE, Region,
+    Setup, TABLE_ENTRY,
+};
 
 use super::{
     calls::{self, Tally},
     draw::{Passes, defaults},
-    handed::{Handed, State},
+    input::{Input, State},
     instances::expect,
     nans,
 };
 use crate::{bits, random::Random, report::Row};
 
-/// Two blocks each way, of which the first column lies in one group and the second in the next.
+/// Two by two blocks; the first block column is in one group, the second in the next.
 const REGION: Region = Region {
     left: 1_016,
     top: 0,
@@ -21,34 +24,34 @@ const REGION: Region = Region {
 };
 const ALL: Passes = Passes {
     gabor: true,
-    iterations: 3,
+    iterations: MAX_ITERS,
 };
 /// A left that no frame reaches.
-const PAST_FRAMES: i32 = 16_384;
-const SAMPLES: usize = 3 * 16 * 16;
+const PAST_FRAMES: i32 = MAX_SIDE as i32;
+const SAMPLES: usize = CHANNELS * 16 * 16;
 const BLOCKS: usize = 4;
 
-/// What is wrong, what is due, and how it comes about.
-type Wrong<T, Due> = (&'static str, Due, fn(&mut T));
+/// What is wrong, the expected number or numbers, and the damage.
+type Damage<T, Expected> = (&'static str, Expected, fn(&mut T));
 
-/// The number that start gives.
-const STARTS: &[Wrong<Handed, u32>] = &[
+/// The number that start answers.
+const STARTS: &[Damage<Input, u32>] = &[
     ("nothing", 0, |_| {}),
     ("an empty filter region", 4, |h| h.setup.filter.width = 0),
     ("a huge filter region outside the image", 4, |h| {
         h.setup.filter = Region {
             left: 4_000,
             top: 0,
-            width: 16_384,
-            height: 16_384,
+            width: MAX_SIDE,
+            height: MAX_SIDE,
         }
     }),
     ("an image side of 16,385, a short set", 4, |h| {
-        h.setup.image.height = 16_385;
+        h.setup.image.height = MAX_SIDE + 1;
         h.first.pop();
     }),
     ("a filter region beside the image", 5, |h| {
-        h.setup.filter.left += 8
+        h.setup.filter.left += BLOCK as i32
     }),
     ("regions off their blocks, a short set", 6, |h| {
         off_blocks(&mut h.setup);
@@ -73,7 +76,7 @@ const STARTS: &[Wrong<Handed, u32>] = &[
         h.setup.band_height = 0;
     }),
     ("a sigma too many", 7, |h| h.sigmas.push(0.0)),
-    ("a table of one entry", 7, |h| h.table.truncate(3)),
+    ("a table of one entry", 7, |h| h.table.truncate(TABLE_ENTRY)),
     ("a cell too few", 7, |h| {
         h.grids.pop();
     }),
@@ -88,27 +91,27 @@ const STARTS: &[Wrong<Handed, u32>] = &[
     }),
     ("LF level 5, presence 2, grid side 1,025", 9, |h| {
         h.frame.lf_level = 5;
-        h.table = vec![2, 1, 1, 1, 1_025, 1];
+        h.table = vec![2, 1, 1, 1, MAX_GRID_SIDE + 1, 1];
     }),
     ("a frame side of 0, no table", 4, |h| {
         h.frame.height = 0;
         h.table.clear();
     }),
     ("presence 2 with sides of 0, no grids", 9, |h| {
-        h.table[..3].copy_from_slice(&[2, 0, 0]);
+        h.table[..TABLE_ENTRY].copy_from_slice(&[2, 0, 0]);
         h.grids.clear();
     }),
     ("presence 2, the other grid's side 1,025", 4, |h| {
-        h.table = vec![2, 1, 1, 1, 1_025, 2]
+        h.table = vec![2, 1, 1, 1, MAX_GRID_SIDE + 1, 2]
     }),
     ("presence 2, the other grid too narrow", 8, |h| {
         h.table = vec![2, 1, 1, 1, 1, 1]
     }),
     ("a grid too narrow", 8, narrow),
     ("a group past the frame, band height 0", 8, |h| {
-        h.frame.width = 1_024;
-        h.table.truncate(3);
-        h.grids.truncate(256);
+        h.frame.width = BLOCK * GROUP_DIM;
+        h.table.truncate(TABLE_ENTRY);
+        h.grids.truncate(2 * GROUP_DIM as usize);
         h.setup.band_height = 0;
     }),
     ("a flag of 2 for the result", 9, |h| {
@@ -124,19 +127,21 @@ const STARTS: &[Wrong<Handed, u32>] = &[
     }),
     ("a filter region at left 16,384, the widest frame", 8, |h| {
         moved(&mut h.setup, PAST_FRAMES - REGION.left);
-        h.frame.width = 16_384;
-        h.table = vec![0; 3 * 16];
+        h.frame.width = MAX_SIDE;
+        h.table = vec![0; TABLE_ENTRY * 16];
         h.grids.clear();
     }),
-    ("band height 16,385", 9, |h| h.setup.band_height = 16_385),
-    ("256 bands", 0, |h| rows(h, 256)),
-    ("257 bands", 9, |h| rows(h, 257)),
+    ("band height 16,385", 9, |h| {
+        h.setup.band_height = MAX_SIDE + 1
+    }),
+    ("256 bands", 0, |h| rows(h, MAX_BANDS as u32)),
+    ("257 bands", 9, |h| rows(h, MAX_BANDS as u32 + 1)),
     ("edge filter off, off blocks, a narrow grid", 0, |h| {
         edge_off(h);
         moved(&mut h.setup, -1_019);
         narrow(h);
     }),
-    ("edge filter off, sigmas lent", 7, |h| {
+    ("edge filter off, sigmas passed", 7, |h| {
         h.setup.settings.epf.iters = 0
     }),
     ("edge filter off, a short table", 7, |h| {
@@ -149,12 +154,12 @@ const STARTS: &[Wrong<Handed, u32>] = &[
     }),
     ("edge filter off, grid side 1,025", 4, |h| {
         edge_off(h);
-        h.table[4] = 1_025;
+        h.table[4] = MAX_GRID_SIDE + 1;
     }),
 ];
 
-/// The numbers that band 0, an advance and the result give.
-const RECORDS: &[Wrong<State, [u32; 3]>] = &[
+/// The numbers that band 0, an advance and the result answer.
+const RECORDS: &[Damage<State, [u32; 3]>] = &[
     ("nothing", [0, 11, 11], |_| {}),
     ("a short set, band height 0", [7, 9, 7], |t| {
         t.first.pop();
@@ -184,7 +189,9 @@ const RECORDS: &[Wrong<State, [u32; 3]>] = &[
     ("a Gabor flag of 2", [9, 9, 9], |t| {
         t.run.setup.settings.gabor.enabled = 2
     }),
-    ("the last flag", [9, 9, 9], |t| t.run.done[255] = 1),
+    ("the last flag", [9, 9, 9], |t| {
+        t.run.done[MAX_BANDS - 1] = 1
+    }),
     ("a pass past the last", [9, 9, 9], |t| t.run.pass = 5),
     ("finished", [10, 11, 0], |t| t.run.pass = 4),
     ("finished with a done band", [9, 9, 9], |t| {
@@ -197,10 +204,10 @@ const RECORDS: &[Wrong<State, [u32; 3]>] = &[
         t.first.pop();
     }),
     ("an image region too far, a short set", [7, 9, 7], |t| {
-        t.run.setup.image.left = 1_048_577;
+        t.run.setup.image.left = MAX_OFFSET + 1;
         t.first.pop();
     }),
-    // Start gives 8 for every frame; a record is not judged by it.
+    // Start answers 8 for every frame; a record has no frame, and is accepted.
     ("a filter region at left 16,384", [0, 11, 11], |t| {
         moved(&mut t.run.setup, PAST_FRAMES - REGION.left)
     }),
@@ -217,60 +224,58 @@ const RECORDS: &[Wrong<State, [u32; 3]>] = &[
         t.run.setup.settings.epf.iters = 0;
     }),
     ("a huge filter region, full planes", [9, 9, 9], |t| {
-        t.run.setup.filter.width = 16_384;
-        t.run.setup.filter.height = 16_384;
+        t.run.setup.filter.width = MAX_SIDE;
+        t.run.setup.filter.height = MAX_SIDE;
         t.run.setup.preserve_outside = 1;
     }),
     ("off blocks, a sigma too few", [7, 9, 9], |t| {
         off_blocks(&mut t.run.setup);
         t.sigmas.pop();
     }),
-    ("edge filter off, sigmas lent", [7, 11, 11], |t| {
+    ("edge filter off, sigmas passed", [7, 11, 11], |t| {
         t.run.setup.settings.epf.iters = 0
     }),
 ];
 
 pub fn compare(random: &mut Random, row: &mut Row, tally: &mut Tally) {
-    for (what, due, damage) in STARTS {
-        let mut handed = sound();
-        damage(&mut handed);
-        nans::in_handed(&mut handed, random);
-        calls::margin(&handed.setup, tally);
-        let (number, _) = calls::start(&mut handed, tally);
-        expect(what, number, *due, row);
+    for (what, expected, damage) in STARTS {
+        let mut input = valid();
+        damage(&mut input);
+        nans::in_input(&mut input, random);
+        calls::margin(&input.setup, tally);
+        let (number, _) = calls::start(&mut input, tally);
+        expect(what, number, *expected, row);
     }
-    let mut handed = sound();
-    let (_, run) = calls::start(&mut handed, tally);
-    for (what, dues, damage) in RECORDS {
-        let mut lent = State::new(run, &handed);
-        damage(&mut lent);
-        nans::in_state(&mut lent, random);
-        // The result's slice is as long as it should be, then one shorter.
+    let mut input = valid();
+    let (_, run) = calls::start(&mut input, tally);
+    for (what, expected, damage) in RECORDS {
+        let mut state = State::new(run, &input);
+        damage(&mut state);
+        nans::in_state(&mut state, random);
+        // The result's slice has the right length, then one sample less.
         let mut out = vec![0.0; SAMPLES];
         bits::sprinkle(&mut out, random);
-        let number = calls::result(&mut lent, &mut out, tally);
-        expect(what, number, dues[2], row);
+        let number = calls::result(&mut state, &mut out, tally);
+        expect(what, number, expected[2], row);
         out.pop();
-        let number = calls::result(&mut lent, &mut out, tally);
-        let s = lent.run.setup;
+        let number = calls::result(&mut state, &mut out, tally);
+        let s = state.run.setup;
         let known = s.preserve_outside == 1 || s.preserve_outside == 0 && s.filter.height > 0;
-        expect(what, number, if known { 7 } else { dues[2] }, row);
-        let number = calls::band(&mut lent.clone(), 0, tally);
-        expect(what, number, dues[0], row);
-        let number = calls::advance(&mut lent.run, tally);
-        expect(what, number, dues[1], row);
+        expect(what, number, if known { 7 } else { expected[2] }, row);
+        let number = calls::band(&mut state.clone(), 0, tally);
+        expect(what, number, expected[0], row);
+        let number = calls::advance(&mut state.run, tally);
+        expect(what, number, expected[1], row);
     }
 }
 
-/// A picture that start accepts: all passes, two bands of 8 rows.
-fn sound() -> Handed {
-    Handed {
+/// Inputs that start accepts: all passes, two bands of 8 rows.
+fn valid() -> Input {
+    Input {
         setup: Setup {
-            image: REGION,
-            filter: REGION,
-            preserve_outside: 0,
             settings: defaults(ALL),
             band_height: 8,
+            ..Setup::whole(REGION)
         },
         frame: oracle::Frame {
             width: 2_048,
@@ -279,8 +284,8 @@ fn sound() -> Handed {
             lf_level: 0,
             group_size_shift: 0,
         },
-        table: vec![1, 128, 2, 1, 1, 2],
-        grids: vec![1.0; 256 + 2],
+        table: vec![1, GROUP_DIM, 2, 1, 1, 2],
+        grids: vec![1.0; 2 * (GROUP_DIM as usize + 1)],
         first: vec![0.5; SAMPLES],
         second: vec![0.25; SAMPLES],
         sigmas: vec![0.0; BLOCKS],
@@ -296,26 +301,26 @@ fn off_blocks(setup: &mut Setup) {
     moved(setup, 1);
 }
 
-/// The first grid has one row of the two that are needed.
-fn narrow(h: &mut Handed) {
+/// The first grid has one row where two are needed.
+fn narrow(h: &mut Input) {
     h.table[2] = 1;
-    h.grids.truncate(128 + 2);
+    h.grids.truncate(GROUP_DIM as usize + 2);
 }
 
-fn edge_off(h: &mut Handed) {
+fn edge_off(h: &mut Input) {
     h.setup.settings.epf.iters = 0;
     h.sigmas.clear();
 }
 
-/// So many rows, each a band.
-fn rows(h: &mut Handed, rows: u32) {
+/// A picture of this many rows, one per band.
+fn rows(h: &mut Input, rows: u32) {
     h.setup.image.height = rows;
     h.setup.filter.height = rows;
     h.setup.band_height = 1;
-    let blocks = rows.div_ceil(8);
-    h.table = vec![1, 128, blocks, 1, 1, blocks];
-    h.grids.resize(129 * blocks as usize, 1.0);
-    let samples = 3 * 16 * rows as usize;
+    let blocks = rows.div_ceil(BLOCK);
+    h.table = vec![1, GROUP_DIM, blocks, 1, 1, blocks];
+    h.grids.resize(((GROUP_DIM + 1) * blocks) as usize, 1.0);
+    let samples = CHANNELS * 16 * rows as usize;
     h.first.resize(samples, 0.5);
     h.second.resize(samples, 0.25);
     h.sigmas.resize(2 * blocks as usize, 0.0);

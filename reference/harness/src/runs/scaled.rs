@@ -1,4 +1,4 @@
-//! Whole runs of pictures that are wholly subnormal or near overflow.
+//! Whole runs of pictures with all samples subnormal or near overflow.
 
 use super::{SMALL, calls::Tally, draw, whole};
 use crate::{
@@ -7,7 +7,7 @@ use crate::{
     scaled::ENDS,
 };
 
-/// Runs of each end, before `--scale`.
+/// Runs for each end of the range, before `--scale`.
 const RUNS: u64 = 2_000;
 
 pub fn compare(amount: Amount, random: &mut Random, report: &mut Report, tally: &mut Tally) {
@@ -15,13 +15,13 @@ pub fn compare(amount: Amount, random: &mut Random, report: &mut Report, tally: 
         let mut row = Row::new("whole runs", end.name());
         while row.draws(RUNS, amount) {
             let scale = end.draw(random);
-            let mut handed = draw::picture(SMALL, random);
-            handed.first = scale.samples(handed.first.len(), random);
+            let mut input = draw::picture(SMALL, random);
+            input.first = scale.samples(input.first.len(), random);
             if !random.once_in(3) {
-                let epf = &mut handed.setup.settings.epf;
+                let epf = &mut input.setup.settings.epf;
                 epf.channel_scale = scale.channel_scale(epf.channel_scale, random);
             }
-            whole(handed, random, &mut row, tally);
+            whole(input, random, &mut row, tally);
         }
         report.add(row);
     }

@@ -20,7 +20,7 @@ pub struct SigmaGrid {
     pub cells: Vec<f32>,
 }
 
-/// Where a filter works, and what it leaves: the whole image or the filter region's part of it.
+/// The regions of a filter, and its result: the whole image or the filter region alone.
 #[derive(Debug, Clone, Copy)]
 pub struct Place {
     pub image: Region,
@@ -35,9 +35,9 @@ pub fn gabor(place: Place, weights: Weights, planes: Planes) -> Planes {
     })
 }
 
-/// `apply_epf` on planes of the image region, with the group's grids in the frame's order, none
-/// where a grid is missing. The filter region must lie in the image region, its left and top be
-/// multiples of 8 that are not negative, and each block be in its group's grid.
+/// `apply_epf` on planes of the image region. `grids` has the groups' grids in the frame's order, `None`
+/// where a grid is missing. The filter region must lie in the image region, its left and top must be
+/// multiples of 8 and not negative, and each block must be in its group's grid.
 pub fn epf(
     place: Place,
     frame: Frame,
@@ -53,8 +53,8 @@ pub fn epf(
     })
 }
 
-/// `apply_gabor_like` and then `apply_epf` on one `FilterImage`, each where it has settings; one
-/// at least must have. The conditions of [`epf`] hold here too.
+/// `apply_gabor_like` and then `apply_epf` on one `FilterImage`, each if it has settings; at least one
+/// must have them. The conditions of [`epf`] apply here too.
 pub fn filters(
     place: Place,
     weights: Option<Weights>,
@@ -100,8 +100,8 @@ pub fn sigma_rows(
     })
 }
 
-/// `epf_row` for one step over planes of the filter region, with a sigma for each of its blocks.
-/// `width` is the region's, `top` its first row in the image.
+/// `epf_row` for one step over planes of the filter region, with one sigma per block. `width` is that of
+/// the region, `top` its first row in the image.
 pub fn epf_step(
     step: u32,
     settings: Edge,
@@ -138,7 +138,7 @@ fn group(grid: Option<SigmaGrid>) -> LfGroup<i32> {
     }
 }
 
-/// The planes handed to a filter and taken back, by the original's own exchange of channels.
+/// Passes the planes to a filter and takes them back, by the original's own exchange of channels.
 fn through(
     place: Place,
     planes: Planes,
@@ -153,7 +153,7 @@ fn through(
     let input = FilterImage::take_from(&mut image, place.filter, place.preserve_outside);
     filter(input)
         .and_then(|output| output.write_to(&mut image))
-        .expect("inline tasks and plain grids never fail");
+        .expect("inline tasks and plain grids do not fail");
     let mut planes = image.take_buffer().into_iter().map(|buffer| match buffer {
         ImageBuffer::F32(plane) => plane.into_cells(),
         _ => unreachable!("the filters leave f32 planes"),

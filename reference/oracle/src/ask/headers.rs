@@ -26,22 +26,22 @@ pub struct Edge {
     pub sigma_for_modular: f32,
 }
 
-/// A half from a bit place, with the next place; by the stand-in that the bundles use.
+/// A half from a bit position, and the next position; by the stand-in that the bundles use.
 pub fn read_half(bytes: &[u8], place: usize) -> Result<(f32, usize), Error> {
     let mut bits = Bitstream::new(bytes, place);
     let value = bits.read_f16_as_f32()?;
     Ok((value, bits.place()))
 }
 
-/// `Gabor::parse` from a bit place: the weights, none where the filter is off, and the next place.
+/// `Gabor::parse` from a bit position: the weights, `None` if the filter is off, and the next position.
 pub fn parse_gabor(bytes: &[u8], place: usize) -> Result<(Option<Weights>, usize), Error> {
     let mut bits = Bitstream::new(bytes, place);
     let gabor = Gabor::parse(&mut bits, ())?;
     Ok((weights(gabor), bits.place()))
 }
 
-/// `EdgePreservingFilter::parse` from a bit place: the settings, none where the filter is off,
-/// and the next place.
+/// `EdgePreservingFilter::parse` from a bit position: the settings, `None` if the filter is off, and the
+/// next position.
 pub fn parse_epf(
     bytes: &[u8],
     place: usize,

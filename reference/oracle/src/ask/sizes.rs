@@ -1,6 +1,6 @@
 use jxl_frame::FrameHeader;
 
-/// What a frame header says that its group sizes depend on.
+/// The frame header fields that group sizes depend on.
 #[derive(Debug, Clone, Copy, PartialEq, Eq)]
 pub struct Frame {
     pub width: u32,
@@ -10,7 +10,7 @@ pub struct Frame {
     pub group_size_shift: u32,
 }
 
-/// Sides in samples and LF groups of a frame.
+/// Width and height in samples, and LF groups of a frame.
 #[derive(Debug, Clone, Copy, PartialEq, Eq)]
 pub struct GroupSizes {
     pub sample_width: u32,
@@ -22,7 +22,7 @@ pub struct GroupSizes {
     pub num_groups: u32,
 }
 
-/// The frame as the original holds it.
+/// The frame as the original represents it.
 pub(super) fn header(frame: Frame) -> FrameHeader {
     let mut header = FrameHeader::default();
     header.width = frame.width;
@@ -33,8 +33,8 @@ pub(super) fn header(frame: Frame) -> FrameHeader {
     header
 }
 
-/// The sizes by the methods of `FrameHeader`. There is none for groups per column: it is the
-/// groups per row of the frame with its sides exchanged.
+/// The sizes by the methods of `FrameHeader`. There is none for groups per column: it is the number of
+/// groups per row of the frame with width and height exchanged.
 pub fn group_sizes(frame: Frame) -> GroupSizes {
     let upright = header(frame);
     let turned = header(Frame {
@@ -53,10 +53,10 @@ pub fn group_sizes(frame: Frame) -> GroupSizes {
     }
 }
 
-/// The group and inner cell of a block column or row.
+/// The group of a block column or row, and the block's index inside it.
 ///
-/// `apply_epf` splits a block inline. `group_idx_from_coord` does it with the same shift, and
-/// gives the group itself in a frame of one row that is wide enough; what is left is the cell.
+/// `apply_epf` computes this inline. `group_idx_from_coord` uses the same shift; in a frame of one row
+/// that is wide enough it answers the group itself, and the remainder is the index.
 pub fn split_block(block: u32, group_size_shift: u32) -> (u32, u32) {
     let row = header(Frame {
         width: u32::MAX,

@@ -8,9 +8,10 @@ use borrow.Author.Tests.{not-true, not-false}
 use denote.Ref.{now}
 use lib.ListN.{length}
 use Rattle.planes.specs.Band.{setFits}
-use Rattle.planes.specs.Room.{set-facts}
+use Rattle.planes.proofs.Room.{set-facts}
 use Rattle.epf_tiles.specs.Blocks.{blockColumns, blockRows}
-use Rattle.epf_tiles.specs.Region.{RegionFits, BlocksRoom, blocks-room, no-source, no-target, no-sigmas, no-step, no-top, no-order, no-rows, region-fits, region-done}
+use Rattle.epf_tiles.specs.Region.{RegionFits}
+use Rattle.epf_tiles.proofs.Region.{BlocksRoom, blocks-room, no-source, no-target, no-sigmas, no-step, no-top, no-order, no-rows, region-fits, region-done}
 use Rattle.epf_tiles.proofs.strips.filter_region.Statement.{statement}
 use Rattle.epf_tiles.proofs.strips.filter_region.Tie as tie
 

@@ -8,9 +8,10 @@ use lib.ListN.{length}
 use Rattle.planes.specs.Rect.{planesFill}
 use Rattle.frame.specs.Sizes.{blocksAlong}
 use Rattle.epf_rects.specs.declared.Rect.{Rect}
-use Rattle.epf_rects.specs.Rects.{RectFits, rect-long}
+use Rattle.epf_rects.specs.Rects.{RectFits}
+use Rattle.epf_rects.proofs.Rects.{rect-long}
 use Rattle.epf_tiles.specs.Tile.{sigmaFirst, TileFits, Scratch, stepOver}
-use Rattle.epf_tiles.specs.Region.{columns-none, tile-fits, tile-room, tile-sigmas, tile-beside}
+use Rattle.epf_tiles.proofs.Region.{columns-none, tile-fits, tile-room, tile-sigmas, tile-beside}
 use Rattle.epf_tiles.proofs.strips.strip.Statement.{statement}
 use Rattle.epf_tiles.proofs.strips.strip.Tie as tie
 

@@ -7,7 +7,8 @@ use denote.Ref.{now}
 use lib.ListN.{length}
 use Rattle.planes.specs.Rect.{planesFill}
 use Rattle.epf_tiles.specs.Tile.{Scratch, stepOver}
-use Rattle.epf_tiles.specs.Region.{StripFits, rows-start, strip-fits, strip-below, region-long}
+use Rattle.epf_tiles.specs.Region.{StripFits}
+use Rattle.epf_tiles.proofs.Region.{rows-start, strip-fits, strip-below, region-long}
 use Rattle.epf_tiles.proofs.strips.strips.Statement.{statement}
 use Rattle.epf_tiles.proofs.strips.strips.Tie as tie
 

@@ -8,7 +8,8 @@ use denote.Ref.{now}
 use lib.Ieee.{Float}
 use Rattle.frame.specs.Sizes.{blocksAlong}
 use Rattle.epf_slopes.specs.Slopes.{slopesOf, Sloped}
-use Rattle.epf_tiles.specs.Tile.{sigmaFirst, tile-sloped, inside-filtered}
+use Rattle.epf_tiles.specs.Tile.{sigmaFirst}
+use Rattle.epf_tiles.proofs.TileLaws.{tile-sloped, inside-filtered}
 use Rattle.epf_tiles.proofs.tile.filter.Statement.{statement}
 use Rattle.epf_tiles.proofs.tile.filter.Tie as tie
 

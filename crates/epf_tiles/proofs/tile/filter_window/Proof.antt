@@ -2,7 +2,7 @@
 use native.Mathlib.Omega.{arith}
 use borrow.Author.Needs.{needs}
 use denote.Ref.{now}
-use Rattle.epf_tiles.specs.Tile.{scratch-kept, computed}
+use Rattle.epf_tiles.proofs.TileLaws.{scratch-kept, computed}
 use Rattle.epf_tiles.proofs.tile.filter_window.Statement.{statement}
 use Rattle.epf_tiles.proofs.tile.filter_window.Tie as tie
 

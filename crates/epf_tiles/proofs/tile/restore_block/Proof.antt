@@ -3,8 +3,8 @@ use mathlib.Core.Path.{_∙_}
 use borrow.Author.Needs.{needs}
 use borrow.Author.Tests.{not-true, not-false}
 use denote.Ref.{now}
-use Rattle.epf_rects.specs.Rects.{rect-copied}
-use Rattle.epf_tiles.specs.Tile.{block-kept, block-copied}
+use Rattle.epf_rects.proofs.Rects.{rect-copied}
+use Rattle.epf_tiles.proofs.TileLaws.{block-kept, block-copied}
 use Rattle.epf_tiles.proofs.tile.restore_block.Statement.{statement}
 use Rattle.epf_tiles.proofs.tile.restore_block.Tie as tie
 

@@ -5,8 +5,8 @@ use native.Mathlib.Omega.{arith}
 use borrow.Author.Needs.{needs}
 use lib.IntN.{ℤ}
 use Rattle.mirror.specs.Mirror.{mirror}
-use Rattle.mirror.specs.Laws.{mirror-lt}
-use Rattle.planes.specs.Loop.{Written, written-none, written-more, written-all}
+use Rattle.mirror.proofs.Laws.{mirror-lt}
+use Rattle.planes.proofs.Loop.{Written, written-none, written-more, written-all}
 use Rattle.epf_window.specs.Window.{rowSample}
 use Rattle.epf_window.proofs.row.copy_mirrored.Statement.{statement}
 use Rattle.epf_window.proofs.row.copy_mirrored.Tie as tie

@@ -5,9 +5,10 @@ use native.Mathlib.Omega.{arith}
 use borrow.Author.Needs.{needs}
 use denote.Ref.{now}
 use lib.ListN.{length}
-use Rattle.planes.specs.Fill.{length-fill}
-use Rattle.planes.specs.Copy.{copied-run}
-use Rattle.epf_window.specs.Window.{rowSample, row-loaded}
+use Rattle.planes.proofs.Fill.{length-fill}
+use Rattle.planes.proofs.Copy.{copied-run}
+use Rattle.epf_window.specs.Window.{rowSample}
+use Rattle.epf_window.proofs.Window.{row-loaded}
 use Rattle.epf_window.proofs.row.copy_row.Statement.{statement}
 use Rattle.epf_window.proofs.row.copy_row.Tie as tie
 

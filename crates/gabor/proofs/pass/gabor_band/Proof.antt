@@ -3,8 +3,8 @@ use mathlib.Core.Path.{_∙_}
 use Prim.Native.Nat.{_-_}
 use native.Mathlib.Omega.{arith}
 use borrow.Author.Needs.{needs}
-use Rattle.planes.specs.Stored.{FilterRows, filter-rows}
-use Rattle.gabor.specs.Pass.{band-passed}
+use Rattle.planes.proofs.Stored.{FilterRows, filter-rows}
+use Rattle.gabor.proofs.PassLaws.{band-passed}
 use Rattle.gabor.proofs.pass.gabor_band.Statement.{statement}
 use Rattle.gabor.proofs.pass.gabor_band.Tie as tie
 

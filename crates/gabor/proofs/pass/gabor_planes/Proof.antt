@@ -4,9 +4,11 @@ use Prim.Native.Nat.{_+_, _-_, _≤_}
 use native.Mathlib.Omega.{arith}
 use borrow.Author.Needs.{needs}
 use lib.ListN.{length}
-use Rattle.planes.specs.Rect.{planesFill, planes-end}
-use Rattle.planes.specs.Room.{PlaneRoom, plane-room}
-use Rattle.gabor.specs.Pass.{passRows, plane-next, plane-region}
+use Rattle.planes.specs.Rect.{planesFill}
+use Rattle.planes.proofs.Rect.{planes-end}
+use Rattle.planes.proofs.Room.{PlaneRoom, plane-room}
+use Rattle.gabor.specs.Pass.{passRows}
+use Rattle.gabor.proofs.PassLaws.{plane-next, plane-region}
 use Rattle.gabor.proofs.pass.gabor_planes.Statement.{statement}
 use Rattle.gabor.proofs.pass.gabor_planes.Tie as tie
 

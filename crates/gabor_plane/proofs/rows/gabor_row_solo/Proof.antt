@@ -1,7 +1,7 @@
 -- `gabor_plane::rows::gabor_row_solo` meets its contract: a row of one column, or its two ends and the columns between. Assumes nothing.
 use native.Mathlib.Omega.{arith}
 use lib.ListN.{length-set}
-use Rattle.gabor_plane.specs.Rows.{solo-one, solo-more}
+use Rattle.gabor_plane.proofs.RowLaws.{solo-one, solo-more}
 use Rattle.gabor_plane.proofs.rows.gabor_row_solo.Statement.{statement}
 use Rattle.gabor_plane.proofs.rows.gabor_row_solo.Tie as tie
 

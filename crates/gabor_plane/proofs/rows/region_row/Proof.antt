@@ -5,8 +5,8 @@ use native.Mathlib.Omega.{arith}
 use denote.Ref.{now}
 use borrow.Author.Needs.{needs}
 use lib.ListN.{length}
-use Rattle.planes.specs.Fill.{fill-cong}
-use Rattle.gabor_plane.specs.Rows.{row-room, row-above, row-below, region-only, region-first, region-last, region-inner}
+use Rattle.planes.proofs.Fill.{fill-cong}
+use Rattle.gabor_plane.proofs.RowLaws.{row-room, row-above, row-below, region-only, region-first, region-last, region-inner}
 use Rattle.gabor_plane.proofs.rows.region_row.Statement.{statement}
 use Rattle.gabor_plane.proofs.rows.region_row.Tie as tie
 

@@ -1,6 +1,6 @@
 -- `Region::bottom` meets its contract. Assumes nothing.
 use borrow.Author.Needs.{needs}
-use Rattle.region.specs.Laws.{far-row}
+use Rattle.region.proofs.Laws.{far-row}
 use Rattle.region.proofs.Region.bottom.Statement.{statement}
 use Rattle.region.proofs.Region.bottom.Tie as tie
 

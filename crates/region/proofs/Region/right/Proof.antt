@@ -1,6 +1,6 @@
 -- `Region::right` meets its contract. Assumes nothing.
 use borrow.Author.Needs.{needs}
-use Rattle.region.specs.Laws.{far-column}
+use Rattle.region.proofs.Laws.{far-column}
 use Rattle.region.proofs.Region.right.Statement.{statement}
 use Rattle.region.proofs.Region.right.Tie as tie
 

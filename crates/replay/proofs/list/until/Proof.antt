@@ -1,5 +1,5 @@
 -- `until` meets its contract, by what `replay_text` says of an end. Assumes nothing.
-use Rattle.replay_text.specs.Words.{end-within}
+use Rattle.replay_text.proofs.Words.{end-within}
 use Rattle.replay.proofs.list.until.Statement.{statement}
 use Rattle.replay.proofs.list.until.Tie as tie
 

@@ -1,0 +1,166 @@
+-- The tests in turn, and what an accepted step leaves. Assumes nothing.
+use mathlib.Core.Path.{_≡_, refl, sym, _∙_}
+use mathlib.Core.Bool.{Bool, true, false, cond, _&&_, not, and-false}
+use mathlib.Core.List.{List}
+use Prim.Native.Nat.{ℕ, _+_, _-_, _*_, _<_, _≤_}
+use native.Mathlib.Nat.{mul-le-mul}
+use native.Mathlib.Omega.{arith}
+use borrow.Author.Tests.{leb-true, lt-ltb, le-ltb, ltb-false, eq-eqb, ne-eqb, eqb-true}
+use lib.Dec.{eqb, leb, ltb}
+use lib.ListN.{length}
+use lib.Ieee.{Float}
+use Rattle.refusals.specs.Numbers.{notOnBlocks, wrongLength, outOfRange}
+use Rattle.refusals.specs.Checks.{firstOf}
+use Rattle.refusals.specs.Flags.{flagFits, flagSet}
+use Rattle.region.specs.declared.Region.{Region}
+use Rattle.region.specs.Regions.{inside}
+use Rattle.region.specs.Measures.{pictured}
+use Rattle.region_placement.specs.Placed.{placedChecks}
+use Rattle.planes.specs.declared.Layout.{Layout}
+use Rattle.planes.specs.Picture.{Picture}
+use Rattle.planes.specs.Rect.{planesFill}
+use Rattle.planes.specs.Band.{passed, copiedOutside, filterRow, resultHeight, rowsFit}
+use Rattle.planes.specs.Fits.{LayoutFits, BandFits}
+use Rattle.planes.proofs.Stored.{passed-over, fits-copied, and-first, and-second}
+use Rattle.planes_layout.specs.declared.LayoutAnswer.{LayoutAnswer}
+use Rattle.planes_layout.specs.Outcome.{layoutOf, layoutOutcome, PassOutcome}
+use Rattle.planes_layout.proofs.Fits.{Accepted, layout-accepted, placed-or, then, answer-number, answer-layout, pass-refused, pass-done}
+use Rattle.epf_tiles.specs.Blocks.{blockColumns, blockRows}
+use Rattle.epf_tiles.proofs.Region.{BlocksRoom, blocks-room}
+use Rattle.epf.specs.declared.EpfStep.{EpfStep}
+use Rattle.region_placement.specs.Blocks.{ahead, onBlocks}
+use Rattle.epf.specs.Outcome.{epfOver, stepChecks, epfChecks, epfOutcome}
+
+-- ---- the tests of a placed filter region
+
+module _ (n : ℕ) (l : Layout) (filter : Region) (full step from to sigmas src dst : ℕ) where
+  abbrev size : ℕ
+  size = n * l .image .height * l .image .width
+
+  abbrev Number : ℕ → Type 0
+  Number k = k ≡ firstOf (stepChecks n l filter full step from to sigmas src dst)
+
+  pub off-blocks : onBlocks filter ≡ false → Number notOnBlocks
+  unfolding stepChecks
+  off-blocks e = rw e
+
+  module _ (a : onBlocks filter ≡ true) where
+    pub no-source : (src ≡ size → ⊥) → Number wrongLength
+    unfolding stepChecks
+    no-source h = rw (a, ne-eqb src size h)
+
+    pub no-target : (dst ≡ size → ⊥) → Number wrongLength
+    unfolding stepChecks
+    no-target h = simp (a, ne-eqb dst size h, and-false)
+
+    pub no-sigmas : (sigmas ≡ blockRows l * blockColumns l → ⊥) → Number wrongLength
+    unfolding stepChecks
+    no-sigmas h = simp (a, ne-eqb sigmas (blockRows l * blockColumns l) h, and-false)
+
+    module _ (s : src ≡ size) (t : dst ≡ size) (u : sigmas ≡ blockRows l * blockColumns l) where
+      pub no-step : 2 < step → Number outOfRange
+      unfolding stepChecks
+      no-step h = rw (a, eq-eqb src size s, eq-eqb dst size t, eq-eqb sigmas (blockRows l * blockColumns l) u, lt-ltb 2 step h)
+
+      module _ (h : step ≤ 2) where
+        pub no-flag : flagFits full ≡ false → Number outOfRange
+        unfolding stepChecks
+        no-flag f = rw (a, eq-eqb src size s, eq-eqb dst size t, eq-eqb sigmas (blockRows l * blockColumns l) u, le-ltb 2 step h, f)
+
+        module _ (f : flagFits full ≡ true) where
+          pub no-rows : rowsFit l from to ≡ false → Number outOfRange
+          unfolding stepChecks
+          no-rows r = rw (a, eq-eqb src size s, eq-eqb dst size t, eq-eqb sigmas (blockRows l * blockColumns l) u, le-ltb 2 step h, f, r)
+
+          pub all-held : rowsFit l from to ≡ true → Number 0
+          unfolding stepChecks
+          all-held r = rw (a, eq-eqb src size s, eq-eqb dst size t, eq-eqb sigmas (blockRows l * blockColumns l) u, le-ltb 2 step h, f, r)
+
+-- what the number 0 says
+zero-is : (a b c d f : Bool) → cond (true && not a) notOnBlocks (cond (true && not b) wrongLength (cond (true && c) outOfRange (cond (true && not f) outOfRange (cond (f && not d) outOfRange 0)))) ≡ 0
+    → (a ≡ true) × (b ≡ true) × (c ≡ false) × (d ≡ true)
+zero-is true true false true true e = (refl, refl, refl, refl)
+zero-is true true false false true e = absurd (omega arith)
+zero-is true true false d false e = absurd (omega arith)
+zero-is true true true d f e = absurd (omega arith)
+zero-is true false c d f e = absurd (omega arith)
+zero-is false b c d f e = absurd (omega arith)
+
+pub record StepFits (n : ℕ) (l : Layout) (step from to sigmas src dst : ℕ) : Type 0 where
+  pub source : src ≡ n * l .image .height * l .image .width
+  pub target : dst ≡ n * l .image .height * l .image .width
+  pub blocks : sigmas ≡ blockRows l * blockColumns l
+  pub low : step ≤ 2
+  pub order : from ≤ to
+  pub rows : to ≤ resultHeight l
+
+pub step-fits : (n : ℕ) (l : Layout) (filter : Region) (full step from to sigmas src dst : ℕ) → firstOf (stepChecks n l filter full step from to sigmas src dst) ≡ 0 → StepFits n l step from to sigmas src dst
+unfolding stepChecks
+step-fits n l filter full step from to sigmas src dst e =
+    let size = n * l .image .height * l .image .width in
+    let p = eqb src size in
+    let q = eqb dst size in
+    let r = eqb sigmas (blockRows l * blockColumns l) in
+    let z = zero-is (onBlocks filter) (p && (q && r)) (ltb 2 step) (rowsFit l from to) (flagFits full) e in
+    let qr = and-second p (q && r) (z .1) in
+    record {
+      source = eqb-true _ _ (and-first p (q && r) (z .1));
+      target = eqb-true _ _ (and-first q r qr);
+      blocks = eqb-true _ _ (and-second q r qr);
+      low = ltb-false _ _ (z .2);
+      order = leb-true _ _ (and-first (leb from to) (leb to (resultHeight l)) (z .3));
+      rows = leb-true _ _ (and-second (leb from to) (leb to (resultHeight l)) (z .3));
+    }
+
+pub band-fits : (n : ℕ) (l : Layout) (step from to sigmas : ℕ) (src dst : List Float) → n ≤ 3 → LayoutFits l → StepFits n l step from to sigmas (length src) (length dst) → BandFits l n from to src dst
+band-fits n l step from to sigmas src dst few f s = record { layout = f; planes = few; source = s .source; target = s .target; order = s .order; rows = s .rows }
+
+-- numbers of the machine
+pub record SizeRoom (l : Layout) : Type 0 where
+  pub lines : 3 * l .image .height ≤ 49152
+  pub samples : 3 * l .image .height * l .image .width ≤ 805306368
+  pub blocks : BlocksRoom l
+
+pub size-room : (l : Layout) → LayoutFits l → SizeRoom l
+size-room l f =
+    let a : 3 * l .image .height ≤ 49152 = omega (arith, f .high) in
+    record { lines = a; samples = mul-le-mul a (f .wide); blocks = blocks-room l f }
+
+-- ---- a band: copied outside the filter region, then filtered inside it
+pub band-passed : (l : Layout) (n from to f t : ℕ) (p : Picture) (src dst a b : List Float) → BandFits l n from to src dst
+    → a ≡ copiedOutside l n from to src dst → f ≡ filterRow l from → t ≡ filterRow l to
+    → b ≡ planesFill (l .image .width) (l .image .height) (l .left) (l .width) (l .top + f) (t - f) (λ c x i. p c x (f + i)) a n
+    → b ≡ passed n l from to p src dst
+band-passed l n from to f t p src dst a b fits e u v h = passed-over l n from to src dst fits p b (h ∙ rw (e, fits-copied l n from to src dst fits, u, v))
+
+-- ---- the whole table; a is the answer of `layout_of`
+module _ (image filter : Region) (full : ℕ) (s : EpfStep) (sigmas : List Float) (from to : ℕ) (src dst : List Float) (a : LayoutAnswer) (e : a ≡ layoutOutcome image filter (flagSet full)) where
+  abbrev Outcome : ℕ → List Float → Type 0
+  Outcome k d = _≡_ {A = PassOutcome} (record { number = k; target = d }) (epfOutcome image filter full s sigmas from to src dst)
+
+  pub not-placed : (a .number ≡ 0 → ⊥) → Outcome (a .number) dst
+  unfolding epfOutcome epfChecks
+  not-placed h = pass-refused (a .number) _ _ dst (placed-or (pictured image) (pictured filter) (inside image filter) (a .number) _ (answer-number image filter (flagSet full) a e) h) h
+
+  module _ (z : a .number ≡ 0) where
+    ok : firstOf (placedChecks image filter) ≡ 0
+    ok = sym (answer-number image filter (flagSet full) a e) ∙ z
+
+    l-is : a .layout ≡ layoutOf image filter (flagSet full)
+    l-is = answer-layout image filter (flagSet full) a e z
+
+    pub layout-held : Accepted (a .layout)
+    layout-held = rw l-is (layout-accepted image filter (flagSet full) ok)
+
+    module _ (k : ℕ) (p : k ≡ firstOf (stepChecks 3 (a .layout) filter full (s .step) from to (length sigmas) (length src) (length dst))) where
+      number-is : k ≡ firstOf (epfChecks image filter full s sigmas from to src dst)
+      unfolding epfChecks
+      number-is = rw l-is at p ∙ then (pictured image) (pictured filter) (inside image filter) _ ok
+
+      pub refused : (k ≡ 0 → ⊥) → Outcome k dst
+      unfolding epfOutcome
+      refused h = pass-refused k _ _ dst number-is h
+
+      pub done : k ≡ 0 → (b : List Float) → b ≡ passed 3 (a .layout) from to (epfOver 3 (a .layout) s (ahead (filter .top)) sigmas src) src dst → Outcome 0 b
+      unfolding epfOutcome
+      done h b q = pass-done _ _ dst b (sym h ∙ number-is) (rw l-is at q)

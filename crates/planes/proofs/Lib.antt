@@ -1,0 +1,9 @@
+pub mod Copy
+pub mod Fill
+pub mod Join
+pub mod Loop
+pub mod Outside
+pub mod Rect
+pub mod Room
+pub mod SetLaws
+pub mod Stored

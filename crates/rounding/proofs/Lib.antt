@@ -1,0 +1,3 @@
+pub mod MagnitudeLaws
+pub mod Rounded
+pub mod Side

@@ -1,0 +1,3 @@
+pub mod Done
+pub mod Laws
+pub mod Tests

@@ -1,0 +1,3 @@
+pub mod LowestLaws
+pub mod Number
+pub mod Tests

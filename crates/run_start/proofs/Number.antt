@@ -1,0 +1,225 @@
+-- Start's number is the lowest of its pieces', and so what the pieces answer is start's outcome. Assumes nothing.
+use mathlib.Core.Path.{_≡_, refl, sym, ap, subst, _∙_}
+use mathlib.Core.Bool.{Bool, true, false, cond, not, _&&_}
+use mathlib.Core.List.{List, [], _∷_}
+use Prim.Native.Nat.{ℕ, _*_, _/_, _≤_}
+use native.Mathlib.Omega.{arith}
+use borrow.Author.Tests.{le-leb, le-ltb, ne-eqb}
+use lib.Dec.{T, eqb}
+use lib.ListN.{length}
+use lib.Ieee.{Float}
+use Rattle.refusals.specs.Numbers.{outOfMeasure, notInside, notOnBlocks, wrongLength, blockNotHeld, outOfRange}
+use Rattle.refusals.specs.Checks.{Check, always, given, applies, firstOf}
+use Rattle.refusals.specs.Flags.{flagFits, flagSet}
+use Rattle.region_axis.proofs.Laws.{place-size}
+use Rattle.region.specs.declared.Region.{Region}
+use Rattle.region.specs.Regions.{inside}
+use Rattle.region.specs.Measures.{pictured}
+use Rattle.region.proofs.Laws.{pictured-measured, pictured-width, pictured-height, pictured-area, measured-left, measured-top, measured-width, measured-height}
+use Rattle.region_placement.specs.Placed.{placedChecks}
+use Rattle.planes.proofs.Stored.{and-first, and-second}
+use Rattle.planes_layout.specs.Outcome.{layoutOf}
+use Rattle.epf_tiles.specs.Blocks.{blockColumns, blockRows}
+use Rattle.frame.specs.declared.Frame.{Frame}
+use Rattle.sigma_grids.specs.Table.{badPresence, badGrid}
+use Rattle.sigma_blocks.specs.Measures.{blocksAcross, blocksDown, badBlocks}
+use Rattle.sigma_groups.specs.Held.{someNotHeld}
+use Rattle.frame.specs.Outcome.{badSides, badSettings}
+use Rattle.sigma_groups.specs.Outcome.{frameFits, tableFits, tableRead, someGroup, gridsFit, frameSides, gridSides, tableLength, gridsLength, frameSettings, presences, sigmaChecks, sigmaNumber}
+use Rattle.sigma.specs.Outcome.{SigmasOutcome, leftIn, sigmasOutcome}
+use Rattle.region_placement.specs.Blocks.{ahead, onBlocks}
+use Rattle.region_placement.proofs.BlockLaws.{ahead-small}
+use Rattle.run_setup.specs.declared.Setup.{Setup}
+use Rattle.run_record.specs.declared.Run.{Run}
+use Rattle.run_setup.specs.Setup.{layout, epfOn, itersFit, sized, setLength, sigmaLength}
+use Rattle.run_record.specs.Record.{started}
+use Rattle.run_setup.proofs.Tests.{sized-by-area}
+use Rattle.run_outcomes.proofs.Tests.{blocks-same}
+use Rattle.run_outcomes.specs.Band.{setCheck}
+use Rattle.run_outcomes.specs.Start.{Handed, StartOutcome, blocksOf, pictureChecks, startChecks, startNumber, startLeaves, sigmasFilled, noRun, startOutcome}
+use Rattle.run_start.specs.Lowest.{lowest}
+use Rattle.run_start.proofs.LowestLaws.{Parted, none, left, right, first-lowest, lowest-left, lowest-none, ascending-from}
+use Rattle.run_start.specs.Pieces.{runsEpf, epfFlag, sigmasAsked, ownChecks, numberOf, toldChecks}
+
+-- ---- a region of a picture, as the pieces judge it
+
+module _ (r : Region) (e : pictured r ≡ true) where
+  fits : T (pictured r)
+  fits = subst T (sym e) tt
+
+  is-sized : sized r ≡ true
+  is-sized =
+      let m = pictured-measured r fits in
+      sym (sized-by-area r (measured-width r m) (measured-height r m) (pictured-width r fits) (pictured-height r fits)) ∙ le-leb _ 16777216 (pictured-area r fits)
+
+blocks-good : (s : Setup) → pictured (s .filter) ≡ true → badBlocks (blocksOf s) ≡ false
+unfolding badBlocks
+blocks-good s e =
+    let r = s .filter in
+    let t = fits r e in
+    let m = pictured-measured r t in
+    let l : ahead (r .left) / 8 ≤ 131072 = omega (arith, ahead-small (r .left), place-size (r .left) (measured-left r m)) in
+    let u : ahead (r .top) / 8 ≤ 131072 = omega (arith, ahead-small (r .top), place-size (r .top) (measured-top r m)) in
+    rw (
+      le-ltb (r .width) 1 (pictured-width r t),
+      le-ltb 16384 (r .width) (measured-width r m),
+      le-ltb (r .height) 1 (pictured-height r t),
+      le-ltb 16384 (r .height) (measured-height r m),
+      le-ltb 16777216 (r .width * r .height) (pictured-area r t),
+      le-ltb 131072 (ahead (r .left) / 8) l,
+      le-ltb 131072 (ahead (r .top) / 8) u,
+    )
+
+-- ---- rows, by their tests
+
+count-same : (s : Setup) → blocksDown (blocksOf s) * blocksAcross (blocksOf s) ≡ blockRows (layout s) * blockColumns (layout s)
+unfolding layoutOf
+count-same s = rw (blocks-same (s .filter .height), blocks-same (s .filter .width))
+
+-- whether the edge filter runs, as a flag
+flag-fits : (b : Bool) → flagFits (cond b 1 0) ≡ true
+flag-fits true = refl
+flag-fits false = refl
+
+flag-set : (b : Bool) → flagSet (cond b 1 0) ≡ b
+flag-set true = refl
+flag-set false = refl
+
+-- the row of the block sigmas' length, and that of 8
+sigmas-row : (iters on : Bool) (k c d : ℕ) → c ≡ d → not (eqb (cond iters k 0) (cond (iters && on) c 0)) ≡ (iters && not (eqb k (cond on d 0)))
+sigmas-row true on k c d e = rw e
+sigmas-row false on k c d e = refl
+
+held-row : (read on some : Bool) → (read && true && on && some) ≡ (on && read && some)
+held-row true true some = refl
+held-row true false some = refl
+held-row false true some = refl
+held-row false false some = refl
+
+-- a third row that does not apply
+third-row : (a b c : Bool) (rest : ℕ) → cond a notOnBlocks (cond b wrongLength (cond (not c) outOfRange rest)) ≡ 0 → c ≡ true
+third-row true b c rest e = absurd (omega arith)
+third-row false true c rest e = absurd (omega arith)
+third-row false false true rest e = refl
+third-row false false false rest e = absurd (omega arith)
+
+-- what accepted block sigmas are, iterations being in range
+left-is : (number : ℕ) (set iters on : Bool) (defined lent : List Float) → number ≡ 0 → set ≡ (iters && on) → iters ≡ true → leftIn number set defined lent ≡ cond on defined lent
+left-is number set iters on defined lent p y q = rw (p, y, q)
+
+-- ---- the rows of start's table that each piece judges
+
+module _ (n : ℕ) (h : Handed) where
+  abbrev s : Setup
+  s = h .setup
+
+  abbrev f : Frame
+  f = h .frame
+
+  abbrev t : List ℕ
+  t = h .table
+
+  abbrev ownRows : List Check
+  ownRows =
+      given (runsEpf s) notOnBlocks (not (onBlocks (s .filter)))
+      ∷ always wrongLength (not (eqb (length (h .first)) (setLength n s) && eqb (length (h .second)) (setLength n s)))
+      ∷ toldChecks s
+
+  abbrev groupRows : List Check
+  groupRows =
+      frameSides f
+      ∷ gridSides f t
+      ∷ tableLength f t
+      ∷ gridsLength f t (h .grids)
+      ∷ given (itersFit s) wrongLength (not (eqb (length (h .sigmas)) (sigmaLength s)))
+      ∷ given (runsEpf s && tableRead f t) blockNotHeld (someNotHeld f (blocksOf s) t)
+      ∷ frameSettings f
+      ∷ presences f t
+      ∷ []
+
+  -- all but these: where the regions lie, then `ownRows`
+  abbrev placedRows : List Check
+  placedRows =
+      always outOfMeasure (not (pictured (s .image) && pictured (s .filter)))
+      ∷ always notInside (not (inside (s .image) (s .filter)))
+      ∷ ownRows
+
+  whole : Parted (pictureChecks n h) placedRows groupRows
+  unfolding pictureChecks
+  whole = left (right (right (left (left (left (right (right (right (right (left (right (right (left (left (left (left none))))))))))))))))
+
+  placed-own : Parted placedRows (placedChecks (s .image) (s .filter)) ownRows
+  placed-own = left (left (right (right (right (right (right (right (right none))))))))
+
+  rows-lowest : firstOf (pictureChecks n h) ≡ lowest (lowest (firstOf (placedChecks (s .image) (s .filter))) (firstOf ownRows)) (firstOf groupRows)
+  unfolding pictureChecks
+  rows-lowest = first-lowest whole refl ∙ ap (λ (k : ℕ). lowest k (firstOf groupRows)) (first-lowest placed-own refl)
+
+  -- with regions of pictures the pieces judge these rows
+  own-number : pictured (s .image) ≡ true → firstOf ownRows ≡ firstOf (ownChecks n s (length (h .first)) (length (h .second)))
+  own-number e = rw (is-sized (s .image) e)
+
+  abbrev groupsNumber : ℕ → ℕ
+  groupsNumber = sigmaNumber (epfFlag s) f (blocksOf s) t (h .grids)
+
+  groups-number : pictured (s .filter) ≡ true → firstOf groupRows ≡ groupsNumber (sigmasAsked s (length (h .sigmas)))
+  groups-number e =
+      rw (blocks-good s e, flag-fits (runsEpf s), flag-set (runsEpf s), sigmas-row (itersFit s) (epfOn s) (length (h .sigmas)) _ _ (count-same s), held-row (tableRead f t) (runsEpf s) (someNotHeld f (blocksOf s) t))
+
+  -- ---- start's number is the lowest of the pieces'
+
+  abbrev number : ℕ
+  number = numberOf n s f t (h .grids) (length (h .first)) (length (h .second)) (length (h .sigmas))
+
+  -- start has no other rows than the picture's
+  start-rows : startNumber n h ≡ firstOf (pictureChecks n h)
+  unfolding startChecks
+  start-rows = refl
+
+  number-same : startNumber n h ≡ number
+  unfolding numberOf pictureChecks
+  number-same = start-rows ∙ go (pictured (s .image) && pictured (s .filter)) refl
+    where
+      go : (p : Bool) → (pictured (s .image) && pictured (s .filter)) ≡ p → firstOf (pictureChecks n h) ≡ number
+      go true e = rows-lowest ∙ rw (own-number (and-first (pictured (s .image)) (pictured (s .filter)) e), groups-number (and-second (pictured (s .image)) (pictured (s .filter)) e))
+      go false e =
+          let own = ownChecks n s (length (h .first)) (length (h .second)) in
+          let groups = sigmaChecks (epfFlag s) f (blocksOf s) t (h .grids) (sigmasAsked s (length (h .sigmas))) in
+          rw (
+            e,
+            lowest-left outOfMeasure (firstOf own) (omega arith) (ascending-from outOfMeasure own refl),
+            lowest-left outOfMeasure (firstOf groups) (omega arith) (ascending-from outOfMeasure groups refl),
+          )
+
+  -- ---- start's outcome
+
+  module _ (k : ℕ) (e : k ≡ number) where
+    number-is : startNumber n h ≡ k
+    number-is = number-same ∙ sym e
+
+    pub refused : (k ≡ 0 → ⊥) → (r : Run) → r ≡ noRun
+        → _≡_ {A = StartOutcome} (record { answer = record { number = k; run = r }; first = h .first; sigmas = h .sigmas }) (startOutcome n h)
+    unfolding startOutcome
+    refused z r q = rw (number-is, ne-eqb k 0 z, q)
+
+    module _ (z : k ≡ 0) where
+      -- no piece gives a number
+      pieces : (firstOf (ownChecks n s (length (h .first)) (length (h .second))) ≡ 0) × (groupsNumber (sigmasAsked s (length (h .sigmas))) ≡ 0)
+      unfolding numberOf
+      pieces = let b = lowest-none _ _ (sym e ∙ z) in (lowest-none _ _ (b .0) .1, b .1)
+
+      iters : itersFit s ≡ true
+      iters = third-row (runsEpf s && not (onBlocks (s .filter))) (applies (setCheck n s (length (h .first)) (length (h .second)))) (itersFit s) _ (pieces .0)
+
+      sigmas-fit : groupsNumber (length (h .sigmas)) ≡ 0
+      sigmas-fit = let a : length (h .sigmas) ≡ sigmasAsked s (length (h .sigmas)) = rw iters in ap groupsNumber a ∙ pieces .1
+
+      pub accepted : (m : ℕ) (filled : List Float)
+          → _≡_ {A = SigmasOutcome} (record { number = m; sigmas = filled }) (sigmasOutcome (epfFlag s) f (blocksOf s) t (h .grids) (s .settings .epf .«sigma_for_modular») (h .sigmas))
+          → (r : Run) → r ≡ started s
+          → _≡_ {A = StartOutcome} (record { answer = record { number = m; run = r }; first = h .first; sigmas = filled }) (startOutcome n h)
+      unfolding startOutcome startLeaves sigmasFilled
+      accepted m filled o r q =
+          let a : m ≡ 0 = ap (λ (o : SigmasOutcome). o .number) o ∙ sigmas-fit in
+          let l = ap (λ (o : SigmasOutcome). o .sigmas) o ∙ left-is _ (flagSet (epfFlag s)) (itersFit s) (epfOn s) _ _ sigmas-fit (flag-set (runsEpf s)) iters in
+          rw (number-is, z, a, l, q)

@@ -1,0 +1,147 @@
+-- Laws of blocks in groups, and of what is accepted. Assumes nothing.
+use mathlib.Core.Path.{_≡_, refl, sym, ap, _∙_}
+use mathlib.Core.Bool.{Bool, true, false, cond, not, _&&_}
+use mathlib.Core.List.{List}
+use Prim.Native.Nat.{ℕ, _+_, _*_, _<_, _≤_}
+use native.Mathlib.Nat.{mul-comm}
+use native.Mathlib.Omega.{arith}
+use borrow.Author.Tests.{leb-false, eqb-true, not-false}
+use lib.Dec.{leb, eqb}
+use lib.Arith.{digits-lt}
+use lib.ListN.{length}
+use lib.Ieee.{Float}
+use Rattle.frame.specs.declared.Frame.{Frame}
+use Rattle.frame.specs.declared.GroupSizes.{GroupSizes}
+use Rattle.frame.specs.declared.SplitAnswer.{SplitAnswer}
+use Rattle.frame.specs.Sizes.{groupOf, innerOf, sizesOf}
+use Rattle.frame.proofs.Laws.{Bounded, sizes-bounded, split-accepted}
+use Rattle.frame.specs.Outcome.{badSides, badSettings, frameChecks, splitOutcome}
+use Rattle.refusals.specs.Numbers.{accepted, outOfMeasure, wrongLength, blockNotHeld, outOfRange}
+use Rattle.refusals.specs.Checks.{firstOf}
+use Rattle.refusals.specs.Flags.{flagFits, flagSet}
+use Rattle.sigma_blocks.specs.declared.Blocks.{Blocks}
+use Rattle.sigma_blocks.specs.Measures.{badBlocks}
+use Rattle.sigma_blocks.specs.Measured.{Measured}
+use Rattle.sigma_blocks.proofs.Laws.{measured}
+use Rattle.sigma_grids.specs.Table.{badPresence, badGrid, lacks, gridStart}
+use Rattle.sigma_grids.proofs.Laws.{neither}
+use Rattle.sigma_groups.specs.Held.{groupAt, notHeld, someNotHeld}
+use Rattle.sigma_groups.specs.Outcome.{frameFits, tableFits, tableRead, someGroup, gridsFit, sigmaCount, sigmaNumber}
+use Rattle.sigma_groups.specs.Fitting.{TableOf}
+
+-- what `split_block` answers
+pub split-group : (b s : ℕ) (a : SplitAnswer) → s ≤ 3 → a ≡ splitOutcome b s → a .group ≡ groupOf b s
+split-group b s a l e = ap (λ (r : SplitAnswer). r .group) (e ∙ split-accepted b s l)
+
+pub split-inner : (b s : ℕ) (a : SplitAnswer) → s ≤ 3 → a ≡ splitOutcome b s → a .inner ≡ innerOf b s
+split-inner b s a l e = ap (λ (r : SplitAnswer). r .inner) (e ∙ split-accepted b s l)
+
+module _ (f : Frame) (sizes : GroupSizes) (t : List ℕ) (h : TableOf f sizes t) where
+  pub sizes-fit : Bounded sizes
+  sizes-fit = rw (h .sizes-are) (sizes-bounded f (h .sound))
+
+  -- a group within the groups per row and column has an entry
+  pub entry-lt : (column row : ℕ) → column < sizes .«groups_per_row» → row < sizes .«groups_per_column» → 3 * (row * sizes .«groups_per_row» + column) + 3 ≤ length t
+  entry-lt column row c r =
+      let n : sizes .«num_groups» ≡ sizes .«groups_per_column» * sizes .«groups_per_row» = sizes-fit .groups ∙ mul-comm _ _ in
+      let e : sizesOf f .«num_groups» ≡ sizes .«num_groups» = ap (λ (g : GroupSizes). g .«num_groups») (sym (h .sizes-are)) in
+      let l : row * sizes .«groups_per_row» + column < sizes .«groups_per_column» * sizes .«groups_per_row» = digits-lt r c in
+      omega (arith, h .entries)
+
+  -- there are at most 256 groups
+  pub entries-le : length t ≤ 768
+  entries-le = omega (arith, h .entries, sizes-bounded f (h .sound) .groups-le)
+
+-- a block that is held has its group in the frame and its cell in the group's grid, if that is present
+pub record Held (f : Frame) (t : List ℕ) (bx by : ℕ) : Type 0 where
+  pub in-row : groupOf bx (f .«group_size_shift») < sizesOf f .«groups_per_row»
+  pub in-column : groupOf by (f .«group_size_shift») < sizesOf f .«groups_per_column»
+  pub in-grid : lacks t (groupAt f bx by) (innerOf bx (f .«group_size_shift»)) (innerOf by (f .«group_size_shift»)) ≡ false
+
+pub held : (f : Frame) (t : List ℕ) (bx by : ℕ) → notHeld f t bx by ≡ false → Held f t bx by
+unfolding notHeld
+held f t bx by h =
+    let s = f .«group_size_shift» in
+    let g = neither _ (lacks t (groupAt f bx by) (innerOf bx s) (innerOf by s)) h in
+    let n = neither (leb (sizesOf f .«groups_per_row») (groupOf bx s)) (leb (sizesOf f .«groups_per_column») (groupOf by s)) (g .0) in
+    record {
+      in-row = leb-false (sizesOf f .«groups_per_row») (groupOf bx s) (n .0);
+      in-column = leb-false (sizesOf f .«groups_per_column») (groupOf by s) (n .1);
+      in-grid = g .1;
+    }
+
+-- ---- what is refused and what is accepted
+
+-- which of the frame's numbers are out of range, by that number
+pub sides-bad : (a b : Bool) → cond a outOfMeasure (cond b outOfRange accepted) ≡ 4 → a ≡ true
+sides-bad true b e = refl
+sides-bad false true e = absurd (omega arith)
+sides-bad false false e = absurd (omega arith)
+
+pub sides-fit : (a b : Bool) → (cond a outOfMeasure (cond b outOfRange accepted) ≡ 4 → ⊥) → a ≡ false
+sides-fit true b e = absurd (e refl)
+sides-fit false b e = refl
+
+pub settings-bad : (a b : Bool) → (cond a outOfMeasure (cond b outOfRange accepted) ≡ 4 → ⊥) → (cond a outOfMeasure (cond b outOfRange accepted) ≡ 0 → ⊥) → b ≡ true
+settings-bad true b e n = absurd (e refl)
+settings-bad false true e n = refl
+settings-bad false false e n = absurd (n refl)
+
+pub settings-fit : (a b : Bool) → cond a outOfMeasure (cond b outOfRange accepted) ≡ 0 → (a ≡ false) × (b ≡ false)
+settings-fit true b e = absurd (omega arith)
+settings-fit false true e = absurd (omega arith)
+settings-fit false false e = (refl, refl)
+
+-- a check that does not apply
+passed : (b : Bool) (k rest : ℕ) → 0 < k → cond b k rest ≡ 0 → (b ≡ false) × (rest ≡ 0)
+passed true k rest p e = absurd (omega arith)
+passed false k rest p e = (refl, e)
+
+-- What an acceptance says: the frame's and the filter region's numbers are in range, and lengths, grids and blocks fit.
+pub record Accepted (on : ℕ) (f : Frame) (b : Blocks) (t : List ℕ) (grids : List Float) (n : ℕ) : Type 0 where
+  pub frame-fits : firstOf (frameChecks f) ≡ accepted
+  pub blocks : Measured b
+  pub entries : length t ≡ 3 * sizesOf f .«num_groups»
+  pub sides : someGroup f (badGrid t) ≡ false
+  pub presences : someGroup f (badPresence t) ≡ false
+  pub cells-are : length grids ≡ gridStart t (sizesOf f .«num_groups»)
+  pub flag : flagFits on ≡ true
+  pub count : n ≡ sigmaCount (flagSet on) b
+  pub held-all : flagSet on ≡ true → someNotHeld f b t ≡ false
+
+module _ (on : ℕ) (f : Frame) (b : Blocks) (t : List ℕ) (grids : List Float) (n : ℕ) where
+  -- from the tests, once table and settings are known to be read
+  accepted-tests : badSides f ≡ false → badBlocks b ≡ false → badSettings f ≡ false → (tableRead f t && someGroup f (badGrid t)) ≡ false
+      → (frameFits f && not (tableFits f t)) ≡ false → (tableRead f t && not (someGroup f (badPresence t)) && not (gridsFit f t grids)) ≡ false
+      → (not (badBlocks b) && flagFits on && not (eqb n (sigmaCount (flagSet on) b))) ≡ false → (tableRead f t && not (badBlocks b) && flagSet on && someNotHeld f b t) ≡ false
+      → (tableRead f t && someGroup f (badPresence t)) ≡ false → not (flagFits on) ≡ false → Accepted on f b t grids n
+  unfolding tableFits gridsFit
+  accepted-tests s k q g l c m h p o =
+      let fits : tableFits f t ≡ true = not-false (tableFits f t) (rw (s, q) at l) in
+      let flag : flagFits on ≡ true = not-false (flagFits on) o in
+      let clear : someGroup f (badPresence t) ≡ false = rw (s, q, fits) at p in
+      record {
+        frame-fits = rw (s, q);
+        blocks = measured b k;
+        entries = eqb-true (length t) (3 * sizesOf f .«num_groups») fits;
+        sides = rw (s, q, fits) at g;
+        presences = clear;
+        cells-are = eqb-true (length grids) (gridStart t (sizesOf f .«num_groups»)) (not-false (gridsFit f t grids) (rw (s, q, fits, clear) at c));
+        flag = flag;
+        count = eqb-true n (sigmaCount (flagSet on) b) (not-false (eqb n (sigmaCount (flagSet on) b)) (rw (k, flag) at m));
+        held-all = λ y. rw (s, q, fits, k, y) at h;
+      }
+
+  pub accepted-fits : sigmaNumber on f b t grids n ≡ 0 → Accepted on f b t grids n
+  accepted-fits e =
+      let a1 = passed (badSides f) outOfMeasure _ (omega arith) e in
+      let a2 = passed (badBlocks b) outOfMeasure _ (omega arith) (a1 .1) in
+      let a3 = passed (tableRead f t && someGroup f (badGrid t)) outOfMeasure _ (omega arith) (a2 .1) in
+      let a4 = passed (frameFits f && not (tableFits f t)) wrongLength _ (omega arith) (a3 .1) in
+      let a5 = passed (tableRead f t && not (someGroup f (badPresence t)) && not (gridsFit f t grids)) wrongLength _ (omega arith) (a4 .1) in
+      let a6 = passed (not (badBlocks b) && flagFits on && not (eqb n (sigmaCount (flagSet on) b))) wrongLength _ (omega arith) (a5 .1) in
+      let a7 = passed (tableRead f t && not (badBlocks b) && flagSet on && someNotHeld f b t) blockNotHeld _ (omega arith) (a6 .1) in
+      let a8 = passed (badSettings f) outOfRange _ (omega arith) (a7 .1) in
+      let a9 = passed (tableRead f t && someGroup f (badPresence t)) outOfRange _ (omega arith) (a8 .1) in
+      let a10 = passed (not (flagFits on)) outOfRange 0 (omega arith) (a9 .1) in
+      accepted-tests (a1 .0) (a2 .0) (a8 .0) (a3 .0) (a4 .0) (a5 .0) (a6 .0) (a7 .0) (a9 .0) (a10 .0)
