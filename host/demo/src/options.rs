@@ -132,9 +132,9 @@ impl Given {
             return Err(Error::usage(format!("{option} needs a picture")));
         }
         match self.output {
-            Some(output) if output == "-" => {
-                Err(Error::usage("-o -: must be a folder without a picture"))
-            }
+            Some(output) if output == "-" => Err(Error::usage(
+                "-o -: must be a folder if no picture is given",
+            )),
             output => Ok(Command::Show(output.unwrap_or("demo-out".into()).into())),
         }
     }

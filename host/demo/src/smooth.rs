@@ -132,6 +132,20 @@ fn setup(image: Region, filter: Region, settings: Settings) -> Setup {
 mod tests {
     use super::*;
 
+    #[test]
+    fn sides_are_in_range_up_to_the_largest_picture() {
+        let judge = |(width, height)| {
+            let picture = at_corner(width, height);
+            judge(picture, picture)
+        };
+        for sides in [(1, 1), (4096, 4096), (16_384, 1024), (1024, 16_384)] {
+            assert_eq!(judge(sides), Ok(()), "{sides:?}");
+        }
+        for sides in [(0, 1), (4097, 4096), (16_385, 1), (u32::MAX, u32::MAX)] {
+            assert_eq!(judge(sides), Err(Refusal::OutOfMeasure), "{sides:?}");
+        }
+    }
+
     /// 20 - 7 and 30 - 7 are 13 and 23; 26 + 7 is 33, and 75 + 7 is past the picture's 80.
     #[test]
     fn right_and_bottom_stay_where_the_margin_puts_them() {

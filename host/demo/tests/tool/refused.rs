@@ -305,7 +305,7 @@ fn without_a_picture_there_are_no_settings() {
             &format!("{name} needs a picture (see --help)"),
         );
     }
-    let folder_needed = "-o -: must be a folder without a picture (see --help)";
+    let folder_needed = "-o -: must be a folder if no picture is given (see --help)";
     expect(&folder, &["-o", "-"], folder_needed);
 }
 

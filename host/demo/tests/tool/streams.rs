@@ -125,4 +125,10 @@ fn standard_output_that_cannot_be_written() {
         &full,
         "cannot write standard output: No space left on device",
     );
+    // 1,020 bytes of samples after the last line end, in a file limited to 1,024: the last ones fail.
+    folder.write(PICTURE, &pfm(5, 17, [0x3F00_0000; 255]));
+    let script = "trap '' XFSZ; ulimit -f 1; exec \"$0\" \"$@\" >out.pfm";
+    let words = [PICTURE, "--no-gabor", "--iters=0", "-o", "-"];
+    let cut = folder.run_after(script, &words);
+    expect_line(&cut, "cannot write standard output: File too large");
 }
