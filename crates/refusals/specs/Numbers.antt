@@ -28,7 +28,7 @@ notInside = 5
 abbrev pub notOnBlocks : ℕ
 notOnBlocks = 6
 
--- a lent slice has a wrong length
+-- a caller's slice has a wrong length
 abbrev pub wrongLength : ℕ
 wrongLength = 7
 

@@ -1,4 +1,4 @@
--- What an accepted advance was lent, and the outcomes as the code's tests give them. Assumes nothing.
+-- What an accepted advance was given, and the outcomes as the code's tests give them. Assumes nothing.
 use mathlib.Core.Path.{_≡_, sym, _∙_}
 use mathlib.Core.Bool.{Bool, true, false}
 use Prim.Native.Nat.{ℕ, _-_, _<_, _≤_}

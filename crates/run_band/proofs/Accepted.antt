@@ -1,4 +1,4 @@
--- What an accepted band was lent, and the outcomes as the code's tests give them. Assumes nothing.
+-- What an accepted band was given, and the outcomes as the code's tests give them. Assumes nothing.
 use mathlib.Core.Path.{_≡_, sym, ap, _∙_}
 use mathlib.Core.Bool.{Bool, true, false, cond, not, _&&_, _||_}
 use mathlib.Core.List.{List, _∷_}

@@ -66,7 +66,7 @@ fn smaller(a: u32, b: u32) -> u32
     if a < b { a } else { b }
 }
 
-// The rows of band k. Advance exchanges the sets, so passes read the first and the second by turns.
+// The rows of band k. Advance exchanges the sets, so passes read the first and the second alternately.
 fn filter_band(run: Run, sigmas: &[f32], first: &mut [f32], second: &mut [f32], k: u32)
     requires { ⌜ bandNumber 3 (record { run = run; sigmas = now sigmas; first = now first; second = now second }) k ≡ 0 ⌝ }
     ensures { λ _. ⌜ _≡_ {A = State} (record { run = run; sigmas = now (sigmas .entry); first = now (first .exit); second = now (second .exit) }) (bandWritten 3 (record { run = run; sigmas = now (sigmas .entry); first = now (first .entry); second = now (second .entry) }) k) ⌝ }

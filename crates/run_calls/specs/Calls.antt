@@ -17,7 +17,7 @@ use Rattle.run_outcomes.specs.Result.{ResultOutcome, resultOutcome}
 abbrev pub StartAccepted : ℕ → Handed → Type 0
 StartAccepted n h = startOutcome n h .answer .number ≡ 0
 
--- the state that a start leaves: record, block sigmas and first set are its outcome's; the second set, which it is lent to read alone, is as it was
+-- the state that a start leaves: record, block sigmas and first set are its outcome's; the second set, which it is given to read alone, is as it was
 abbrev pub leftByStart : StartOutcome → List Float → State
 leftByStart o second = record { run = o .answer .run; sigmas = o .sigmas; first = o .first; second = second }
 
@@ -34,7 +34,7 @@ pub data LibraryCall : Type 0 where
   start : Handed → LibraryCall
   other : ℕ → LibraryCall
 
--- the whole answer of a call, with what it leaves in what it is lent: the outcome that its contract cites
+-- the whole answer of a call, with what it leaves in what it is given: the outcome that its contract cites
 pub data LibraryAnswer : Type 0 where
   ofBand : BandOutcome → LibraryAnswer
   ofAdvance : RunAnswer → LibraryAnswer
@@ -57,7 +57,7 @@ numberIn (ofResult o) = o .number
 numberIn (ofStart o) = o .answer .number
 numberIn (ofOther k) = k
 
--- the state after an accepted call that was lent the state t: what the answer has of it, and the rest of t
+-- the state after an accepted call that was given the state t: what the answer has of it, and the rest of t
 abbrev pub leftBy : State → LibraryAnswer → State
 leftBy t (ofBand o) = o .state
 leftBy t (ofAdvance o) = record { run = o .run; sigmas = t .sigmas; first = t .first; second = t .second }
@@ -95,8 +95,8 @@ pub data Effect (n : ℕ) (t : State) : ℕ → ℕ → State → Type 0 where
   oneAdvance : advanceOutcome (t .run) .number ≡ 0 → Effect n t 0 1 (leftBy t (ofAdvance (advanceOutcome (t .run))))
   nothing : Effect n t 0 0 t
 
--- Any kinds of calls, each with its whole answer. From the answer follow its number and, for an accepted call that was lent a state, the state after it.
--- Which calls were lent a state is told, and which effect these have.
+-- Any kinds of calls, each with its whole answer. From the answer follow its number and, for an accepted call that was given a state, the state after it.
+-- Which calls were given a state is told, and which effect these have.
 pub record Calls (n : ℕ) : Type 1 where
   pub Call : Type 0
   pub Answer : Type 0
@@ -140,7 +140,7 @@ module _ (n : ℕ) (K : Calls n) where
   end t [] = t
   end t (c ∷ cs) = end (stateAfter t c) cs
 
-  -- unaltered (Specification 13.7): each accepted call was lent what the accepted calls before it left; a refused one may be lent anything
+  -- unaltered (Specification 13.7): each accepted call was given what the accepted calls before it left; a refused one may be given anything
   abbrev pub Unaltered : State → List (K .Call) → Type 0
   Unaltered t [] = Unit {0}
   Unaltered t (c ∷ cs) = (K .number (K .answer c) ≡ 0 → K .Lent t c) × Unaltered (stateAfter t c) cs

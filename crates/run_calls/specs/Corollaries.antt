@@ -17,7 +17,7 @@ use Rattle.run_calls.specs.Calls.{StartAccepted, startState, Calls, end,
 use Rattle.run_calls.specs.Places.{Clear, at, sampleAt, resultAt}
 use Rattle.run_calls.specs.Theorem.{CutFrom, resultAfter}
 
--- a finished run of n planes: an accepted start, calls after it that nobody altered and that finish it, and a slice lent for the result
+-- a finished run of n planes: an accepted start, calls after it that nobody altered and that finish it, and a slice given for the result
 pub record FinishedRun (n : ℕ) (K : Calls n) (h : Handed) : Type 0 where
   pub accepted : StartAccepted n h
   pub calls : List (K .Call)

@@ -54,7 +54,7 @@ module _ (p : Picture) (weights : List (List Float)) where
   abbrev done : Run
   done = marked (begun .run) 0
 
-  -- Band 0; band 0 again, lent the sets as they were before it (10); an advance that is lent the record before it (11); the advance.
+  -- Band 0; band 0 again, given the sets as they were before it (10); an advance that is given the record before it (11); the advance.
   abbrev pub calls : List LibraryCall
   calls =
       band begun 0

@@ -63,7 +63,7 @@ module _ (g : Given) where
     sigmas = tab 1 (λ i. b0);
   }
 
-  -- a start that is refused (4), though it is lent the run's own sets
+  -- a start that is refused (4), though it is given the run's own sets
   abbrev pub empty : Handed
   empty = record { setup = noSetup; frame = frame; table = []; grids = []; first = smaller .first; second = smaller .second; sigmas = smaller .sigmas }
 

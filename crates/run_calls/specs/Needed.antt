@@ -1,5 +1,5 @@
 -- What the theorem on rectangles supposes is needed (Specification 13.9): without any one of its premises, or with a margin one smaller, it is false. Two premises, in the Specification's words, say more than the
--- proof uses: what an accepted result among the calls was lent does not matter, since it leaves the state, and of the larger picture's numbers 4 to 9 only 6 does. Statements only.
+-- proof uses: what an accepted result among the calls was given does not matter, since it leaves the state, and of the larger picture's numbers 4 to 9 only 6 does. Statements only.
 use mathlib.Core.Path.{_≡_}
 use mathlib.Core.Logic.{_↔_}
 use mathlib.Core.List.{List, _∷_}
@@ -91,7 +91,7 @@ SigmasNeeded = TheoremBut sigmas-agree OneSigmaUnlike → ⊥
 abbrev pub altered : Float → State → State
 altered v t = record { run = t .run; sigmas = t .sigmas; first = set (t .first) 1 v; second = t .second }
 
--- the first call is a band that is lent such a state, and nobody alters anything after it
+-- the first call is a band that is given such a state, and nobody alters anything after it
 pub record OneSampleAltered (small large : Handed) (cs : List LibraryCall) (out : List Float) : Type 0 where
   pub sample : Float
   pub number : ℕ

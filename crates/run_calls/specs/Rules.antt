@@ -22,11 +22,11 @@ StartTied = (n : ℕ) (h : Handed) → let t = startState n h in
     let o = startOutcome n h in
     (t .run ≡ o .answer .run) × (t .first ≡ o .first) × (t .sigmas ≡ o .sigmas) × (t .second ≡ h .second)
 
--- where a call was lent the state, accepted or not, what its answer leaves is the state after it
+-- where a call was given the state, accepted or not, what its answer leaves is the state after it
 abbrev pub CallsTied : Type 0
 CallsTied = (n : ℕ) (t : State) (c : LibraryCall) → LentState t c → leftBy t (answer n c) ≡ stateAfter n (libraryCalls n) t c
 
--- what a call leaves of all that it was lent is as it was; functions other than these four say it of themselves
+-- what a call leaves of all that it was given is as it was; functions other than these four say it of themselves
 abbrev pub Untouched : ℕ → LibraryCall → Type 0
 Untouched n (band t k) = bandOutcome n t k .state ≡ t
 Untouched n (advance r) = advanceOutcome r .run ≡ r
@@ -71,7 +71,7 @@ ReachedFits = (s : Setup) (r : Run) → T (setupFits s) → Reached s r → T (r
 abbrev pub FitsReached : Type 0
 FitsReached = (r : Run) → length (r .done) ≡ maxBands → T (runFits r) → Reached (r .setup) r
 
--- a list of calls (Specification 13.7) after an accepted start, all accepted and lent what those before them left, that ends in the record r
+-- a list of calls (Specification 13.7) after an accepted start, all accepted and given what those before them left, that ends in the record r
 pub record LeadsTo (n : ℕ) (h : Handed) (cs : List LibraryCall) (r : Run) : Type 0 where
   pub accepted : AllAccepted n (libraryCalls n) cs
   pub unaltered : Unaltered n (libraryCalls n) (startState n h) cs

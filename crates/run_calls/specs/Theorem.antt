@@ -33,7 +33,7 @@ pub record CutFrom (n : ℕ) (small large : Handed) : Type 0 where
   -- where the edge filter runs, sigmas agree in each of its blocks. Both filter regions start at multiples of 8 there, since neither is refused under 6.
   pub sigmas-agree : T (epfOn (small .setup)) → (x y : ℤ) → Holds (small .setup .filter) x y → sigmaAt n small x y ≡ sigmaAt n large x y
 
--- the result call on a state, lent a slice
+-- the result call on a state, given a slice
 abbrev pub resultOn : ℕ → State → List Float → ResultOutcome
 resultOn n t out = resultOutcome n (t .run) (t .first) (t .second) out
 
@@ -49,7 +49,7 @@ Delivers n small large result = DeliversBeyond (margin (small .setup .settings))
 
 -- n is the number of planes, and K has the kinds of calls: 3 and `libraryCalls 3` are those of Specification 13.6.
 module _ (n : ℕ) (K : Calls n) where
-  -- the result call after a start and a list of calls, lent the state that they left and a slice
+  -- the result call after a start and a list of calls, given the state that they left and a slice
   abbrev pub resultAfter : Handed → List (K .Call) → List Float → ResultOutcome
   resultAfter h cs out = resultOn n (end n K (startState n h) cs) out
 

@@ -1,4 +1,4 @@
--- What accepted calls were lent, and when a call is accepted. Assumes nothing.
+-- What accepted calls were given, and when a call is accepted. Assumes nothing.
 use mathlib.Core.Path.{_≡_, refl, sym, _∙_}
 use mathlib.Core.Bool.{Bool, true, false, cond, not, _&&_, _||_}
 use mathlib.Core.List.{List}
@@ -67,7 +67,7 @@ picture-fits n h e =
       sigmas = eqb→eq (length (h .sigmas)) (sigmaLength s) (met-given (itersFit s) (eqb (length (h .sigmas)) (sigmaLength s)) (passed (sigmasLength h) (search (here, below) depth 20)) iters);
     }
 
--- the block sigmas that start fills have the length of those that it was lent
+-- the block sigmas that start fills have the length of those that it was given
 pub sigmas-length : (n : ℕ) (h : Handed) → PictureFits n h → length (sigmasFilled n h) ≡ sigmaLength (h .setup)
 unfolding sigmasFilled layoutOf
 sigmas-length n h f = go (epfOn (h .setup)) (f .sigmas)
@@ -78,7 +78,7 @@ sigmas-length n h f = go (epfOn (h .setup)) (f .sigmas)
     go true e = length-sigmas (h .frame) (blocksOf (h .setup)) (h .table) (h .grids) (h .setup .settings .epf .«sigma_for_modular»)
     go false e = e
 
--- what it leaves of the first set has the length of what it was lent
+-- what it leaves of the first set has the length of what it was given
 pub leaves-length : (n : ℕ) (h : Handed) → length (startLeaves n h) ≡ length (h .first)
 unfolding startLeaves
 leaves-length n h = refl
@@ -153,9 +153,9 @@ pub result-refused : (n : ℕ) (r : Run) (first second out : List Float) → (re
 unfolding resultOutcome
 result-refused n r first second out e = rw (ne-eqb (resultNumber n r first second out) 0 e)
 
--- ---- what a band, an advance and the result were lent, and when they are accepted
+-- ---- what a band, an advance and the result were given, and when they are accepted
 
--- what an accepted band was lent
+-- what an accepted band was given
 pub record BandFits (n : ℕ) (t : State) (k : ℕ) : Type 0 where
   pub run : RunFits (t .run)
   pub band : Open (t .run) k
@@ -169,7 +169,7 @@ band-fits n t k e =
       band = band-open (t .run) k (passed (bandOpen (t .run) k) (search (here, below) depth 20));
     }
 
--- what an accepted advance was lent
+-- what an accepted advance was given
 pub record AdvanceFits (r : Run) : Type 0 where
   pub run : RunFits r
   pub pass : Over r

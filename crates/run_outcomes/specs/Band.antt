@@ -1,4 +1,4 @@
--- Band and advance: what is lent, which number they give, and what they leave (Specification 12.8–12.12). Definitions only.
+-- Band and advance: what is given, which number they give, and what they leave (Specification 12.8–12.12). Definitions only.
 use mathlib.Core.Bool.{Bool, cond, not, _&&_, _||_}
 use mathlib.Core.List.{List, [], _∷_}
 use Prim.Native.Nat.{ℕ, _%_}

@@ -22,7 +22,7 @@ pub record ResultOutcome : Type 0 where
   pub out : List Float
 
 module _ (n : ℕ) where
-  -- the lent slice
+  -- the caller's slice
   abbrev pub sliceCheck : Setup → ℕ → Check
   sliceCheck s out = given (fullFits s && sized (resultRegion s)) wrongLength (not (eqb out (resultLength n s)))
 

@@ -119,7 +119,7 @@ module _ (n : ℕ) (h : Handed) where
   abbrev pub startNumber : ℕ
   startNumber = firstOf startChecks
 
-  -- what an accepted start leaves of the first set: the set as lent
+  -- what an accepted start leaves of the first set: the set as given
   unfoldable pub startLeaves : List Float
   startLeaves = h .first
 

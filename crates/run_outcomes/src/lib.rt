@@ -1,4 +1,4 @@
-// Runs: what calls answer, and the lengths of what they are lent. The outcomes of start, band, advance and result are defined in specs/.
+// Runs: what calls answer, and the lengths of what they are given. The outcomes of start, band, advance and result are defined in specs/.
 use refusals::flag_fits;
 use refusals::flag_set;
 use region::Region;

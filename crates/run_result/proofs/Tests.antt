@@ -27,7 +27,7 @@ fits-of : (a b : Bool) → cond (true && not a) outOfRange (cond (true && not b)
 fits-of true b e = refl
 fits-of false b e = absurd (omega arith)
 
--- what is lent to a result that is accepted
+-- what is given to a result that is accepted
 pub record Lent (n : ℕ) (s : Setup) (first second out : List Float) : Type 0 where
   pub setup : SetupFits s
   pub one : length first ≡ setLength n s

@@ -81,7 +81,7 @@ numbersFit s = itersFit s && (fullFits s && (gaborFits (s .settings) && (heightF
 unfoldable pub setupFits : Setup → Bool
 setupFits s = ((pictured (s .image) && pictured (s .filter)) && (inside (s .image) (s .filter) && blocksFit s)) && numbersFit s
 
--- ---- lengths of what is lent, for n planes
+-- ---- lengths of what is given, for n planes
 
 -- a set: the image region's samples
 abbrev pub setLength : ℕ → Setup → ℕ

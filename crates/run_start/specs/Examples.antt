@@ -62,7 +62,7 @@ corner : (startNumber 3 (handed (setup (pos 4) 4 1 8) 191 1) ≡ 6) × (startNum
 unfolding startChecks pictureChecks inside pictured measured place side badSides badSettings tableFits sizesOf someBelow badGrid gridsFit gridStart cells someNotHeld notHeld lacks layoutOf bandCount
 corner = (refl, refl, refl)
 
--- block sigmas lent with the edge filter off, though the band height is 0
+-- block sigmas passed with the edge filter off, though the band height is 0
 lengths : (startNumber 3 (handed (setup (pos 0) 8 0 0) 192 1) ≡ 7) × (startNumber 3 (handed (setup (pos 0) 8 0 0) 192 0) ≡ 9)
 unfolding startChecks pictureChecks inside pictured measured place side badSides badSettings tableFits sizesOf someBelow badGrid gridsFit gridStart cells someNotHeld notHeld lacks layoutOf bandCount
 lengths = (refl, refl)

@@ -10,7 +10,7 @@ use Rattle.run_band.proofs.Accepted.{Room, room, first-rows, second-row
 use Rattle.run_band.proofs.filter_band.Statement.{statement}
 use Rattle.run_band.proofs.filter_band.Tie as tie
 
--- what is lent
+-- what is given
 abbrev lent : tie.Start → State
 lent s = record { run = s .args .run; sigmas = now (s .args .sigmas); first = now (s .args .first); second = now (s .args .second) }
 
