@@ -104,14 +104,14 @@ typedef struct RestorationBlocks {
     uint32_t height;
 } RestorationBlocks;
 
-// A half reading with its number and values side by side.
+// A half-precision reading as a struct.
 typedef struct RestorationHalfAnswer {
     uint32_t number;
     float value;
     size_t next;
 } RestorationHalfAnswer;
 
-// Three channels (X, Y, B) of two weights: of the side neighbours, of the corners.
+// Two weights for each of the channels X, Y and B: of the side neighbours and of the diagonal ones.
 typedef struct RestorationGabor {
     bool enabled;
     float weights[3][2];
