@@ -65,7 +65,7 @@ typedef struct RestorationRegionAnswer {
     RestorationRegion region;
 } RestorationRegionAnswer;
 
-// The numbers of a frame header that its sizes depend on.
+// The fields of a frame header that determine its sizes.
 typedef struct RestorationFrame {
     uint32_t width;
     uint32_t height;
@@ -96,7 +96,7 @@ typedef struct RestorationSplitAnswer {
     uint32_t inner;
 } RestorationSplitAnswer;
 
-// A filter region whose left and top are multiples of 8: these in blocks, its sides in samples.
+// A filter region whose left and top are multiples of 8. Left and top are in blocks, width and height in samples.
 typedef struct RestorationBlocks {
     uint32_t left;
     uint32_t top;
