@@ -148,7 +148,7 @@ mirror-high z n =
 
 -- ---- as the code computes it
 
--- An offset z and its magnitude (-1 - z if z is negative) have the same mirrored index.
+-- An offset z and `mag z` (z, or -1 - z if z is negative) have the same mirrored index.
 pub mirror-mag : (z : ℤ) (n : ℕ) → mirror (pos (mag z)) n ≡ mirror z n
 mirror-mag (pos k) n = refl
 mirror-mag (negsuc k) n = sym (mirror-neg n k)

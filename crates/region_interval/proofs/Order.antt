@@ -143,7 +143,7 @@ not-lt-le (pos a) (negsuc b) e = refl
 not-lt-le (negsuc a) (pos b) e = sym e
 not-lt-le (negsuc a) (negsuc b) e = le-leb a b (ltb-false b a e)
 
--- ---- bounds on the magnitude of sums and negations
+-- ---- bounds on `mag` (z, or -1 - z if z is negative) of sums and negations
 
 mag-sub : (a b : ℕ) → mag (subℕ a b) ≤ a + b
 mag-sub a b = go (ltb a b) refl

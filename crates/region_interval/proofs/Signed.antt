@@ -1,4 +1,4 @@
--- Bounds on the magnitude of sums, negations, quotients and products of integers, and signed machine integers converted back. Assumes nothing.
+-- Bounds on `mag` (z, or -1 - z if z is negative) of sums, negations, quotients and products of integers, and signed machine integers converted back. Assumes nothing.
 use mathlib.Core.Path.{_≡_, refl, sym, ap, _∙_, subst}
 use mathlib.Core.Bool.{Bool, true, false}
 use Prim.Native.Nat.{ℕ, zero, suc, _+_, _-_, _*_, _/_, _%_, _^_, _<_, _≤_}
@@ -41,7 +41,7 @@ shifted {z} m h = rw (toZ-ofZ h) (toZ-ofZ (record { sfits = omega (arith, h .sfi
     same (pos a) = refl
     same (negsuc a) = refl
 
--- the sum of two integers below n and m in magnitude fits an i64
+-- a sum fits an i64 if the bounds n and m on `mag` of its terms add up to at most 2^63
 pub sum64 : (n m : ℕ) (a b : ℤ) → mag a < n → mag b < m → n + m ≤ 9223372036854775808 → SFits w64 (a +ℤ b)
 sum64 n m a b h k l = record { sfits = omega (arith, mag-add a b) }
 

@@ -29,7 +29,7 @@ neg-fits (suc n) f = let l : suc n < 2 ^ 63 = f .sfits in record { sfits = omega
 not-low : (n : ℕ) → ltZ (pos n) (pos 0) ≡ true → ⊥
 not-low n t = true≢false (sym t ∙ le-ltb n 0 (omega arith))
 
--- for a negative z, z + 1 fits, and -(z + 1) is its magnitude
+-- for a negative z, z + 1 fits, and -(z + 1) is `mag z`
 up-fits : (z : ℤ) → SFits w64 z → ltZ z (pos 0) ≡ true → SFits w64 (z +ℤ pos 1)
 up-fits (pos n) f t = absurd (not-low n t)
 up-fits (negsuc n) f t = rw (up-one n) (neg-fits n f)
@@ -38,7 +38,7 @@ back-is : (z : ℤ) → ltZ z (pos 0) ≡ true → pos 0 -ℤ (z +ℤ pos 1) ≡
 back-is (pos n) t = absurd (not-low n t)
 back-is (negsuc n) t = rw (up-one n) (neg-neg n)
 
--- a z that is not negative is its own magnitude
+-- a z that is not negative is `mag z`
 size-is : (z : ℤ) → ltZ z (pos 0) ≡ false → z ≡ pos (mag z)
 size-is (pos n) t = refl
 size-is (negsuc n) t = absurd (true≢false t)
