@@ -1,4 +1,4 @@
--- Laws of the sizes, for callers. Assumes nothing.
+-- Laws of a frame's sizes. Assumes nothing.
 use mathlib.Core.Path.{_≡_, refl, sym, ap, _∙_}
 use mathlib.Core.Bool.{Bool, true, false, false≢true, _||_}
 use mathlib.Core.List.{[], _∷_}

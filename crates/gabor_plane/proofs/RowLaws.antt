@@ -1,4 +1,4 @@
--- The samples that the row functions compute are the pass's. Assumes nothing.
+-- The row functions compute the samples of the pass. Assumes nothing.
 use mathlib.Core.Path.{_≡_, refl, sym, _∙_}
 use mathlib.Core.List.{List}
 use Prim.Native.Nat.{ℕ, zero, suc, _+_, _-_, _*_, _<_, _≤_}

@@ -13,7 +13,7 @@ use Rattle.gabor_plane.specs.Rows.{regionSample}
 unfoldable pub regionRows : List Float → ℕ → ℕ → ℕ → ℕ → Float → Float → Float → ℕ → ℕ → ℕ → Float
 regionRows s at stride w h w0 w1 g from i x = regionSample s at stride w h w0 w1 g (from + i) x
 
--- a region of w columns and h rows lies in a list of length len; row y starts at index at + y * stride
+-- a region of w columns and h rows, 1 to 16,384, lies in a list of length len; row y starts at index at + y * stride, and w ≤ stride ≤ 16,384
 abbrev pub regionFits : ℕ → ℕ → ℕ → ℕ → ℕ → Bool
 regionFits at stride w h len = (leb 1 w && leb 1 h) && ((leb w stride && leb stride 16384) && (leb h 16384 && leb (at + ((h - 1) * stride + w)) len))
 

@@ -41,7 +41,7 @@ fn gabor_rows(
     }
 }
 
-// Whether such a region lies in a slice of length len.
+// Whether such a region, with sides of 1 to 16,384 and w <= stride <= 16,384, lies in a slice of length len.
 fn region_fits(at: usize, stride: usize, w: usize, h: usize, len: usize) -> bool
     ensures { λ r. ⌜ r ≡ regionFits at stride w h len ⌝ }
 {

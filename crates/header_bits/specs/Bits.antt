@@ -1,4 +1,4 @@
--- Bits of a header, and fields of bits (Specification 5.1, 5.2).
+-- Bits of a header, and bit fields (Specification 5.1, 5.2).
 use Prim.Native.Nat.{ℕ, zero, suc, _+_, _*_, _/_, _%_, _^_}
 use mathlib.Core.List.{List, [], _∷_}
 use lib.Dec.{ltb}

@@ -1,6 +1,5 @@
 // Regions and tests on them (region.rs of the original). Each method checks the given regions against the limits of
 // Specification 4.1.
-// limits of Specification 4.1.
 use refusals::ACCEPTED;
 use refusals::OUT_OF_MEASURE;
 use region_interval::Span;

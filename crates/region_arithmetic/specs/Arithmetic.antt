@@ -27,6 +27,6 @@ shrunkBy m r = regionOf (shrunk m (columns r)) (shrunk m (rows r))
 abbrev pub downsampled : ℕ → Region → Region
 downsampled f r = shrunkBy (2 ^ f) r
 
--- `container_aligned`: widened to multiples of m
+-- `container_aligned`: extended to multiples of m
 unfoldable pub alignedTo : ℕ → Region → Region
 alignedTo m r = regionOf (aligned m (columns r)) (aligned m (rows r))

@@ -46,7 +46,7 @@ floor-most q z m k f h = go (decLe (above k + below q) (above q + below k))
         let g : (above k + below q) * m ≡ above k * m + below q * m = omega arith in
         absurd (omega (arith, mul-le-mul-right m n, f .over))
 
--- the quotient is the one k with k * m ≤ z < k * m + m
+-- the quotient is the only k with k * m ≤ z < k * m + m
 pub floor-only : (z : ℤ) (m : ℕ) (k : ℤ) → 0 < m → Floor k z m → floorDiv z m ≡ k
 floor-only z m k h f =
     let g = floor-is z m h in

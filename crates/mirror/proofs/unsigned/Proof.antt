@@ -13,7 +13,7 @@ use lib.Signed.{mag, ltZ}
 use Rattle.mirror.proofs.unsigned.Statement.{statement}
 use Rattle.mirror.proofs.unsigned.Tie as tie
 
--- -(n + 1) + 1
+-- -(n + 1) + 1 is -n
 up-one : (n : ℕ) → negsuc n +ℤ pos 1 ≡ negℤ (pos n)
 up-one zero = refl
 up-one (suc n) = rw (lt-ltb 1 (suc (suc n)) (omega arith)) (ap negsuc (omega arith))
