@@ -16,9 +16,9 @@ ghost use mathlib.Core.Path.{_≡_};
 ghost use Rattle.planes_layout.specs.Outcome.{PassOutcome};
 ghost use Rattle.gabor.specs.Outcome.{gaborOutcome};
 
-// Rows `from` up to, not including, `to` of the result region, which is the image region (`preserve_outside` 1) or the
-// filter region (0). Reads `src` and writes `dst`, sets of three planes. Each channel has two weights, of the side
-// neighbours and of the diagonal ones; any binary32 values are accepted.
+// Filters rows `from` up to, not including, `to` of the result region. That is the image region (`preserve_outside` 1)
+// or the filter region (0). Reads `src` and writes `dst`, sets of three planes. Each channel has two weights, of the
+// side neighbours and of the diagonal ones; any binary32 values are accepted.
 pub fn gabor_pass(
     image: Region,
     filter: Region,

@@ -17,7 +17,7 @@ pub fn global_weight(w0: f32, w1: f32) -> f32
     1.0 / (1.0 + w0 * 4.0 + w1 * 4.0)
 }
 
-// An inner row. At an end of the row, 0 is the only neighbour and 1 and 2 are the end sample itself.
+// A sample of an inner row. At an end of the row, 0 is the only neighbour and 1 and 2 are the end sample itself.
 pub fn tap9(
     t0: f32,
     t1: f32,
@@ -40,7 +40,7 @@ pub fn tap9(
     unweighted_sum * g
 }
 
-// An inner row of a single column.
+// A sample of an inner row of a single column.
 pub fn lone3(t: f32, c: f32, b: f32, w0: f32, w1: f32, g: f32) -> f32
     ensures { λ v. ⌜ v ≡ gaborBy g w0 w1 (nine t t t c c c b b b) only inner ⌝ }
 {
@@ -50,7 +50,7 @@ pub fn lone3(t: f32, c: f32, b: f32, w0: f32, w1: f32, g: f32) -> f32
     unweighted_sum * g
 }
 
-// The first or last of several rows; a is the adjacent row.
+// A sample of the first or last of several rows; a is the adjacent row.
 pub fn edge6(a0: f32, a1: f32, a2: f32, c0: f32, c1: f32, c2: f32, w0: f32, w1: f32, g: f32) -> f32
     ensures { λ v. ⌜ v ≡ gaborBy g w0 w1 (nine a0 a1 a2 c0 c1 c2 a0 a1 a2) inner first ⌝ }
 {
@@ -64,7 +64,7 @@ pub fn edge4(a0: f32, a1: f32, c0: f32, c1: f32, w0: f32, w1: f32, g: f32) -> f3
     (c1 * (1.0 + 2.0 * w0 + w1) + (a1 + c0) * (w0 + w1) + a0 * w1) * g
 }
 
-// The first or last row of a single column.
+// The first or last sample of a single column.
 pub fn edge2(a: f32, c: f32, w0: f32, w1: f32, g: f32) -> f32
     ensures { λ v. ⌜ v ≡ gaborBy g w0 w1 (nine a a a c c c a a a) only first ⌝ }
 {
@@ -84,7 +84,7 @@ fn solo_side(w0: f32, w1: f32) -> f32
     w0 + 2.0 * w1
 }
 
-// A single row.
+// A sample of a single row.
 pub fn solo3(c0: f32, c1: f32, c2: f32, w0: f32, w1: f32, g: f32) -> f32
     ensures { λ v. ⌜ v ≡ gaborBy g w0 w1 (nine c0 c1 c2 c0 c1 c2 c0 c1 c2) inner only ⌝ }
 {
@@ -93,7 +93,7 @@ pub fn solo3(c0: f32, c1: f32, c2: f32, w0: f32, w1: f32, g: f32) -> f32
     (c1 * merged_w0 + (c0 + c2) * merged_w1) * g
 }
 
-// An end of a single row. A single sample is copied; no function here does that.
+// An end sample of a single row. A single sample is copied; no function here does that.
 pub fn solo2(c0: f32, c1: f32, w0: f32, w1: f32, g: f32) -> f32
     ensures { λ v. ⌜ v ≡ gaborBy g w0 w1 (nine c0 c1 c1 c0 c1 c1 c0 c1 c1) last only ⌝ }
 {

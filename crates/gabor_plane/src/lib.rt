@@ -67,8 +67,8 @@ fn region_fits(at: usize, stride: usize, w: usize, h: usize, len: usize) -> bool
     at <= len - span
 }
 
-// Filters those rows. Does nothing if the slices have different lengths, the region does not lie in them, or it has no
-// such rows.
+// Filters n rows of a region, as above. Does nothing if the slices have different lengths, the region does not lie in
+// them, or it has no such rows.
 pub fn gabor_plane(
     src: &[f32],
     dst: &mut [f32],

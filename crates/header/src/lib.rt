@@ -34,7 +34,7 @@ fn restoration_refused(number: u32) -> RestorationAnswer
 }
 
 impl RestorationFilter {
-    // Reads both bundles from bit `at`, or refuses with 7, 1, 2 or 3.
+    // Reads the Gabor bundle and then the EPF bundle, or refuses with 7, 1, 2 or 3.
     pub fn parse(bytes: &[u8], at: usize, encoding: Encoding) -> RestorationAnswer
         ensures { λ r. ⌜ r ≡ restorationAnswer (restorationAt encoding (now (bytes .entry)) at) ⌝ }
     {

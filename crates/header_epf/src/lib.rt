@@ -164,7 +164,7 @@ impl EdgePreservingFilter {
         }
     }
 
-    // Reads the bundle (Specification 5.6), or refuses with 7, 1 or 2.
+    // Reads the EPF bundle (Specification 5.6), or refuses with 7, 1 or 2.
     pub fn parse(bytes: &[u8], at: usize, encoding: Encoding) -> EpfAnswer
         ensures { λ r. ⌜ r ≡ epfAnswer (epfAt encoding (now (bytes .entry)) at) ⌝ }
     {

@@ -103,7 +103,7 @@ impl Gabor {
         gabor_of(false, [[0.0; 2]; 3])
     }
 
-    // Reads the bundle (Specification 5.4), or refuses with 7, 1, 2 or 3.
+    // Reads the Gabor bundle (Specification 5.4), or refuses with 7, 1, 2 or 3.
     pub fn parse(bytes: &[u8], at: usize) -> GaborAnswer
         ensures { λ r. ⌜ r ≡ gaborAnswer (gaborAt (now (bytes .entry)) at) ⌝ }
     {

@@ -60,7 +60,7 @@ fn finite_half(half: u32, next: usize) -> Half
     Half::Value(value, next)
 }
 
-// The value and the next position as an enum, or refusal 7, 1 or 2.
+// Reads a half-precision number as an enum, or refuses with 7, 1 or 2.
 pub fn read_f16_as_f32(bytes: &[u8], at: usize) -> Half
     ensures { λ r. ⌜ halfOutcome r ≡ f16 (now (bytes .entry)) at ⌝ }
 {
@@ -88,7 +88,7 @@ pub fn half_answer(reading: Half) -> HalfAnswer
     }
 }
 
-// The value and the next position as a struct, or refusal 7, 1 or 2.
+// Reads a half-precision number as a struct, or refuses with 7, 1 or 2.
 pub fn read_half(bytes: &[u8], at: usize) -> HalfAnswer
     ensures { λ r. ⌜ r ≡ halfAnswer (f16 (now (bytes .entry)) at) ⌝ }
 {

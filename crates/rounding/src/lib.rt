@@ -9,7 +9,7 @@ fn larger(d: f32, e: f32) -> f32
     if d < e { e } else { d }
 }
 
-// |x - y|. Adding 0 turns -0 into +0, and lets the maximum compile to a single instruction.
+// The magnitude of x - y. Adding 0 turns -0 into +0, and lets the maximum compile to a single instruction.
 pub fn difference(x: f32, y: f32) -> f32
     ensures { λ r. ⌜ r ≡ magnitude (sub binary32 x y) ⌝ }
 {
