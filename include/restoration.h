@@ -65,7 +65,7 @@ typedef struct RestorationRegionAnswer {
     RestorationRegion region;
 } RestorationRegionAnswer;
 
-// The numbers of a frame header that its sizes depend on.
+// The fields of a frame header that determine its sizes.
 typedef struct RestorationFrame {
     uint32_t width;
     uint32_t height;
@@ -96,7 +96,7 @@ typedef struct RestorationSplitAnswer {
     uint32_t inner;
 } RestorationSplitAnswer;
 
-// A filter region whose left and top are multiples of 8: these in blocks, its sides in samples.
+// A filter region whose left and top are multiples of 8. Left and top are in blocks, width and height in samples.
 typedef struct RestorationBlocks {
     uint32_t left;
     uint32_t top;
@@ -104,14 +104,14 @@ typedef struct RestorationBlocks {
     uint32_t height;
 } RestorationBlocks;
 
-// A half reading with its number and values side by side.
+// A half-precision reading as a struct.
 typedef struct RestorationHalfAnswer {
     uint32_t number;
     float value;
     size_t next;
 } RestorationHalfAnswer;
 
-// Three channels (X, Y, B) of two weights: of the side neighbours, of the corners.
+// Two weights for each of the channels X, Y and B: of the side neighbours and of the diagonal ones.
 typedef struct RestorationGabor {
     bool enabled;
     float weights[3][2];

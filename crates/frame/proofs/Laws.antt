@@ -1,4 +1,4 @@
--- Laws of the sizes, for callers. Assumes nothing.
+-- Laws of a frame's sizes. Assumes nothing.
 use mathlib.Core.Path.{_≡_, refl, sym, ap, _∙_}
 use mathlib.Core.Bool.{Bool, true, false, false≢true, _||_}
 use mathlib.Core.List.{[], _∷_}
@@ -18,23 +18,23 @@ use Rattle.frame.specs.Sizes.{dividedUp, sampleSide, groupDim, groupShif
 use Rattle.frame.specs.Outcome.{frameChecks, frameOutcome, splitOutcome, badSide, badSides, badUpsampling, badSettings}
 use Rattle.frame.specs.Sound.{Sound}
 
--- ---- division rounded up is the least quotient that covers the whole
+-- ---- division rounded up: the smallest q with a ≤ q × b
 
--- The quotient covers it,
+-- a ≤ q × b,
 pub divided-up-covers : (a b : ℕ) → 0 < b → a ≤ dividedUp a b * b
 divided-up-covers a b p = omega (arith, lt-div-mul-add {a = a + (b - 1)} {b = b} p)
 
--- and no smaller one does.
+-- and no smaller q has that.
 pub divided-up-least : (a b q : ℕ) → 0 < b → a ≤ q * b → dividedUp a b ≤ q
 divided-up-least a b q p h =
     let l : a + (b - 1) < suc q * b = omega (arith, suc-mul q b) in
     omega (arith, div-lt-iff-lt-mul {k = b} {x = a + (b - 1)} {y = suc q} p .1 l)
 
--- It is at least 1 of at least 1,
+-- It is at least 1 if a is,
 pub divided-up-pos : (a b : ℕ) → 0 < b → 1 ≤ a → 1 ≤ dividedUp a b
 divided-up-pos a b p h = le-div-iff-mul-le {k = b} {x = 1} {y = a + (b - 1)} p .1 (omega arith)
 
--- and at most the whole.
+-- and at most a.
 pub divided-up-le : (a b : ℕ) → 0 < b → dividedUp a b ≤ a
 divided-up-le a b p = divided-up-least a b a p (le-mul-of-pos-right a p)
 
@@ -74,7 +74,7 @@ group-shift-is (suc (suc (suc (suc n)))) h = absurd (no h)
 pub group-shift-power : (s : ℕ) → s ≤ 3 → 2 ^ groupShift s ≡ groupDim s
 group-shift-power s h = ap (λ (k : ℕ). 2 ^ k) (group-shift-is s h) ∙ pow-add 2 7 s
 
--- There is at least one LF group along a side,
+-- There is at least one LF group along a side of at least 1,
 pub groups-along-pos : (side s : ℕ) → 1 ≤ side → 1 ≤ groupsAlong side s
 groups-along-pos side s h = divided-up-pos side (8 * groupDim s) (omega (arith, group-dim-ge s)) h
 
@@ -84,15 +84,15 @@ groups-along-le side s h = divided-up-least side (8 * groupDim s) 16 (omega (ari
 
 -- ---- a block's group and inner cell
 
--- The group and the inner cell make up the block.
+-- The group number and the inner cell determine the block.
 pub split-whole : (block s : ℕ) → block ≡ groupOf block s * groupDim s + innerOf block s
 split-whole block s = sym (div-add-mod' block (groupDim s))
 
--- The inner cell is inside the group.
+-- The inner cell is below the group dimension.
 pub inner-lt : (block s : ℕ) → innerOf block s < groupDim s
 inner-lt block s = mod-lt block (omega (arith, group-dim-ge s))
 
--- The block of a column or row inside the sample side has its group among those along the side.
+-- For a column or row inside the sample side, the group of its block is below the number of groups along the side.
 pub group-below : (x side s : ℕ) → x < side → groupOf (x / 8) s < groupsAlong side s
 group-below x side s h =
     let p : 0 < 8 * groupDim s = omega (arith, group-dim-ge s) in
@@ -125,7 +125,7 @@ none false false e = (refl, refl)
 none false true e = absurd (omega arith)
 none true t e = absurd (omega arith)
 
--- A frame whose sides and settings are in range has its numbers in range.
+-- A frame whose sides and settings are in range satisfies `Sound`.
 pub fitting-sound : (f : Frame) → badSides f ≡ false → badSettings f ≡ false → Sound f
 unfolding badSides badSettings
 fitting-sound f sides settings =
@@ -145,11 +145,11 @@ fitting-sound f sides settings =
       shift-le = ltb-false 3 (f .«group_size_shift») (l .1);
     }
 
--- So has one that no check refuses.
+-- So does a frame to which no check applies.
 pub frame-sound : (f : Frame) → firstOf (frameChecks f) ≡ 0 → Sound f
 frame-sound f e = let n = none (badSides f) (badSettings f) e in fitting-sound f (n .0) (n .1)
 
--- Its answer has its sizes.
+-- The answer for an accepted frame has its sizes.
 pub frame-sizes : (f : Frame) → firstOf (frameChecks f) ≡ 0 → frameOutcome f .sizes ≡ sizesOf f
 frame-sizes f e = rw (eq-eqb (firstOf (frameChecks f)) 0 e)
 
@@ -172,7 +172,7 @@ pub record Bounded (g : GroupSizes) : Type 0 where
   pub groups : g .«num_groups» ≡ g .«groups_per_row» * g .«groups_per_column»
   pub groups-le : g .«num_groups» ≤ 256
 
--- The sizes of a frame whose numbers are in range are within those bounds.
+-- The sizes of a frame whose numbers are in range satisfy those bounds.
 pub sizes-bounded : (f : Frame) → Sound f → Bounded (sizesOf f)
 unfolding sizesOf
 sizes-bounded f s =

@@ -1,4 +1,4 @@
--- What specs/Statements.antt promises of a frame's sizes. Assumes nothing.
+-- Proves specs/Statements.antt. Assumes nothing.
 use Rattle.frame.proofs.Laws.{divided-up-covers as covers, divided-up-least as least, split-whole as whole, inner-lt, group-below as below}
 use Rattle.frame.specs.Statements.{DividedUpCovers, DividedUpLeast, SplitWhole, InnerBelow, GroupBelow}
 

@@ -1,4 +1,4 @@
--- What `group_sizes` and `split_block` answer (Specification 7.3): the tables of their checks, and the outcome for every input.
+-- The answers of `group_sizes` and `split_block` (Specification 7.3): their tables of checks, and the outcome for every input.
 use mathlib.Core.Bool.{Bool, cond, not, _||_}
 use mathlib.Core.List.{List, [], _∷_}
 use Prim.Native.Nat.{ℕ}
@@ -15,35 +15,35 @@ use Rattle.frame.specs.Sizes.{sizesOf, groupOf, innerOf}
 abbrev pub badSide : ℕ → Bool
 badSide side = ltb side 1 || ltb 16384 side
 
--- an upsampling that is none of 1, 2, 4 and 8
+-- an upsampling other than 1, 2, 4 and 8
 abbrev pub badUpsampling : ℕ → Bool
 badUpsampling u = not (eqb u 1 || eqb u 2 || eqb u 4 || eqb u 8)
 
--- Specification 4.1: frame sides outside 1 to 16,384
+-- Specification 4.1: a frame side outside 1 to 16,384
 unfoldable pub badSides : Frame → Bool
 badSides f = badSide (f .width) || badSide (f .height)
 
--- Specification 4.1: upsampling none of 1, 2, 4, 8; LF level over 4; group size shift over 3
+-- Specification 4.1: upsampling other than 1, 2, 4 and 8; LF level over 4; group size shift over 3
 unfoldable pub badSettings : Frame → Bool
 badSettings f = badUpsampling (f .upsampling) || ltb 4 (f .«lf_level») || ltb 3 (f .«group_size_shift»)
 
 abbrev pub frameChecks : Frame → List Check
 frameChecks f = always outOfMeasure (badSides f) ∷ always outOfRange (badSettings f) ∷ []
 
--- the sizes of a refusal
+-- the sizes in a refusal: zeros
 abbrev pub noSizes : GroupSizes
 noSizes =
     record { «sample_width» = 0; «sample_height» = 0; «group_dim» = 0; «group_shift» = 0; «groups_per_row» = 0; «groups_per_column» = 0; «num_groups» = 0 }
 
--- a refusal has no sizes
+-- a refusal has zeros as sizes
 abbrev pub sizesAnswered : ℕ → GroupSizes → FrameAnswer
 sizesAnswered number sizes = record { number = number; sizes = cond (eqb number 0) sizes noSizes }
 
--- the number of the first check that applies, and the frame's sizes where none does
+-- the number of the first check that applies, and the frame's sizes if none does
 abbrev pub frameOutcome : Frame → FrameAnswer
 frameOutcome f = sizesAnswered (firstOf (frameChecks f)) (sizesOf f)
 
--- Specification 7.3: group size shift 0 to 3, else 9.
+-- Specification 7.3: 9 for a group size shift over 3
 abbrev pub splitChecks : ℕ → List Check
 splitChecks shift = always outOfRange (ltb 3 shift) ∷ []
 

@@ -1,4 +1,4 @@
--- The sizes of Specification 7.1 and 7.2: sample sides, group dimension and shift, LF groups, and which group and inner cell a block has.
+-- The sizes of Specification 7.1 and 7.2: sample sides, group dimension and shift, LF groups, and the group and inner cell of a block.
 use Prim.Native.Nat.{ℕ, _+_, _-_, _*_, _/_, _%_, _^_}
 use lib.Count.{trailingZeros}
 use Rattle.frame.specs.declared.Frame.{Frame}
@@ -8,11 +8,11 @@ use Rattle.frame.specs.declared.GroupSizes.{GroupSizes}
 abbrev pub dividedUp : ℕ → ℕ → ℕ
 dividedUp a b = (a + (b - 1)) / b
 
--- blocks along a side: a block is 8 by 8 samples
+-- blocks along a side: a block is 8 × 8 samples
 abbrev pub blocksAlong : ℕ → ℕ
 blocksAlong side = dividedUp side 8
 
--- a frame side divided by upsampling, rounded up, then by 8 to the power of the LF level, rounded up
+-- ⌈⌈frame side / upsampling⌉ / 8^lf_level⌉
 abbrev pub sampleSide : ℕ → ℕ → ℕ → ℕ
 sampleSide side upsampling level = dividedUp (dividedUp side upsampling) (8 ^ level)
 
@@ -20,15 +20,15 @@ sampleSide side upsampling level = dividedUp (dividedUp side upsampling) (8 ^ le
 abbrev pub groupDim : ℕ → ℕ
 groupDim shift = 128 * 2 ^ shift
 
--- the count of trailing zero bits in the group dimension
+-- the number of trailing zero bits of the group dimension
 abbrev pub groupShift : ℕ → ℕ
 groupShift shift = trailingZeros 32 (groupDim shift)
 
--- LF groups along a sample side: an LF group spans the group dimension in blocks, and a block 8 samples
+-- LF groups along a sample side: an LF group is G × G blocks, for the group dimension G
 abbrev pub groupsAlong : ℕ → ℕ → ℕ
 groupsAlong side shift = dividedUp side (8 * groupDim shift)
 
--- a block column or row: its group, and its cell in that group
+-- the group of a column or row of blocks, and its cell in that group
 abbrev pub groupOf : ℕ → ℕ → ℕ
 groupOf block shift = block / groupDim shift
 

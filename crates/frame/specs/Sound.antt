@@ -4,7 +4,7 @@ use Rattle.frame.specs.declared.Frame.{Frame}
 
 -- ---- a frame that is accepted
 
--- numbers in range
+-- the numbers of a frame are in range
 pub record Sound (f : Frame) : Type 0 where
   pub width-pos : 1 ≤ f .width
   pub width-le : f .width ≤ 16384

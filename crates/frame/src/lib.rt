@@ -1,4 +1,4 @@
-// Sample sides, group dimension and shift, LF groups of a frame, and which group and inner cell a block has
+// Sample sides, group dimension and shift and LF groups of a frame, and the group and inner cell of a block
 // (Specification 7.1, 7.2).
 use limits::BLOCK_U32;
 use limits::MAX_SIDE_U32;
@@ -13,7 +13,7 @@ const MAX_LF_LEVEL: u32 = 4;
 
 const MAX_GROUP_SIZE_SHIFT: u32 = 3;
 
-// The numbers of a frame header that its sizes depend on.
+// The fields of a frame header that determine its sizes.
 #[repr(C)]
 pub struct Frame {
     pub width: u32,
@@ -56,7 +56,7 @@ fn div_ceil(a: u32, b: u32) -> u32
     (a + (b - 1)) / b
 }
 
-// A frame side in samples: divided by upsampling and by 8 to the power of the LF level.
+// A frame side in samples: ⌈⌈side / upsampling⌉ / 8^level⌉.
 fn sample_side(side: u32, upsampling: u32, level: u32) -> u32
     requires { ⌜ (side ≤ 16384) × (0 < upsampling) × (upsampling ≤ 8) × (level ≤ 4) ⌝ }
     ensures { λ r. ⌜ r ≡ sampleSide side upsampling level ⌝ }
@@ -72,7 +72,7 @@ fn group_dim(shift: u32) -> u32
     128u32 << shift
 }
 
-// LF groups along a side of samples.
+// LF groups along a sample side.
 fn groups_along(side: u32, shift: u32) -> u32
     requires { ⌜ (side ≤ 16384) × (shift ≤ 3) ⌝ }
     ensures { λ r. ⌜ r ≡ groupsAlong side shift ⌝ }
@@ -125,7 +125,7 @@ fn bad_settings(f: Frame) -> bool
     MAX_GROUP_SIZE_SHIFT < f.group_size_shift
 }
 
-// The number that a frame is refused with, or 0.
+// The number that the frame is refused with, or 0.
 fn check(f: Frame) -> u32
     ensures { λ r. ⌜ r ≡ firstOf (frameChecks f) ⌝ }
 {
@@ -173,7 +173,7 @@ fn no_sizes() -> GroupSizes
     }
 }
 
-// The sizes of a frame, or the number that it is refused with.
+// The sizes of a frame, or refusal 4 or 9.
 pub fn group_sizes(f: Frame) -> FrameAnswer
     ensures { λ r. ⌜ r ≡ frameOutcome f ⌝ }
 {
@@ -190,7 +190,7 @@ pub fn group_sizes(f: Frame) -> FrameAnswer
     }
 }
 
-// The group of a block column or row, and its cell in that group.
+// The group of a column or row of blocks and its cell in that group, or refusal 9.
 pub fn split_block(block: u32, group_size_shift: u32) -> SplitAnswer
     ensures { λ r. ⌜ r ≡ splitOutcome block «group_size_shift» ⌝ }
 {

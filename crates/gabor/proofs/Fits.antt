@@ -1,4 +1,4 @@
--- The tests of the Gabor-like pass in turn, and what an accepted one leaves. Assumes nothing.
+-- The tests of the Gabor pass in order, and the result of an accepted pass. Assumes nothing.
 use mathlib.Core.Path.{_≡_, sym, _∙_}
 use mathlib.Core.Bool.{true, false}
 use mathlib.Core.List.{List}

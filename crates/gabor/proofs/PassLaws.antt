@@ -1,4 +1,4 @@
--- What the loops over rows and planes leave is the pass over the filter region. Assumes nothing.
+-- The result of the loops over rows and planes is the pass over the filter region. Assumes nothing.
 use mathlib.Core.Path.{_≡_, sym, ap, _∙_}
 use mathlib.Core.List.{List}
 use Prim.Native.Nat.{ℕ, _+_, _-_, _*_, _<_, _≤_}
@@ -26,7 +26,7 @@ use Rattle.gabor_plane.specs.Plane.{regionRows, planeOutcome}
 use Rattle.gabor_plane.proofs.Plane.{region-true, plane-rows}
 use Rattle.gabor.specs.Pass.{passRows}
 
--- the filter region of plane c is a region of the list
+-- the filter region of plane c, as a region of the list
 module _ (l : Layout) (s : List Float) (c : ℕ) where
   pub region-sample : (w0 w1 : Float) (y x : ℕ)
       → regionSample s (regionStart l c) (l .image .width) (l .width) (l .height) w0 w1 (total w0 w1) y x
@@ -35,7 +35,7 @@ module _ (l : Layout) (s : List Float) (c : ℕ) where
   region-sample w0 w1 y x = gaborBy-same w0 w1 _ _
       (λ dx dy p q. ap (λ (i : ℕ). getD s i nan) (region-index l c (mirror (pos x +ℤ dx) (l .width)) (mirror (pos y +ℤ dy) (l .height)))) (total w0 w1) (stands (l .width) x) (stands (l .height) y)
 
--- a turn of the loop over planes
+-- an iteration of the loop over planes
 pub plane-next : (l : Layout) (ws : List (List Float)) (s d a b : List Float) (k at from m : ℕ)
     → a ≡ planesFill (l .image .width) (l .image .height) (l .left) (l .width) (l .top + from) m (passRows ws l s from) d k → at ≡ regionStart l k
     → RegionFits at (l .image .width) (l .width) (l .height) (length s) → length a ≡ length s → from + m ≤ l .height
@@ -50,7 +50,7 @@ plane-next l ws s d a b k at from m p e f len rows q =
     (q ∙ sym (plane-rows at (l .image .width) (l .width) (l .height) from m (sideWeight ws k) (diagonalWeight ws k) s a (region-true at (l .image .width) (l .width) (l .height) (length s) f) len rows)
     ∙ rw (z, e) (rows-cong a _ (l .image .width) (l .width) m _ _ (λ i x h t. region-sample l s k (sideWeight ws k) (diagonalWeight ws k) (from + i) x)))
 
--- plane c's part of the filter region is a region of the n planes
+-- the filter region's part of plane c lies within the n planes
 pub plane-region : (l : Layout) (n c : ℕ) → LayoutFits l → PlaneRoom l n c → 0 < l .width → 0 < l .height
     → RegionFits (regionStart l c) (l .image .width) (l .width) (l .height) (n * l .image .height * l .image .width)
 plane-region l n c f r w h = record {
@@ -62,7 +62,7 @@ plane-region l n c f r w h = record {
   ends = omega (arith, f .across, r .ends, row-above (l .height) (l .image .width) h);
 }
 
--- a band: copied outside the filter region, then filtered inside it
+-- a band: samples outside the filter region are copied, then those inside are filtered
 pub band-passed : (l : Layout) (n from to f t : ℕ) (ws : List (List Float)) (src dst a b : List Float) → BandFits l n from to src dst
     → a ≡ copiedOutside l n from to src dst → f ≡ filterRow l from → t ≡ filterRow l to
     → b ≡ planesFill (l .image .width) (l .image .height) (l .left) (l .width) (l .top + f) (t - f) (passRows ws l src f) a n

@@ -1,4 +1,4 @@
--- The outcome of the Gabor-like pass over rows of its result, for every input (Specification 9.3, 9.4). Definitions only; Fits.antt has its laws.
+-- The outcome of the Gabor pass over rows of the result region, for every input (Specification 9.3, 9.4). Definitions only; Fits.antt has the laws.
 use mathlib.Core.List.{List}
 use Prim.Native.Nat.{ℕ}
 use lib.Ieee.{Float}
@@ -10,11 +10,11 @@ use Rattle.planes.specs.Band.{inner, passed}
 use Rattle.planes_layout.specs.Outcome.{layoutOf, passChecks, PassOutcome, passOutcome}
 use Rattle.gabor_kernel.specs.Gabor.{gaborPass}
 
--- what an accepted pass over rows from `from` up to `to` leaves in dst: n planes, of which src is the set read
+-- the set dst of n planes after an accepted pass over the rows from `from` up to, not including, `to` that reads the set src
 abbrev pub gaborPassed : ℕ → Layout → List (List Float) → ℕ → ℕ → List Float → List Float → List Float
 gaborPassed n l ws from to src dst = passed n l from to (gaborPass ws (l .width) (l .height) (inner l src)) src dst
 
--- three planes; the number is 4, 5, 7 or 9, the first that applies, and a refused pass leaves dst
+-- three planes; the number is 4, 5, 7 or 9, the first that applies, and a refused pass leaves dst unchanged
 unfoldable pub gaborOutcome : Region → Region → ℕ → List (List Float) → ℕ → ℕ → List Float → List Float → PassOutcome
 gaborOutcome image filter full ws from to src dst =
     passOutcome (firstOf (passChecks image filter full 3 from to src dst)) (gaborPassed 3 (layoutOf image filter (flagSet full)) ws from to src dst) dst

@@ -1,4 +1,4 @@
-// The Gabor-like pass of the restoration filters over rows of a filter region that lies anywhere in an image region.
+// The pass of the Gabor-like filter (Specification 9.3, 10) over rows of the result region.
 mod pass;
 
 use pass::gabor_band;
@@ -16,9 +16,9 @@ ghost use mathlib.Core.Path.{_≡_};
 ghost use Rattle.planes_layout.specs.Outcome.{PassOutcome};
 ghost use Rattle.gabor.specs.Outcome.{gaborOutcome};
 
-// Rows `from` up to `to` of the result, which is the full planes (`preserve_outside` 1) or the filter region alone
-// (0): reads `src` and writes `dst`, sets of three planes. Weights are of the side neighbours and of the diagonal
-// ones, one pair per channel; any floats are taken.
+// Filters rows `from` up to, not including, `to` of the result region. That is the image region (`preserve_outside` 1)
+// or the filter region (0). Reads `src` and writes `dst`, sets of three planes. Each channel has two weights, of the
+// side neighbours and of the diagonal ones; any binary32 values are accepted.
 pub fn gabor_pass(
     image: Region,
     filter: Region,

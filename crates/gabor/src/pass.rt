@@ -1,4 +1,4 @@
-// The Gabor-like pass: rows of several planes, and a band with what lies outside the filter region.
+// The Gabor pass over several planes, and over a band with the samples outside the filter region.
 use gabor_plane::gabor_plane;
 use planes::Layout;
 use planes::filter_row;
@@ -12,7 +12,7 @@ ghost use Rattle.planes.specs.Fits.{LayoutFits, BandFits};
 ghost use Rattle.gabor_kernel.specs.Gabor.{gaborPass};
 ghost use Rattle.gabor.specs.Pass.{passRows};
 
-// Rows `from` to from + rows of the filter region, in the first n planes.
+// Filters `rows` rows of the filter region, from row `from`, in the first n planes.
 fn gabor_planes(
     src: &[f32],
     dst: &mut [f32],
@@ -49,7 +49,7 @@ fn gabor_planes(
     }
 }
 
-// Rows `from` to `to` of the result, in n planes.
+// Rows `from` up to, not including, `to` of the result region, in n planes.
 pub(crate) fn gabor_band(
     src: &[f32],
     dst: &mut [f32],

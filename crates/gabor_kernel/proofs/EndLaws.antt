@@ -1,4 +1,4 @@
--- Each case of where a place stands, and where its mirrored neighbours stand. Assumes nothing.
+-- Only, first, last or inner: the case of each index, and its mirrored neighbours. Assumes nothing.
 use mathlib.Core.Path.{_≡_, _∙_}
 use Prim.Native.Nat.{ℕ, _+_, _-_, _<_, _≤_}
 use native.Mathlib.Omega.{arith}
@@ -26,7 +26,7 @@ pub stands-inner : (n x : ℕ) → 0 < x → x + 1 < n → stands n x ≡ inner
 unfolding stands
 stands-inner n x p q = rw (ne-eqb n 1 (λ (e : n ≡ 1). omega arith), ne-eqb x 0 (λ (e : x ≡ 0). omega arith), ne-eqb (x + 1) n (λ (e : x + 1 ≡ n). omega arith))
 
--- ---- the mirrored neighbours of place x among n
+-- ---- the mirrored neighbours of index x among n
 
 pub before-first : (n : ℕ) → 0 < n → mirror (pos 0 +ℤ negsuc 0) n ≡ 0
 before-first n p = mirror-under n 0 p

@@ -1,5 +1,5 @@
--- A formula's exact value is the sum of its expansion, and so each row other than the only one has the mirrored kernel's samples: the two expansions
--- have the same terms in another order, which is computed. Assumes nothing.
+-- A formula's exact value is the sum of its expansion. So in exact arithmetic each row that is not the only one has the samples of the mirrored kernel: both expansions
+-- have the same terms in a different order, which is checked by computation. Assumes nothing.
 use mathlib.Core.Path.{_≡_, refl, sym, _∙_, ap, subst}
 use mathlib.Core.Bool.{Bool, true, false, cond, _&&_}
 use mathlib.Core.List.{List, [], _∷_, _++_, map}
@@ -13,7 +13,7 @@ use Rattle.gabor_kernel.specs.Formula.{Formula, one, two, three, w0, w1,
 use Rattle.gabor_kernel.specs.Mirrored.{Term, constant, times, products, expand, same, fold, mirroredKernel, Coefficient, coefficient}
 use Rattle.gabor_kernel.specs.Exact.{Arithmetic, Exact, integers, exactly, power, multiple, nineOffsets, readProduct, termValue, sumOf, weighted, weightedSum, Weighs, AsMirrored, ExpansionSums, CoefficientsWeigh, RowsMirrored, IntegersExact}
 
--- ---- the same terms in another order
+-- ---- the same terms in a different order
 
 sameReads : List (ℤ × ℤ) → List (ℤ × ℤ) → Bool
 sameReads [] [] = true
@@ -28,7 +28,7 @@ among : Term → List Term → Bool
 among s [] = false
 among s (t ∷ ts) = cond (sameTerm s t) true (among s ts)
 
--- a list without the first of its terms that is s
+-- a list without the first term equal to s
 without : Term → List Term → List Term
 without s [] = []
 without s (t ∷ ts) = cond (sameTerm s t) ts (t ∷ without s ts)
@@ -38,7 +38,7 @@ reordered [] [] = true
 reordered [] (t ∷ ts) = false
 reordered (s ∷ ss) ts = among s ts && reordered ss (without s ts)
 
--- the terms that coefficients stand for
+-- the terms that coefficients represent
 
 copies : ℕ → Term → List Term
 copies zero t = []
@@ -156,7 +156,7 @@ module _ (R : Arithmetic) (x : Exact R) (a b : R .Number) (v : ℤ → ℤ → R
   expansion (f ⊞ g) = both (R .add) (expansion f) (expansion g) ∙ sym (sum-join (expand f) (expand g))
   expansion (f ⊠ g) = both (R .mul) (expansion f) (expansion g) ∙ sym (sum-products (expand f) (expand g))
 
-  -- ---- the same terms in another order have the same sum
+  -- ---- the same terms in a different order have the same sum
 
   read-same : (os ps : List (ℤ × ℤ)) → T (sameReads os ps) → reading os ≡ reading ps
   unfolding sameReads readProduct
@@ -259,7 +259,7 @@ rows-mirrored R x a b v inner = (mirrored R x a b v inner first tt, mirrored R x
 
 -- ---- the integers
 
--- what holds of 0, of m + 1 and of m − 1 where it holds of m
+-- induction: what holds for 0, and with m for m + 1 and m − 1, holds for all integers
 induction : (P : ℤ → Type 0) → P (pos 0) → ((m : ℤ) → P m → P (sucℤ m)) → ((m : ℤ) → P m → P (predℤ m)) → (m : ℤ) → P m
 induction P z up down m = ℤ-ind P z (λ n h. subst P (sym (+ℤ-one (pos n))) (up (pos n) h)) (λ n h. subst P (sym (-ℤ-one (negℤ (pos n)))) (down (negℤ (pos n)) h)) m
 

@@ -1,4 +1,4 @@
--- The filter reads its sample and the eight neighbours alone. Assumes nothing.
+-- The filter reads only a sample and its eight neighbours. Assumes nothing.
 use mathlib.Core.Path.{_≡_, refl}
 use mathlib.Core.Bool.{Bool, true, _&&_}
 use Prim.Native.Nat.{_≤_}
@@ -11,11 +11,11 @@ use Rattle.gabor_kernel.specs.Ends.{End, only, first, last, inner}
 use Rattle.gabor_kernel.specs.Formula.{Formula, one, two, three, w0, w1, sample, _⊞_, _⊠_, evaluate, formula}
 use Rattle.gabor_kernel.specs.Gabor.{gaborBy}
 
--- two samples that see the same within one column and one row
+-- two samples with the same neighbours at most one column and one row away
 abbrev pub Alike : (ℤ → ℤ → Float) → (ℤ → ℤ → Float) → Type 0
 Alike u v = (dx dy : ℤ) → natAbs dx ≤ 1 → natAbs dy ≤ 1 → u dx dy ≡ v dx dy
 
--- each read of a formula is so near
+-- each sample that a formula reads is at most one column and one row away
 unfoldable pub near : Formula → Bool
 near one = true
 near two = true

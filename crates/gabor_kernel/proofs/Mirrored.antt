@@ -1,4 +1,4 @@
--- Apart from the order of rounding the formulas are the standard's mirrored kernel, the only row excepted; and `fold` is the mirror. Assumes nothing.
+-- Without rounding, the formulas are the standard's mirrored kernel, except for a single row; and `fold` is the mirror. Assumes nothing.
 use mathlib.Core.Path.{_≡_, refl, ap}
 use Prim.Native.Nat.{ℕ, _+_, _-_, _<_}
 use native.Mathlib.Decide.{ℕ-discrete}

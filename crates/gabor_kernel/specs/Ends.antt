@@ -1,9 +1,9 @@
--- Where a place stands among n places in a line: which of the formulas of Specification 10.4 it has. Definitions only.
+-- Whether a column or row is the only one, the first, the last or an inner one, which selects the formula (Specification 10.3, 10.4). Definitions only.
 use mathlib.Core.Bool.{cond}
 use Prim.Native.Nat.{ℕ, _+_}
 use lib.Dec.{eqb}
 
--- the only one, the first or the last of several, or one with a neighbour on each side
+-- the only one, the first or last of several, or one with a neighbour on each side
 pub data End : Type 0 where
   only first last inner : End
 

@@ -1,4 +1,4 @@
--- What the formulas and their expansion mean in exact arithmetic, beside the standard's mirrored kernel (ISO/IEC 18181-1, Gabor-like filter).
+-- The meaning of the formulas and their expansions in exact arithmetic, compared with the standard's mirrored kernel (ISO/IEC 18181-1, Gabor-like filter).
 -- proofs/Exact.antt proves the statements.
 use mathlib.Core.Path.{_≡_}
 use mathlib.Core.List.{List, [], _∷_}
@@ -39,14 +39,14 @@ unfoldable pub multiple : (R : Arithmetic) → ℕ → R .Number → R .Number
 multiple R zero x = R .nought
 multiple R (suc n) x = R .add x (multiple R n x)
 
--- where the nine samples stand, row by row
+-- the offsets of the nine samples, row by row
 abbrev pub nineOffsets : List (ℤ × ℤ)
 nineOffsets = (left, up) ∷ (pos 0, up) ∷ (right, up) ∷ (left, pos 0) ∷ (pos 0, pos 0) ∷ (right, pos 0) ∷ (left, down) ∷ (pos 0, down) ∷ (right, down) ∷ []
 
--- ---- values, the weights being a and b and the sample so many columns to the right and so many rows down being v
+-- ---- values, with weights a and b and the sample v dx dy at offset (dx, dy)
 
 module _ (R : Arithmetic) (a b : R .Number) (v : ℤ → ℤ → R .Number) where
-  -- of a formula, as `evaluate` has it with rounding
+  -- of a formula: `evaluate` without rounding
   unfoldable pub exactly : Formula → R .Number
   exactly one = R .unit
   exactly two = R .add (R .unit) (R .unit)
@@ -57,7 +57,7 @@ module _ (R : Arithmetic) (a b : R .Number) (v : ℤ → ℤ → R .Number) wher
   exactly (f ⊞ g) = R .add (exactly f) (exactly g)
   exactly (f ⊠ g) = R .mul (exactly f) (exactly g)
 
-  -- of a term: its factors multiplied
+  -- of a term: the product of its factors
   unfoldable pub readProduct : List (ℤ × ℤ) → R .Number
   readProduct [] = R .unit
   readProduct (o ∷ os) = R .mul (v (o .0) (o .1)) (readProduct os)
@@ -65,7 +65,7 @@ module _ (R : Arithmetic) (a b : R .Number) (v : ℤ → ℤ → R .Number) wher
   abbrev pub termValue : Term → R .Number
   termValue t = R .mul (R .mul (power R a (t .sides)) (power R b (t .diagonals))) (readProduct (t .reads))
 
-  -- of an expansion: its terms added
+  -- of an expansion: the sum of its terms
   unfoldable pub sumOf : List Term → R .Number
   sumOf [] = R .nought
   sumOf (t ∷ ts) = R .add (termValue t) (sumOf ts)
@@ -74,7 +74,7 @@ module _ (R : Arithmetic) (a b : R .Number) (v : ℤ → ℤ → R .Number) wher
   abbrev pub weighted : Coefficient → ℤ × ℤ → R .Number
   weighted c o = R .mul (R .add (multiple R (c .0) (R .unit)) (R .add (multiple R (c .1) a) (multiple R (c .2) b))) (v (o .0) (o .1))
 
-  -- samples, each times a formula's coefficient, added
+  -- the sum of samples, each times its coefficient in a formula
   unfoldable pub weightedSum : Formula → List (ℤ × ℤ) → R .Number
   weightedSum f [] = R .nought
   weightedSum f (o ∷ os) = R .add (weighted (coefficient f (o .0) (o .1)) o) (weightedSum f os)
@@ -83,7 +83,7 @@ module _ (R : Arithmetic) (a b : R .Number) (v : ℤ → ℤ → R .Number) wher
   abbrev pub Weighs : Formula → Type 0
   Weighs f = exactly f ≡ weightedSum f nineOffsets
 
-  -- the formula of a place is the mirrored kernel there
+  -- the formula for this column and row equals the mirrored kernel
   abbrev pub AsMirrored : End → End → Type 0
   AsMirrored col row = exactly (formula col row) ≡ exactly (mirroredKernel col row)
 
@@ -93,16 +93,16 @@ module _ (R : Arithmetic) (a b : R .Number) (v : ℤ → ℤ → R .Number) wher
 abbrev pub ExpansionSums : Type 1
 ExpansionSums = (R : Arithmetic) → Exact R → (a b : R .Number) (v : ℤ → ℤ → R .Number) (f : Formula) → exactly R a b v f ≡ sumOf R a b v (expand f)
 
--- so each formula, and the mirrored kernel of each place, is the nine samples times the coefficients
+-- so each formula, and the mirrored kernel in each case, is the sum of the nine samples times their coefficients
 abbrev pub CoefficientsWeigh : Type 1
 CoefficientsWeigh = (R : Arithmetic) → Exact R → (a b : R .Number) (v : ℤ → ℤ → R .Number) (col row : End)
     → Weighs R a b v (formula col row) × Weighs R a b v (mirroredKernel col row)
 
--- without rounding, each row other than the only one has the samples of the mirrored kernel
+-- without rounding, each row that is not the only one has the samples of the mirrored kernel
 abbrev pub RowsMirrored : Type 1
 RowsMirrored = (R : Arithmetic) → Exact R → (a b : R .Number) (v : ℤ → ℤ → R .Number) (col : End)
     → AsMirrored R a b v col first × AsMirrored R a b v col last × AsMirrored R a b v col inner
 
--- the integers are such numbers
+-- the integers satisfy these laws
 abbrev pub IntegersExact : Type 0
 IntegersExact = Exact integers

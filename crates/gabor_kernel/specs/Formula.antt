@@ -1,5 +1,5 @@
--- The sixteen formulas of Specification 10.4, one for each place of a column among the columns and of a row among the rows, in the order of sums of the original:
--- `run_gabor_row_generic` for a row with rows on both sides, `gabor_row_edge` for the first, the last and the only row.
+-- The sixteen formulas of Specification 10.4, one for each case of the column and of the row, in the original's order of sums:
+-- `run_gabor_row_generic` for inner rows, `gabor_row_edge` for the first, the last and the only row.
 use lib.IntN.{ℤ, pos, negsuc}
 use lib.Ieee.{Float}
 use Rattle.planes.specs.Samples.{_⊕_, _⊗_, b1, b2, b3}
@@ -7,14 +7,14 @@ use Rattle.gabor_kernel.specs.Ends.{End, only, first, last, inner}
 
 infixl 60 _⊞_
 infixl 70 _⊠_
--- constants, the weights of the side neighbours (w0) and of the diagonal ones (w1), the sample so many columns to the right and so many rows down,
+-- constants, the weights of the side neighbours (w0) and of the diagonal ones (w1), the sample at an offset (columns right, rows down),
 -- sums and products
 pub data Formula : Type 0 where
   one two three w0 w1 : Formula
   sample : ℤ → ℤ → Formula
   _⊞_ _⊠_ : Formula → Formula → Formula
 
--- the value in binary32: each node is rounded once, in the tree's order
+-- the value in binary32: each node is rounded once, in the order of the tree
 unfoldable pub evaluate : Float → Float → (ℤ → ℤ → Float) → Formula → Float
 evaluate a b v one = b1
 evaluate a b v two = b2
@@ -40,9 +40,9 @@ left = negsuc 0
 abbrev pub right : ℤ
 right = pos 1
 
--- ---- a row with rows on both sides
+-- ---- an inner row
 
--- the columns on either side being l and r
+-- l and r are the offsets of the left and right columns
 abbrev pub around9 : ℤ → ℤ → Formula
 around9 l r =
     centre
@@ -55,7 +55,7 @@ innerRow first = around9 right (pos 0)
 innerRow last = around9 left (pos 0)
 innerRow inner = around9 left right
 
--- ---- the first or the last of several rows: a is the way to the row beside it
+-- ---- the first or last of several rows: a is the offset of the adjacent row
 
 abbrev pub edgeEnd : ℤ → ℤ → Formula
 edgeEnd a l = centre ⊠ (one ⊞ two ⊠ w0 ⊞ w1) ⊞ (sample (pos 0) a ⊞ sample l (pos 0)) ⊠ (w0 ⊞ w1) ⊞ sample l a ⊠ w1
@@ -71,7 +71,7 @@ edgeRow a inner =
 
 -- ---- the only row
 
--- the weight of its centre, (1 + 2) + w0; the standard's mirrored kernel has 1 + 2 w0
+-- the weight of the centre, (1 + 2) + w0; the standard's mirrored kernel has 1 + 2 w0
 abbrev pub soloCentre : Formula
 soloCentre = one ⊞ two ⊞ w0
 
@@ -88,7 +88,7 @@ soloRow first = soloEnd right
 soloRow last = soloEnd left
 soloRow inner = centre ⊠ soloCentre ⊞ (sample left (pos 0) ⊞ sample right (pos 0)) ⊠ soloSide
 
--- ---- by the column's place and the row's
+-- ---- the formula for each case of the column and of the row
 
 unfoldable pub formula : End → End → Formula
 formula col only = soloRow col

@@ -1,4 +1,4 @@
--- The Gabor-like pass (Specification 10): one sample from what it sees, and the pass over a picture.
+-- The Gabor-like filter (Specification 10): one sample from its neighbours, and the pass over a picture.
 use mathlib.Core.Bool.{Bool, true, false, cond}
 use mathlib.Core.List.{List, []}
 use Prim.Native.Nat.{ℕ}
@@ -10,11 +10,11 @@ use Rattle.planes.specs.Picture.{Picture, around}
 use Rattle.gabor_kernel.specs.Ends.{End, only, first, last, inner, stands}
 use Rattle.gabor_kernel.specs.Formula.{evaluate, formula}
 
--- the reciprocal of the kernel's sum, (1 + w0 × 4) + w1 × 4
+-- the reciprocal of the sum of the kernel, (1 + w0 × 4) + w1 × 4
 abbrev pub total : Float → Float → Float
 total w0 w1 = b1 ⊘ (b1 ⊕ w0 ⊗ b4 ⊕ w1 ⊗ b4)
 
--- one sample alone
+-- the picture is a single sample
 unfoldable pub alone : End → End → Bool
 alone only only = true
 alone only first = false
@@ -24,11 +24,11 @@ alone first row = false
 alone last row = false
 alone inner row = false
 
--- the sample by its column's place and its row's, times g; one sample alone is copied
+-- the formula for this column and row, times g; a single sample is copied
 unfoldable pub gaborBy : Float → Float → Float → (ℤ → ℤ → Float) → End → End → Float
 gaborBy g w0 w1 v col row = cond (alone col row) (v (pos 0) (pos 0)) (evaluate w0 w1 v (formula col row) ⊗ g)
 
--- v has the sample so many columns to the right and so many rows down
+-- v dx dy is the sample at offset (dx, dy)
 abbrev pub gabor : Float → Float → (ℤ → ℤ → Float) → End → End → Float
 gabor w0 w1 v col row = gaborBy (total w0 w1) w0 w1 v col row
 

@@ -1,4 +1,4 @@
--- The standard's rule for the Gabor-like filter (ISO/IEC 18181-1): a mirrored 3 × 3 kernel. The sixteen formulas beside it, in exact arithmetic: each read with its coefficient.
+-- The standard's rule for the Gabor-like filter (ISO/IEC 18181-1), a mirrored 3 × 3 kernel, compared with the sixteen formulas in exact arithmetic: the coefficient of each sample.
 use mathlib.Core.Path.{_≡_}
 use mathlib.Core.Bool.{Bool, false, cond, _&&_}
 use mathlib.Core.List.{List, [], _∷_, _++_, map}
@@ -9,9 +9,9 @@ use Rattle.mirror.specs.Mirror.{mirror}
 use Rattle.gabor_kernel.specs.Ends.{End, only, first, last, inner, stands}
 use Rattle.gabor_kernel.specs.Formula.{Formula, one, two, three, w0, w1, sample, _⊞_, _⊠_, up, down, left, right, formula}
 
--- ---- the standard's kernel (ISO/IEC 18181-1, Gabor-like filter): the centre weighs 1, the side neighbours w0, the diagonal ones w1, each mirrored
+-- ---- the standard's kernel (ISO/IEC 18181-1, Gabor-like filter): the centre has weight 1, side neighbours w0, diagonal neighbours w1; neighbours are mirrored
 
--- where the mirrored neighbour at offset −1, 0 or 1 stands, counted from the sample
+-- the offset of the sample to which the neighbour at offset −1, 0 or 1 is mirrored
 unfoldable pub fold : End → ℤ → ℤ
 fold only d = pos 0
 fold first (pos n) = pos n
@@ -29,7 +29,7 @@ mirroredKernel col row =
     at : ℤ → ℤ → Formula
     at dx dy = sample (fold col dx) (fold row dy)
 
--- `fold` is the mirror: place x of n and an offset of −1, 0 or 1
+-- `fold` is the mirror, for each index x among n and the offsets −1, 0 and 1
 abbrev pub FoldMirrors : Type 0
 FoldMirrors = (n x : ℕ) → x < n → (pos x +ℤ fold (stands n x) (negsuc 0) ≡ pos (mirror (pos x +ℤ negsuc 0) n))
     × (pos x +ℤ fold (stands n x) (pos 0) ≡ pos (mirror (pos x +ℤ pos 0) n))
@@ -37,7 +37,7 @@ FoldMirrors = (n x : ℕ) → x < n → (pos x +ℤ fold (stands n x) (negsuc 0)
 
 -- ---- exact expansion
 
--- a product: so many factors w0, so many w1, and samples
+-- a product: powers of w0 and of w1, and samples
 pub record Term : Type 0 where
   pub sides : ℕ
   pub diagonals : ℕ
@@ -53,7 +53,7 @@ abbrev pub products : List Term → List Term → List Term
 products [] ts = []
 products (s ∷ ss) ts = map (times s) ts ++ products ss ts
 
--- the sum of these products is the formula, multiplied out
+-- the expansion of a formula: products whose sum it is
 unfoldable pub expand : Formula → List Term
 expand one = constant ∷ []
 expand two = constant ∷ constant ∷ []
@@ -77,7 +77,7 @@ reads-only [] dx dy = false
 reads-only (o ∷ []) dx dy = same (o .0) dx && same (o .1) dy
 reads-only (o ∷ p ∷ os) dx dy = false
 
--- how often w0 to the power i times w1 to the power j times the sample at (dx, dy) stands among the terms
+-- the number of terms w0^i × w1^j × the sample at (dx, dy)
 abbrev pub count : List Term → ℕ → ℕ → ℤ → ℤ → ℕ
 count [] i j dx dy = 0
 count (t ∷ ts) i j dx dy = cond ((eqb (t .sides) i && eqb (t .diagonals) j) && reads-only (t .reads) dx dy) 1 0 + count ts i j dx dy
@@ -89,19 +89,19 @@ Coefficient = ℕ × ℕ × ℕ
 abbrev pub coefficient : Formula → ℤ → ℤ → Coefficient
 coefficient f dx dy = (count (expand f) 0 0 dx dy, count (expand f) 1 0 dx dy, count (expand f) 0 1 dx dy)
 
--- of the nine samples, row by row
+-- the coefficients of the nine samples, row by row
 abbrev pub coefficients : Formula → List Coefficient
 coefficients f =
     coefficient f left up ∷ coefficient f (pos 0) up ∷ coefficient f right up
     ∷ coefficient f left (pos 0) ∷ coefficient f (pos 0) (pos 0) ∷ coefficient f right (pos 0)
     ∷ coefficient f left down ∷ coefficient f (pos 0) down ∷ coefficient f right down ∷ []
 
--- the number of terms that these coefficients stand for
+-- the number of terms that these coefficients represent
 abbrev pub counted : List Coefficient → ℕ
 counted [] = 0
 counted (c ∷ cs) = c .0 + c .1 + c .2 + counted cs
 
--- no other term is there
+-- there are no other terms
 abbrev pub Linear : Formula → Type 0
 Linear f = counted (coefficients f) ≡ number (expand f)
   where
@@ -111,15 +111,15 @@ Linear f = counted (coefficients f) ≡ number (expand f)
 
 -- ---- the statements, proved in proofs/Mirrored.antt
 
--- a row other than the only one: the formula has the coefficients of the mirrored kernel, and no other term
+-- a row that is not the only one: the formula has the coefficients of the mirrored kernel, and no other terms
 abbrev pub IsMirrored : End → End → Type 0
 IsMirrored col row = (coefficients (formula col row) ≡ coefficients (mirroredKernel col row)) × Linear (formula col row)
 
 abbrev pub KernelMirrored : Type 0
 KernelMirrored = (col : End) → IsMirrored col first × IsMirrored col last × IsMirrored col inner
 
--- the only row: the coefficients of the sample to the left, of the sample itself and of the one to the right, ours and then the mirrored kernel's.
--- The centre has 3 + w0 for 1 + 2 w0 (at an end each plus w0 + 2 w1); the neighbours agree.
+-- a single row: the coefficients of the left neighbour, the centre and the right neighbour, first ours, then the mirrored kernel's.
+-- The centre has 3 + w0 instead of 1 + 2 w0 (at an end each plus w0 + 2 w1); the neighbours agree.
 abbrev pub middle3 : Formula → List Coefficient
 middle3 f = coefficient f left (pos 0) ∷ coefficient f (pos 0) (pos 0) ∷ coefficient f right (pos 0) ∷ []
 
@@ -130,6 +130,6 @@ SingleRowDiffers =
     × (middle3 (formula last only) ≡ (0, 1, 2) ∷ (3, 2, 2) ∷ (0, 0, 0) ∷ []) × (middle3 (mirroredKernel last only) ≡ (0, 1, 2) ∷ (1, 3, 2) ∷ (0, 0, 0) ∷ [])
     × Linear (formula inner only) × Linear (formula first only) × Linear (formula last only)
 
--- one sample alone: the mirrored kernel gives it the whole sum 1 + 4 w0 + 4 w1, by which it is divided, so that it is copied
+-- a single sample: the mirrored kernel gives it the weight 1 + 4 w0 + 4 w1, which is the divisor too, so it is copied
 abbrev pub AloneCopied : Type 0
 AloneCopied = middle3 (mirroredKernel only only) ≡ (0, 0, 0) ∷ (1, 4, 4) ∷ (0, 0, 0) ∷ []

@@ -1,4 +1,4 @@
--- When rows of one plane fit, and what the loop over them leaves. Assumes nothing.
+-- When rows of one plane fit, and the result of the loop over them. Assumes nothing.
 use mathlib.Core.Path.{_≡_}
 use mathlib.Core.Bool.{true, false, _&&_}
 use mathlib.Core.List.{List}

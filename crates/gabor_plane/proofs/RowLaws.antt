@@ -1,4 +1,4 @@
--- The samples that the row functions compute are the pass's. Assumes nothing.
+-- The row functions compute the samples of the pass. Assumes nothing.
 use mathlib.Core.Path.{_≡_, refl, sym, _∙_}
 use mathlib.Core.List.{List}
 use Prim.Native.Nat.{ℕ, zero, suc, _+_, _-_, _*_, _<_, _≤_}
@@ -43,7 +43,7 @@ module _ (s : List Float) (t c b w : ℕ) (w0 w1 g : Float) (row : End) where
       let d : w - 1 - 1 ≡ w - 2 = omega arith in
       rw (stands-last w (w - 1) p (omega arith), before-other w (w - 1) (omega arith) (omega arith), after-last w (w - 1) (omega arith), d)
 
-  -- a row's samples, its ends written apart
+  -- the samples of a row whose ends are written separately
   pub row-one : (d : List Float) (o : ℕ) (v : Float) → w ≡ 1 → v ≡ gaborBy g w0 w1 (column s t c b) only row → set d o v ≡ fill d o w (rowSample s t c b w w0 w1 g row)
   row-one d o v p e = row-of-one d o w (rowSample s t c b w w0 w1 g row) v p (e ∙ sym (at-only p))
 
@@ -53,15 +53,15 @@ module _ (s : List Float) (t c b w : ℕ) (w0 w1 g : Float) (row : End) where
   row-more d o v u n p e f h =
       row-of-more d o w (rowSample s t c b w w0 w1 g row) (innerSample s t c b w0 w1 g row) v u n p (e ∙ sym (at-first p)) f (λ j l. sym (at-inner j l)) (h ∙ sym (at-last p))
 
--- ---- the same from what the code computes at the ends
+-- ---- the same, with the ends as the code computes them
 module _ (s : List Float) (w : ℕ) (w0 w1 g : Float) (d : List Float) (o : ℕ) (v u : Float) (n : List Float) (p : 2 ≤ w) where
-  -- rows on both sides: an end is an inner column whose missing neighbour is itself, the other one standing first
+  -- an inner row: an end is computed like an inner column whose missing neighbour is the end sample; its only neighbour comes first
   pub inner-more : (t c b : ℕ) → v ≡ gaborBy g w0 w1 (taps s t c b 1 0 0) inner inner → n ≡ fill (set d o v) (o + 1) (w - 2) (innerSample s t c b w0 w1 g inner)
       → u ≡ gaborBy g w0 w1 (taps s t c b (w - 2) (w - 1) (w - 1)) inner inner → set n (o + (w - 1)) u ≡ fill d o w (rowSample s t c b w w0 w1 g inner)
   unfolding gaborBy alone evaluate formula nine pick
   inner-more t c b e f h = row-more s t c b w w0 w1 g inner d o v u n p e f h
 
-  -- the first, the last or the only row: the first column is the last one of the row turned round
+  -- the first, last or only row: the first column is computed like the last column of the reversed row
   pub edge-more : (c a : ℕ) → v ≡ gaborBy g w0 w1 (taps s a c a 1 0 0) last first → n ≡ fill (set d o v) (o + 1) (w - 2) (innerSample s a c a w0 w1 g first)
       → u ≡ gaborBy g w0 w1 (taps s a c a (w - 2) (w - 1) (w - 1)) last first → set n (o + (w - 1)) u ≡ fill d o w (rowSample s a c a w w0 w1 g first)
   unfolding gaborBy alone evaluate formula nine pick
@@ -72,12 +72,12 @@ module _ (s : List Float) (w : ℕ) (w0 w1 g : Float) (d : List Float) (o : ℕ)
   unfolding gaborBy alone evaluate formula nine pick
   solo-more c e f h = row-more s c c c w w0 w1 g only d o v u n p e f h
 
--- one sample alone
+-- a single sample
 pub solo-one : (s : List Float) (c w : ℕ) (w0 w1 g : Float) (d : List Float) (o : ℕ) → w ≡ 1 → set d o (getD s c nan) ≡ fill d o w (rowSample s c c c w w0 w1 g only)
 unfolding gaborBy alone nine pick
 solo-one s c w w0 w1 g d o p = row-one s c c c w w0 w1 g only d o (getD s c nan) p refl
 
--- the rows on either side are the mirrored ones
+-- the adjacent rows are the mirrored ones
 pub region-row : (s : List Float) (at stride w h : ℕ) (w0 w1 g : Float) (y x : ℕ) → x < w → y < h
     → rowSample s (at + mirror (pos y +ℤ negsuc 0) h * stride) (at + y * stride) (at + mirror (pos y +ℤ pos 1) h * stride) w w0 w1 g (stands h y) x
     ≡ regionSample s at stride w h w0 w1 g y x
@@ -106,9 +106,9 @@ region-row s at stride w h w0 w1 g y x p q = gaborBy-same w0 w1 _ _ each g (stan
     each (negsuc zero) (pos (suc (suc n))) i j = absurd (omega arith)
     each (negsuc zero) (negsuc (suc n)) i j = absurd (omega arith)
 
--- ---- the four places of a row among the rows: which rows its formula reads
+-- ---- the four cases of a row, and the rows that its formula reads
 module _ (s : List Float) (t u c b w : ℕ) (w0 w1 g : Float) (x : ℕ) where
-  -- the last row reads the row above it as the first row reads the one below it
+  -- the last row reads the row above it in the same way as the first row reads the one below
   last-reads : rowSample s t c b w w0 w1 g first x ≡ rowSample s b c u w w0 w1 g last x
   unfolding rowSample gaborBy alone evaluate formula nine pick
   last-reads = go (stands w x)
@@ -120,7 +120,7 @@ module _ (s : List Float) (t u c b w : ℕ) (w0 w1 g : Float) (x : ℕ) where
       go last = refl
       go inner = refl
 
--- the first row reads none above it
+-- the first row reads no row above it
 first-reads : (s : List Float) (t u c b w : ℕ) (w0 w1 g : Float) (x : ℕ) → rowSample s t c b w w0 w1 g first x ≡ rowSample s u c b w w0 w1 g first x
 first-reads s t u c b w w0 w1 g x = last-reads s t u c b w w0 w1 g x ∙ sym (last-reads s u u c b w w0 w1 g x)
 
@@ -137,11 +137,11 @@ row-above (suc y) stride p = let e : suc y - 1 ≡ y = omega arith in rw e (suc-
 pub row-below : (y stride : ℕ) → (y + 1) * stride ≡ y * stride + stride
 row-below y stride = let e : y + 1 ≡ suc y = omega arith in rw e (suc-mul y stride)
 
--- where a row would start that follows the last one
+-- the start of the row after the last one
 pub start-room : (at stride w h len y : ℕ) → RegionFits at stride w h len → y ≤ h → at + y * stride ≤ len + stride
 start-room at stride w h len y f p = omega (arith, f .ends, row-above h stride (f .high), mul-le-mul-right stride p)
 
--- ---- what each row function writes is the region's row
+-- ---- each row function writes the row of the region
 module _ (s : List Float) (at stride w h : ℕ) (w0 w1 g : Float) (y x o : ℕ) (p : x < w) (q : y < h) (e : o ≡ at + y * stride) where
   pub region-only : h ≡ 1 → rowSample s o o o w w0 w1 g only x ≡ regionSample s at stride w h w0 w1 g y x
   region-only z =

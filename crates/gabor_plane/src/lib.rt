@@ -1,4 +1,4 @@
-// The Gabor-like filter on one plane: rows of a region that lies in a slice.
+// The Gabor-like filter on one plane: rows of a region of a slice.
 mod reads;
 mod rows;
 
@@ -13,8 +13,8 @@ ghost use Rattle.gabor_kernel.specs.Gabor.{total};
 ghost use Rattle.gabor_plane.specs.Rows.{RegionFits};
 ghost use Rattle.gabor_plane.specs.Plane.{regionRows, regionFits, planeOutcome};
 
-// Rows `from` to from + n of a region of w columns and h rows whose first row starts at index `at`, each next one a
-// stride later.
+// Filters n rows, from row `from`, of a region of w columns and h rows. Row y of it starts at index at + y * stride of
+// both slices.
 fn gabor_rows(
     src: &[f32],
     dst: &mut [f32],
@@ -41,7 +41,7 @@ fn gabor_rows(
     }
 }
 
-// Whether such a region lies in a slice of that length.
+// Whether such a region, with sides of 1 to 16,384 and w <= stride <= 16,384, lies in a slice of length len.
 fn region_fits(at: usize, stride: usize, w: usize, h: usize, len: usize) -> bool
     ensures { λ r. ⌜ r ≡ regionFits at stride w h len ⌝ }
 {
@@ -67,8 +67,8 @@ fn region_fits(at: usize, stride: usize, w: usize, h: usize, len: usize) -> bool
     at <= len - span
 }
 
-// Those rows, written where they are read from. Nothing where the region does not lie in both slices, which have one
-// length, or has no such rows.
+// Filters n rows of a region, as above. Does nothing if the slices have different lengths, the region does not lie in
+// them, or it has no such rows.
 pub fn gabor_plane(
     src: &[f32],
     dst: &mut [f32],

@@ -1,6 +1,6 @@
-// Samples of the Gabor-like filter from a read-only slice: indices and no formula.
-// t, c and b are the starts of the row above, the row itself and the row below; l, m and r the columns to the left,
-// here and to the right.
+// Samples of the Gabor-like filter from a slice: only indices, no formulas.
+// t, c and b are the indices where the row above, the row itself and the row below start; l, m and r are the left
+// column, this column and the right column.
 use gabor_kernel::edge2;
 use gabor_kernel::edge4;
 use gabor_kernel::edge6;
@@ -15,7 +15,7 @@ ghost use Rattle.gabor_kernel.specs.Ends.{only, first, last, inner};
 ghost use Rattle.gabor_kernel.specs.Gabor.{gaborBy};
 ghost use Rattle.gabor_plane.specs.Rows.{taps, column};
 
-// A row with rows on both sides.
+// An inner row.
 pub(crate) fn tap_at(
     src: &[f32],
     t: usize,
@@ -49,7 +49,7 @@ pub(crate) fn tap_at(
     )
 }
 
-// The same where the row has one column.
+// An inner row of a single column.
 pub(crate) fn lone_at(src: &[f32], t: usize, c: usize, b: usize, w0: f32, w1: f32, g: f32) -> f32
     requires { ⌜ (t < length (now src)) × (c < length (now src)) × (b < length (now src)) ⌝ }
     ensures { λ v. ⌜ v ≡ gaborBy g w0 w1 (column (now (src .entry)) t c b) only inner ⌝ }
@@ -57,7 +57,7 @@ pub(crate) fn lone_at(src: &[f32], t: usize, c: usize, b: usize, w0: f32, w1: f3
     lone3(src[t], src[c], src[b], w0, w1, g)
 }
 
-// The first or the last of several rows: a is the start of the row beside it.
+// The first or last of several rows; a is the start of the adjacent row.
 pub(crate) fn edge_at(
     src: &[f32],
     c: usize,
@@ -86,7 +86,7 @@ pub(crate) fn edge_at(
     )
 }
 
-// The same at an end of the row, m, whose one neighbour is l.
+// An end m of the first or last row; l is its only neighbour.
 pub(crate) fn edge_end(
     src: &[f32],
     c: usize,
@@ -103,7 +103,7 @@ pub(crate) fn edge_end(
     edge4(src[a + l], src[a + m], src[c + l], src[c + m], w0, w1, g)
 }
 
-// The same where the row has one column.
+// The first or last row of a single column.
 pub(crate) fn edge_lone(src: &[f32], c: usize, a: usize, w0: f32, w1: f32, g: f32) -> f32
     requires { ⌜ (c < length (now src)) × (a < length (now src)) ⌝ }
     ensures { λ v. ⌜ v ≡ gaborBy g w0 w1 (column (now (src .entry)) a c a) only first ⌝ }
@@ -111,7 +111,7 @@ pub(crate) fn edge_lone(src: &[f32], c: usize, a: usize, w0: f32, w1: f32, g: f3
     edge2(src[a], src[c], w0, w1, g)
 }
 
-// The only row.
+// A single row.
 pub(crate) fn solo_at(
     src: &[f32],
     c: usize,
@@ -128,7 +128,7 @@ pub(crate) fn solo_at(
     solo3(src[c + l], src[c + m], src[c + r], w0, w1, g)
 }
 
-// The same at an end of the row, m, whose one neighbour is l.
+// An end m of a single row; l is its only neighbour.
 pub(crate) fn solo_end(src: &[f32], c: usize, l: usize, m: usize, w0: f32, w1: f32, g: f32) -> f32
     requires { ⌜ (c + l < length (now src)) × (c + m < length (now src)) ⌝ }
     ensures { λ v. ⌜ v ≡ gaborBy g w0 w1 (taps (now (src .entry)) c c c l m m) last only ⌝ }

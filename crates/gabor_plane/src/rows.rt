@@ -1,5 +1,5 @@
-// Rows of the Gabor-like filter: loops that store what the kernel functions compute.
-// Each row is written at index o; c is its start in `src`, and w its number of columns.
+// Rows of the Gabor-like filter: loops that store the samples of the kernel functions.
+// Each row is written at index o. c is the index of its start in `src`, w its number of columns.
 use crate::reads::edge_at;
 use crate::reads::edge_end;
 use crate::reads::edge_lone;
@@ -14,7 +14,7 @@ ghost use Rattle.planes.specs.Fill.{fill};
 ghost use Rattle.gabor_kernel.specs.Ends.{only, first, inner};
 ghost use Rattle.gabor_plane.specs.Rows.{innerSample, rowSample, regionSample, RegionFits};
 
-// n columns that have neighbours on both sides, of a row between the rows at t and b.
+// n columns with neighbours on both sides, in an inner row between the rows at t and b.
 fn tap_run(
     src: &[f32],
     dst: &mut [f32],
@@ -37,7 +37,7 @@ fn tap_run(
     }
 }
 
-// The same of the first or the last row, beside the row at a.
+// The same in the first or last row, next to the row at a.
 fn edge_run(
     src: &[f32],
     dst: &mut [f32],
@@ -59,7 +59,7 @@ fn edge_run(
     }
 }
 
-// The same of the only row.
+// The same in a single row.
 fn solo_run(src: &[f32], dst: &mut [f32], c: usize, o: usize, n: usize, w0: f32, w1: f32, g: f32)
     requires { ⌜ (c + n + 2 ≤ length (now src)) × (o + n ≤ length (now dst)) ⌝ }
     ensures { λ _. ⌜ now (dst .exit) ≡ fill (now (dst .entry)) o n (innerSample (now (src .entry)) c c c w0 w1 g only) ⌝ }
@@ -71,7 +71,7 @@ fn solo_run(src: &[f32], dst: &mut [f32], c: usize, o: usize, n: usize, w0: f32,
     }
 }
 
-// A row between the rows at t and b.
+// An inner row, between the rows at t and b.
 fn gabor_row(
     src: &[f32],
     dst: &mut [f32],
@@ -96,7 +96,7 @@ fn gabor_row(
     dst[o + (w - 1)] = tap_at(src, t, c, b, w - 2, w - 1, w - 1, w0, w1, g);
 }
 
-// The first or the last of several rows, beside the row at a.
+// The first or last of several rows, next to the row at a.
 fn gabor_row_edge(
     src: &[f32],
     dst: &mut [f32],
@@ -120,7 +120,7 @@ fn gabor_row_edge(
     dst[o + (w - 1)] = edge_end(src, c, a, w - 2, w - 1, w0, w1, g);
 }
 
-// The only row. One sample alone is copied.
+// A single row. A single sample is copied.
 fn gabor_row_solo(
     src: &[f32],
     dst: &mut [f32],
@@ -143,8 +143,8 @@ fn gabor_row_solo(
     dst[o + (w - 1)] = solo_end(src, c, w - 2, w - 1, w0, w1, g);
 }
 
-// Row y of a region of w columns and h rows whose first row starts at index `at`, each next one a stride later: this
-// one at o, in both slices.
+// Row y of a region of w columns and h rows that starts at index `at`, each row a stride after the previous one. Row y
+// starts at o in both slices.
 pub(crate) fn region_row(
     src: &[f32],
     dst: &mut [f32],

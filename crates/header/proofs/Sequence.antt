@@ -1,4 +1,4 @@
--- One bundle after the other, told apart by the number of its answer. Assumes nothing.
+-- One bundle after the other; the number of its answer says whether a bundle is accepted. Assumes nothing.
 use Prim.Native.Nat.{ℕ}
 use mathlib.Core.Bool.{Bool, true, false, cond}
 use mathlib.Core.List.{List}
@@ -19,7 +19,7 @@ use Rattle.header_fields.proofs.Rows.{read-nested}
 use Rattle.header_fields.proofs.Numbered.{Numbered, read-told}
 use Rattle.header_epf_tables.proofs.Told.{is-accepted, is-refused}
 
--- ---- the two tables
+-- ---- the tables of both bundles
 numbered-gabor : Numbered gaborFields
 unfolding Numbered nested channelFields channelsFields weightFields gaborFields
 numbered-gabor v = by (yes v)
@@ -36,7 +36,7 @@ numbered-epf e v = by (yes v)
     by true = λ a b c d f g h i j k l. tt
     by false = tt
 
--- ---- what an answer says
+-- ---- what the number of an answer says of the reading
 module _ (s : List ℕ) (p : ℕ) where
   module _ (a : GaborAnswer) (is : a ≡ gaborAnswer (read gaborFields s p)) where
     pub gabor-accepted : a .number ≡ 0 → read gaborFields s p ≡ accepted (a .gabor) (a .next)
@@ -58,7 +58,7 @@ module _ (s : List ℕ) (p : ℕ) where
     epf-refused h =
         is-refused (read (epfFields e) s p) (λ z. h (ap (λ (b : EpfAnswer). b .number) is ∙ z)) ∙ sym (ap (λ (b : EpfAnswer). refused (b .number)) is)
 
-  -- ---- both
+  -- ---- both bundles
   module _ (e : Encoding) where
     pub first-refused : {n : ℕ} → read gaborFields s p ≡ refused n → refused n ≡ read (restorationFields e) s p
     unfolding read restorationFields

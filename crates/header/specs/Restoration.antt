@@ -1,4 +1,4 @@
--- Both bundles in sequence (Specification 5.10), as `RestorationFilter` has them (without `all_default` and extensions).
+-- The Gabor bundle and then the EPF bundle (Specification 5.10), as in the original's `RestorationFilter` (without `all_default` and extensions).
 use Prim.Native.Nat.{ℕ}
 use mathlib.Core.List.{List}
 use Rattle.header_bits.specs.Outcome.{Outcome, number, value, next}
@@ -23,6 +23,6 @@ restorationFields e =
 abbrev pub restorationAt : Encoding → List ℕ → ℕ → Outcome RestorationFilter
 restorationAt e = read (restorationFields e)
 
--- number, fields and next place; a refusal has 0 in all fields
+-- number, fields and next position; a refusal has 0 in all fields
 abbrev pub restorationAnswer : Outcome RestorationFilter → RestorationAnswer
 restorationAnswer o = record { number = number o; filter = value (bothOf gaborOff epfOff) o; next = next o }

@@ -1,5 +1,5 @@
-// Both filter bundles of a frame header in sequence, as `RestorationFilter` has them (without `all_default` and
-// extensions).
+// The Gabor bundle and then the EPF bundle of a frame header, as in the original's `RestorationFilter` (without
+// `all_default` and extensions).
 ghost use mathlib.Core.Path.{_≡_};
 ghost use Rattle.header_bits.specs.Outcome.{refused};
 ghost use Rattle.header.specs.Restoration.{restorationAt, restorationAnswer};
@@ -34,7 +34,7 @@ fn restoration_refused(number: u32) -> RestorationAnswer
 }
 
 impl RestorationFilter {
-    // Both bundles in sequence, or 7, 1, 2, 3.
+    // Reads the Gabor bundle and then the EPF bundle, or refuses with 7, 1, 2 or 3.
     pub fn parse(bytes: &[u8], at: usize, encoding: Encoding) -> RestorationAnswer
         ensures { λ r. ⌜ r ≡ restorationAnswer (restorationAt encoding (now (bytes .entry)) at) ⌝ }
     {

@@ -1,4 +1,4 @@
--- A field of bits from its last bit to its first. Assumes nothing.
+-- A field read from its last bit to its first. Assumes nothing.
 use Prim.Native.Nat.{ℕ, zero, suc, _+_, _-_, _*_, _^_, _<_, _≤_}
 use mathlib.Core.List.{List}
 use mathlib.Core.Path.{_≡_, ap, _∙_}
@@ -15,7 +15,7 @@ field-below s p (suc n) = omega (arith, field-below s (p + 1) n, pow-suc 2 n)
 pub field-within : (s : List ℕ) (p n m : ℕ) → n ≤ m → field s p n < 2 ^ m
 field-within s p n m h = omega (arith, field-below s p n, pow-mono {i = n} {j = m} h)
 
--- the loop of `field_at`: nothing read, one bit more before what was read, all read
+-- the loop of `field_at`: no bit is read, one more bit is read, all bits are read
 pub field-none : (s : List ℕ) (p n : ℕ) → 0 ≡ field s p (n - n)
 unfolding field
 field-none s p n = ap (field s p) e

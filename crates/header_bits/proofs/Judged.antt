@@ -1,4 +1,4 @@
--- What `u` comes to in each case of `read_bits`, and what an accepted field is. Assumes nothing.
+-- The value of `u` in each case of `read_bits`, and the value of an accepted field. Assumes nothing.
 use Prim.Native.Nat.{ℕ, _+_, _*_, _^_, _<_, _≤_}
 use mathlib.Core.Bool.{Bool, true, false, cond}
 use mathlib.Core.List.{List}

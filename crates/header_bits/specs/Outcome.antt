@@ -1,4 +1,4 @@
--- What a reader of the header comes to (Specification 3.3, 5.3): an accepted reading has number 0, what was read and the next bit place; a refusal has its number and 0 in all else.
+-- The outcome of a header reader (Specification 3.3, 5.3): an accepted reading has number 0, the value and the next bit position; a refusal has its number and 0 in all other fields.
 use Prim.Native.Nat.{ℕ}
 use mathlib.Core.Bool.{cond}
 use lib.Dec.{eqb}
@@ -7,7 +7,7 @@ pub data Outcome (A : Type 0) : Type 0 where
   accepted : A → ℕ → Outcome A
   refused : ℕ → Outcome A
 
--- number, value and next position (Specification 5.3), `zero` standing for 0 in all fields of what is read
+-- number, value and next position (Specification 5.3); `zero` is the value that a refusal has
 abbrev pub number : {A : Type 0} → Outcome A → ℕ
 number (accepted a next) = 0
 number (refused n) = n
@@ -20,11 +20,11 @@ abbrev pub next : {A : Type 0} → Outcome A → ℕ
 next (accepted a n) = n
 next (refused n) = 0
 
--- a reading that a number judges: 0 accepts it
+-- a reading is accepted if its number is 0 and refused with it otherwise
 abbrev pub judged : {A : Type 0} → ℕ → A → ℕ → Outcome A
 judged n a next = cond (eqb n 0) (accepted a next) (refused n)
 
--- one reading after another: the second starts where the first ended, and a refusal ends all
+-- one reading after another: the second starts where the first ends, and a refusal ends the sequence
 abbrev pub andThen : {A B : Type 0} → Outcome A → (A → ℕ → Outcome B) → Outcome B
 andThen (accepted a next) k = k a next
 andThen (refused n) k = refused n

@@ -1,4 +1,4 @@
-// Fields of bits of a header, read at any bit place.
+// Bit fields of a header, read from any bit position.
 ghost use mathlib.Core.Path.{_≡_};
 ghost use Prim.Native.Nat.{_+_, _*_, _<_, _≤_};
 ghost use lib.ListN.{length};
@@ -7,7 +7,7 @@ ghost use Rattle.header_bits.specs.Bits.{bit, field, u, bitsOutcome};
 // The longest header slice, in bytes.
 const MAX_BYTES: usize = 65536;
 
-// A field of bits: its value and the next bit place, or the number of a refusal.
+// A bit field: its value and the next bit position, or the number of a refusal.
 pub enum Bits {
     Value(u32, usize),
     Refused(u32),
@@ -22,7 +22,7 @@ fn bit_at(bytes: &[u8], at: usize) -> u32
     (byte >> (at % 8)) % 2
 }
 
-// Bits from the last, which is the highest, to the first.
+// Reads the field from its last bit, the most significant, to its first.
 fn field_at(bytes: &[u8], at: usize, width: usize) -> u32
     requires { ⌜ (length (now bytes) ≤ 65536) × (at + width ≤ length (now bytes) * 8) × (width ≤ 32) ⌝ }
     ensures { λ r. ⌜ r ≡ field (now (bytes .entry)) at width ⌝ }
@@ -54,28 +54,28 @@ fn read_bits(bytes: &[u8], at: usize, width: usize) -> Bits
     Bits::Value(value, at + width)
 }
 
-// A bit and the next place, or 7, 1.
+// One bit and the next position, or refusal 7 or 1.
 pub fn read_u1(bytes: &[u8], at: usize) -> Bits
     ensures { λ r. ⌜ bitsOutcome r ≡ u 1 (now (bytes .entry)) at ⌝ }
 {
     read_bits(bytes, at, 1)
 }
 
-// Two bits and the next place, or 7, 1.
+// Two bits and the next position, or refusal 7 or 1.
 pub fn read_u2(bytes: &[u8], at: usize) -> Bits
     ensures { λ r. ⌜ bitsOutcome r ≡ u 2 (now (bytes .entry)) at ⌝ }
 {
     read_bits(bytes, at, 2)
 }
 
-// 16 bits and the next place, or 7, 1.
+// 16 bits and the next position, or refusal 7 or 1.
 pub fn read_u16(bytes: &[u8], at: usize) -> Bits
     ensures { λ r. ⌜ bitsOutcome r ≡ u 16 (now (bytes .entry)) at ⌝ }
 {
     read_bits(bytes, at, 16)
 }
 
-// 32 bits and the next place, or 7, 1.
+// 32 bits and the next position, or refusal 7 or 1.
 pub fn read_u32(bytes: &[u8], at: usize) -> Bits
     ensures { λ r. ⌜ bitsOutcome r ≡ u 32 (now (bytes .entry)) at ⌝ }
 {

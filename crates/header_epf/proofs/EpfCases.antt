@@ -1,4 +1,4 @@
--- The table of the edge-preserving filter bundle, piece by piece and case by case as the code reads it. Assumes nothing.
+-- The table of the EPF bundle, in the parts and cases in which the code reads it. Assumes nothing.
 use Prim.Native.Nat.{ℕ}
 use mathlib.Core.Bool.{Bool, cond}
 use mathlib.Core.List.{List}
@@ -18,7 +18,7 @@ use Rattle.header_fields.proofs.Rows.{is-yes, is-no, read-nested}
 
 module _ (s : List ℕ) (p : ℕ) where
   module _ (e : Encoding) where
-    -- ---- below the two arrays; k says whether `quant_mul` may be there, b whether `sigma_for_modular` is
+    -- ---- the fields after the two arrays; k: `quant_mul` may be present, b: `sigma_for_modular` is
     module _ (n : ℕ) (l c : List Float) (k : Bool) (var-dct : k ≡ varDct e) where
       pub settings-refused : {m : ℕ} → read (sigmaFields k) s p ≡ refused m → refused m ≡ read (settingFields e n l c) s p
       unfolding read settingFields
@@ -34,7 +34,7 @@ module _ (s : List ℕ) (p : ℕ) where
       unfolding read settingFields
       settings b here h m = rw (read-nested, ← var-dct, h, ← here, m)
 
-    -- ---- a filter that is on: the standard's rows are those of the pieces
+    -- ---- a filter that is on: the standard's table is the sequence of its parts
     module _ (n : ℕ) (k : Bool) (var-dct : k ≡ varDct e) where
       pieces : nested (sharpFields (varDct e) sharpLut) (λ l. nested (scaleFields channelScale) (λ c. settingFields e n l c)) ≡ parameterFields e n
       unfolding nested sharpFields customScaleFields scaleFields customSigmaFields sigmaFields settingFields parameterFields

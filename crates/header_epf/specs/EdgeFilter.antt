@@ -1,4 +1,4 @@
--- The edge-preserving filter bundle (Specification 5.6–5.8; ISO/IEC 18181-1, restoration filter, the fields `epf_iters` to `epf_sigma_for_modular`).
+-- The EPF bundle (Specification 5.6–5.8; ISO/IEC 18181-1, restoration filter, the fields `epf_iters` to `epf_sigma_for_modular`).
 use Prim.Native.Nat.{ℕ}
 use mathlib.Core.Bool.{Bool, true, false, cond, _&&_}
 use mathlib.Core.List.{List, [], _∷_}
@@ -20,7 +20,7 @@ abbrev pub modular : Encoding → Bool
 modular VarDct = false
 modular Modular = true
 
--- ---- defaults, by their bits
+-- ---- defaults, as bits
 -- 0, 1/7, 2/7, 3/7, 4/7, 5/7, 6/7, 1
 abbrev pub sharpLut : List Float
 sharpLut =
@@ -56,7 +56,7 @@ epfOff =
 abbrev pub epfWith : ℕ → List Float → List Float → EpfSigma → Float → EdgePreservingFilter
 epfWith n l c s m = record { enabled = true; iters = n; «sharp_lut» = l; «channel_scale» = c; sigma = s; «sigma_for_modular» = m }
 
--- a filter that is on, with so many iterations
+-- the fields of a filter that is on, with the given number of iterations
 unfoldable pub parameterFields : Encoding → ℕ → Fields EdgePreservingFilter
 parameterFields e iters =
     -- condition, width and default, field
@@ -81,6 +81,6 @@ epfFields e =
 abbrev pub epfAt : Encoding → List ℕ → ℕ → Outcome EdgePreservingFilter
 epfAt e = read (epfFields e)
 
--- number, fields and next place; a refusal has 0 in all fields
+-- number, fields and next position; a refusal has 0 in all fields
 abbrev pub epfAnswer : Outcome EdgePreservingFilter → EpfAnswer
 epfAnswer o = record { number = number o; epf = value epfOff o; next = next o }

@@ -1,4 +1,4 @@
--- The rows below the two arrays, which the code reads by a function of its own.
+-- The fields after the two arrays, which a separate function of the code reads.
 use Prim.Native.Nat.{ℕ}
 use mathlib.Core.List.{List}
 use lib.Ieee.{Float}

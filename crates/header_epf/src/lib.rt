@@ -1,4 +1,4 @@
-// The edge-preserving filter bundle of a frame header, read at any bit place.
+// The edge-preserving filter (EPF) bundle of a frame header, read from any bit position.
 ghost use mathlib.Core.Path.{_≡_};
 ghost use Rattle.header_bits.specs.Outcome.{refused};
 ghost use Rattle.header_fields.specs.Fields.{read};
@@ -35,7 +35,7 @@ pub struct EpfAnswer {
     pub next: usize,
 }
 
-// 0, 1/7, 2/7 and so on to 1.
+// The default sharpness table: 0, 1/7, 2/7, …, 1.
 const SHARP_LUT: [f32; 8] = [
     0.0,
     0.14285715,
@@ -81,7 +81,7 @@ fn epf_refused(number: u32) -> EpfAnswer
     epf_answer(number, EdgePreservingFilter::off(), 0)
 }
 
-// The sigma settings and `sigma_for_modular`, below the two arrays.
+// Reads the fields after the two arrays: the sigma settings and `sigma_for_modular`.
 fn epf_settings(
     bytes: &[u8],
     at: usize,
@@ -142,7 +142,7 @@ fn epf_parameters(bytes: &[u8], at: usize, encoding: Encoding, iters: u32) -> Ep
 }
 
 impl EdgePreservingFilter {
-    // A filter that is off has zeros in its fields.
+    // A filter that is off: zeros in all fields (Specification 5.8).
     pub fn off() -> EdgePreservingFilter
         ensures { λ r. ⌜ r ≡ epfOff ⌝ }
     {
@@ -164,7 +164,7 @@ impl EdgePreservingFilter {
         }
     }
 
-    // The bundle by its table, or 7, 1, 2.
+    // Reads the EPF bundle (Specification 5.6), or refuses with 7, 1 or 2.
     pub fn parse(bytes: &[u8], at: usize, encoding: Encoding) -> EpfAnswer
         ensures { λ r. ⌜ r ≡ epfAnswer (epfAt encoding (now (bytes .entry)) at) ⌝ }
     {

@@ -1,4 +1,4 @@
--- The rows of the sigma settings case by case, as the code reads them. Assumes nothing.
+-- The fields of the sigma settings, in the cases in which the code reads them. Assumes nothing.
 use Prim.Native.Nat.{ℕ}
 use mathlib.Core.Bool.{Bool, true}
 use mathlib.Core.List.{List}
@@ -12,7 +12,7 @@ use Rattle.header_epf_sigma.specs.Settings.{quantMul, pass0SigmaScale, p
 use Rattle.header_fields.proofs.Rows.{is-yes, is-no}
 
 module _ (s : List ℕ) (p : ℕ) where
-  -- ---- the sigma settings; b says whether `quant_mul` is there
+  -- ---- the sigma settings; b: `quant_mul` is present
   module _ (b : Bool) where
     pub own-sigma-refused : {n : ℕ} → ifThere b (f16 s p) quantMul p ≡ refused n → refused n ≡ read (customSigmaFields b true) s p
     unfolding read customSigmaFields

@@ -1,4 +1,4 @@
--- The sigma settings of the edge-preserving filter bundle (Specification 5.6; ISO/IEC 18181-1, restoration filter, `epf_sigma_custom` to `epf_border_sad_mul`).
+-- The sigma settings of the EPF bundle (Specification 5.6; ISO/IEC 18181-1, restoration filter, `epf_sigma_custom` to `epf_border_sad_mul`).
 use mathlib.Core.Bool.{Bool, true, _&&_}
 use lib.Ieee.{Float, ofBits, binary32}
 use Rattle.header_bits.specs.Outcome.{Outcome, accepted, refused}

@@ -1,4 +1,4 @@
-// The sigma settings of the edge-preserving filter bundle.
+// The sigma settings of the EPF bundle.
 ghost use mathlib.Core.Path.{_≡_};
 ghost use mathlib.Core.Bool.{true};
 ghost use Rattle.header_half.specs.Half.{f16, halfOutcome};
@@ -15,7 +15,7 @@ pub struct EpfSigma {
     pub border_sad_mul: f32,
 }
 
-// What reading the sigma settings gives.
+// The sigma settings and the next bit position, or the number of a refusal.
 pub enum Sigma {
     Value(EpfSigma, usize),
     Refused(u32),
@@ -30,7 +30,7 @@ const PASS2_SIGMA_SCALE: f32 = 6.5;
 // 2/3.
 const BORDER_SAD_MUL: f32 = 0.6666667;
 
-// A half that is there, or its default.
+// Reads a half if it is present, otherwise returns its default.
 pub fn read_half_if(bytes: &[u8], at: usize, present: bool, default: f32) -> Half
     ensures { λ r. ⌜ halfOutcome r ≡ ifThere present (f16 (now (bytes .entry)) at) default at ⌝ }
 {
@@ -74,7 +74,7 @@ impl EpfSigma {
     }
 }
 
-// The sigma settings; `quant_mul` may be there in VarDCT alone.
+// Reads the sigma settings. `quant_mul` can be present only in VarDCT.
 pub fn read_sigma(bytes: &[u8], at: usize, var_dct: bool) -> Sigma
     ensures { λ r. ⌜ sigmaOutcome r ≡ read (sigmaFields «var_dct») (now (bytes .entry)) at ⌝ }
 {

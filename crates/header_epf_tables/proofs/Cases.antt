@@ -1,4 +1,4 @@
--- The rows of the two arrays case by case, as the code reads them. Assumes nothing.
+-- The fields of the two arrays, in the cases in which the code reads them. Assumes nothing.
 use Prim.Native.Nat.{ℕ}
 use mathlib.Core.Bool.{Bool, true}
 use mathlib.Core.List.{List}
@@ -16,7 +16,7 @@ all (accepted a q) = refl
 all (refused n) = refl
 
 module _ (s : List ℕ) (p : ℕ) where
-  -- ---- the sharpness table; b says whether its custom bit is there
+  -- ---- the sharpness table; b: its custom bit is present
   module _ (d : List Float) (b : Bool) where
     pub sharp-refused : {n : ℕ} → ifThere b (u 1 s p) 0 p ≡ refused n → refused n ≡ read (sharpFields b d) s p
     unfolding read sharpFields

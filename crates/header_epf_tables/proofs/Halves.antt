@@ -1,4 +1,4 @@
--- Halves one after another, as the loop of `read_halves` goes along them. Assumes nothing.
+-- A sequence of halves, as the loop of `read_halves` reads it. Assumes nothing.
 use Prim.Native.Nat.{ℕ, zero, suc, _+_, _-_, _<_, _≤_}
 use mathlib.Core.List.{List}
 use mathlib.Core.Path.{_≡_, refl, sym, ap, _∙_}
@@ -17,13 +17,13 @@ module _ (s : List ℕ) (p : ℕ) where
   unfolding f16s
   halves-none l = refl
 
-  -- a turn of the loop
+  -- one iteration of the loop
   pub halves-more : (l : List Float) (i q r : ℕ) (v : Float) → i < length l → f16s i s p ≡ accepted (take i l) q → f16 s q ≡ accepted v r
       → f16s (i + 1) s p ≡ accepted (take (i + 1) (set l i v)) r
   unfolding f16s
   halves-more l i q r v h e f = rw (add-one, e, f, take-suc-set l i v)
 
-  -- a refusal ends all
+  -- a refusal ends the sequence
   stays : (k i n : ℕ) → f16s i s p ≡ refused n → f16s (k + i) s p ≡ refused n
   unfolding f16s
   stays zero i n e = rw (zero-add i) e

@@ -1,4 +1,4 @@
--- What a call that fills in values says of the definition that it ensures, and what an answer says by its number. Assumes nothing.
+-- From the answer of a call that fills an array, and from its number, to the outcome of the reading. Assumes nothing.
 use Prim.Native.Nat.{ℕ, _<_}
 use mathlib.Core.Bool.{Bool}
 use mathlib.Core.List.{List}

@@ -1,4 +1,4 @@
-// The two arrays of the edge-preserving filter bundle: the sharpness table and the channel scales.
+// The two arrays of the EPF bundle: the sharpness table and the channel scales.
 ghost use mathlib.Core.Path.{_≡_};
 ghost use mathlib.Core.Bool.{true};
 ghost use lib.ListN.{length};
@@ -22,7 +22,7 @@ pub struct ChannelScale {
     pub next: usize,
 }
 
-// Where a reading that fills in values ends.
+// The bit position after a reading that fills an array, or the number of a refusal.
 enum Place {
     Next(usize),
     Refused(u32),
@@ -37,7 +37,7 @@ fn read_u1_if(bytes: &[u8], at: usize, present: bool) -> Bits
     Bits::Value(0, at)
 }
 
-// Fills in as many halves as there is room for.
+// Reads as many halves as `out` has elements.
 fn read_halves(bytes: &[u8], at: usize, out: &mut [f32]) -> Place
     ensures { λ r. ⌜ placeOutcome r (now (out .exit)) ≡ f16s (length (now (out .entry))) (now (bytes .entry)) at ⌝ }
 {
@@ -67,7 +67,7 @@ fn refused_lut(number: u32) -> SharpLut
     }
 }
 
-// The header's own table, which has the room of the defaults.
+// Reads a custom sharpness table. The defaults are overwritten.
 fn read_own_lut(bytes: &[u8], at: usize, defaults: [f32; 8]) -> SharpLut
     ensures { λ r. ⌜ r ≡ sharpAnswer (f16s (length defaults) (now (bytes .entry)) at) ⌝ }
 {
@@ -82,7 +82,7 @@ fn read_own_lut(bytes: &[u8], at: usize, defaults: [f32; 8]) -> SharpLut
     }
 }
 
-// The sharpness table: the defaults unless the header, where `present` says that it may, has its own.
+// The sharpness table: custom if the header has one, otherwise the defaults. `present`: the custom bit is there.
 pub fn read_sharp_lut(bytes: &[u8], at: usize, present: bool, defaults: [f32; 8]) -> SharpLut
     ensures { λ r. ⌜ r ≡ sharpAnswer (read (sharpFields present defaults) (now (bytes .entry)) at) ⌝ }
 {
@@ -113,7 +113,7 @@ fn refused_scale(number: u32) -> ChannelScale
     }
 }
 
-// The header's own scales and the 32 bits after them, which are ignored.
+// Reads custom channel scales and skips the 32 ignored bits after them.
 fn read_own_scale(bytes: &[u8], at: usize, defaults: [f32; 3]) -> ChannelScale
     ensures { λ r. ⌜ r ≡ scaleAnswer (read (customScaleFields true defaults) (now (bytes .entry)) at) ⌝ }
 {
@@ -131,7 +131,7 @@ fn read_own_scale(bytes: &[u8], at: usize, defaults: [f32; 3]) -> ChannelScale
     }
 }
 
-// The channel scales: the defaults unless the header has its own.
+// The channel scales: custom if the header has them, otherwise the defaults.
 pub fn read_channel_scale(bytes: &[u8], at: usize, defaults: [f32; 3]) -> ChannelScale
     ensures { λ r. ⌜ r ≡ scaleAnswer (read (scaleFields defaults) (now (bytes .entry)) at) ⌝ }
 {

@@ -1,4 +1,4 @@
--- A table whose refusals have numbers above 0 never refuses with 0, so number 0 says that it was accepted. Assumes nothing.
+-- If all refusals of a table have numbers above 0, then number 0 means that the reading is accepted. Assumes nothing.
 use Prim.Native.Nat.{ℕ, zero, suc, _+_, _<_}
 use mathlib.Core.Bool.{Bool, true, false, cond}
 use mathlib.Core.List.{List}
@@ -22,7 +22,7 @@ Numbered (halves c d k) = (v : List Float) → Numbered (k v)
 Numbered (refuse c n t) = (0 < n) × Numbered t
 Numbered (bundle a) = Unit
 
--- an outcome that is accepted, or refused with a number above 0
+-- an outcome that is accepted, or is refused with a number above 0
 abbrev pub Told : {A : Type 0} → Outcome A → Type 0
 Told (accepted a q) = Unit
 Told (refused n) = 0 < n

@@ -1,4 +1,4 @@
--- What a table whose first row is always there refuses first. Assumes nothing.
+-- The first refusals of a table whose first field is always present. Assumes nothing.
 use mathlib.Core.Path.{sym}
 use Rattle.header_bits.proofs.Judged.{u-long, u-short}
 use Rattle.header_fields.specs.Fields.{read}

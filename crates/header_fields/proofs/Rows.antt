@@ -1,4 +1,4 @@
--- Reading a table row by row: what a row comes to, given what reading its field came to. Assumes nothing.
+-- Reading a table field by field: the outcome of the table from the outcome of its first field. Assumes nothing.
 use Prim.Native.Nat.{ℕ}
 use mathlib.Core.Bool.{true, false}
 use mathlib.Core.List.{List}
@@ -20,7 +20,7 @@ assoc : {A B C : Type 0} (o : Outcome A) (f : A → ℕ → Outcome B) (g : B �
 assoc (accepted a q) f g = refl
 assoc (refused n) f g = refl
 
--- what a call's result says of the definition that the call ensures
+-- from the result of a call to the definition in its contract
 pub told : {E A : Type 0} (f : E → Outcome A) {r v : E} {o : Outcome A} → r ≡ v → f r ≡ o → o ≡ f v
 told f e h = sym h ∙ ap f e
 
@@ -31,7 +31,7 @@ is-yes v h = rw (ne-eqb v 0 h)
 pub is-no : (v : ℕ) → v ≡ 0 → false ≡ yes v
 is-no v h = rw (eq-eqb v 0 h)
 
--- ---- a row that is a bundle itself
+-- ---- a bundle inside a bundle
 abbrev pub rest : {A B : Type 0} → (A → Fields B) → List ℕ → Outcome A → Outcome B
 rest k s o = andThen o (λ v q. read (k v) s q)
 

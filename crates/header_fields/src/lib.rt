@@ -1,2 +1,2 @@
-// No code: specs/ describes a bundle of the header as the standard tabulates it, and proofs/ has the laws for reading
-// along such a table.
+// No code: specs/ describes a bundle of the header like the standard's tables, and proofs/ has the laws for reading
+// such a table.

@@ -1,4 +1,4 @@
--- The field `weights` for the two walks of `gabor_of` and `weights`: its type, and that the struct's tuple, which has it as `map` of `map` of the identity, has it unchanged. Assumes nothing.
+-- The field `weights` for the proofs of `gabor_of` and `weights`: its type, and that the struct's tuple holds it unchanged although it is built by `map` of `map` of the identity. Assumes nothing.
 use mathlib.Core.Path.{_≡_, ap, _∙_}
 use mathlib.Core.List.{List, map, map-id}
 use lib.Ieee.{Float}

@@ -1,4 +1,4 @@
--- The table of the Gabor bundle, case by case as the code reads it. Assumes nothing.
+-- The table of the Gabor bundle, in the cases in which the code reads it. Assumes nothing.
 use Prim.Native.Nat.{ℕ}
 use mathlib.Core.Bool.{Bool, true, cond}
 use mathlib.Core.List.{List, [], _∷_}

@@ -15,7 +15,7 @@ gaborOff = record { enabled = false; weights = (none ∷ none ∷ []) ∷ (none 
 abbrev pub gaborWith : List Float → List Float → List Float → Gabor
 gaborWith x y b = record { enabled = true; weights = x ∷ y ∷ b ∷ [] }
 
--- the channels X, Y and B
+-- two weights for each of the channels X, Y and B
 unfoldable pub channelsFields : Bool → Fields Gabor
 channelsFields custom =
     nested (channelFields custom) λ x.
@@ -23,7 +23,7 @@ channelsFields custom =
     nested (channelFields custom) λ b.
     bundle (gaborWith x y b)
 
--- a filter that is on
+-- the fields of a filter that is on
 unfoldable pub weightFields : Fields Gabor
 weightFields =
     bits true 1 0 λ custom.
@@ -37,6 +37,6 @@ gaborFields =
 abbrev pub gaborAt : List ℕ → ℕ → Outcome Gabor
 gaborAt = read gaborFields
 
--- number, fields and next place; a refusal has 0 in all fields
+-- number, fields and next position; a refusal has 0 in all fields
 abbrev pub gaborAnswer : Outcome Gabor → GaborAnswer
 gaborAnswer o = record { number = number o; gabor = value gaborOff o; next = next o }

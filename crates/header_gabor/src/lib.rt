@@ -1,4 +1,4 @@
-// The Gabor bundle of a frame header, read at any bit place.
+// The Gabor bundle of a frame header, read from any bit position.
 ghost use mathlib.Core.Path.{_≡_};
 ghost use mathlib.Core.Bool.{true};
 ghost use Rattle.header_bits.specs.Outcome.{accepted, refused};
@@ -8,7 +8,7 @@ use header_bits::Bits;
 use header_gabor_channel::Channel;
 use header_gabor_channel::read_channel;
 
-// Three channels (X, Y, B) of two weights: of the side neighbours, of the corners.
+// Two weights for each of the channels X, Y and B: of the side neighbours and of the diagonal ones.
 #[repr(C)]
 pub struct Gabor {
     pub enabled: bool,
@@ -22,19 +22,17 @@ pub struct GaborAnswer {
     pub next: usize,
 }
 
-// The default weights, of each channel.
+// The default weights of every channel.
 const SIDE: f32 = 0.115169525;
 
 const CORNER: f32 = 0.061248592;
 
-// The settings of a yes or no and the weights.
 pub fn gabor_of(enabled: bool, weights: [[f32; 2]; 3]) -> Gabor
     ensures { λ r. ⌜ r ≡ record { enabled = enabled; weights = weights } ⌝ }
 {
     Gabor { enabled, weights }
 }
 
-// Their weights.
 pub fn weights(gabor: Gabor) -> [[f32; 2]; 3]
     ensures { λ r. ⌜ r ≡ gabor .weights ⌝ }
 {
@@ -98,14 +96,14 @@ fn gabor_on(bytes: &[u8], at: usize) -> GaborAnswer
 }
 
 impl Gabor {
-    // A filter that is off has zeros in its fields.
+    // A filter that is off: zeros in all fields (Specification 5.8).
     pub fn off() -> Gabor
         ensures { λ r. ⌜ r ≡ gaborOff ⌝ }
     {
         gabor_of(false, [[0.0; 2]; 3])
     }
 
-    // The bundle by its table, or 7, 1, 2, 3.
+    // Reads the Gabor bundle (Specification 5.4), or refuses with 7, 1, 2 or 3.
     pub fn parse(bytes: &[u8], at: usize) -> GaborAnswer
         ensures { λ r. ⌜ r ≡ gaborAnswer (gaborAt (now (bytes .entry)) at) ⌝ }
     {

@@ -1,4 +1,4 @@
--- The sign of the kernel's sum decides how `near_zero` takes its magnitude. Assumes nothing.
+-- `near_zero` takes the magnitude of the kernel's sum by its sign. Assumes nothing.
 use Prim.Native.Nat.{ℕ, _+_, _*_}
 use mathlib.Core.Bool.{Bool, true, false, not}
 use mathlib.Core.Path.{_≡_, refl, sym, ap, _∙_, subst}
@@ -30,7 +30,7 @@ negative (fin false m e) h = absurd (above (m * up e) (down e) h)
     above : (a d : ℕ) → ltb (a * 1) (0 * 1 * d) ≡ true → ⊥
     above a d h = omega (arith, ltb-true (a * 1) (0 * 1 * d) h, zero-mul d)
 
--- where the sum is not below 0 its magnitude compares as it does itself, −0 too
+-- a sum that is not below 0, −0 included, compares like its magnitude
 nothing : (a d : ℕ) → ltb 0 (a * 1 + 0 * 1 * d) ≡ false → a ≡ 0
 nothing a d h = omega (arith, ltb-false 0 (a * 1 + 0 * 1 * d) h, zero-mul d)
 
@@ -48,7 +48,7 @@ not-negative (fin true m e) (inf t) h = refl
 not-negative (fin true m e) (fin t n d) h =
     sign-apart (m * up e * down d) t (n * up d * down e) (ap (λ (a : ℕ). a * down d) (nothing (m * up e) (down e) h) ∙ zero-mul (down d))
 
--- ---- by the test of the code
+-- ---- for the code's test
 pub below-zero : (x y : Float) → lt x (ofBits binary32 0) ≡ true → lt (neg x) y ≡ lt (magnitude x) y
 below-zero x y h = ap (λ (z : Float). lt z y) (negative x (rw zero-is at h))
 

@@ -16,7 +16,7 @@ sideDefault = ofBits binary32 0x3deb_de00
 abbrev pub cornerDefault : Float
 cornerDefault = ofBits binary32 0x3d7a_dfce
 
--- |1 + (w0 + w1) × 4| is under 2^-23, each operation rounded once
+-- |1 + (w0 + w1) × 4| is below 2^-23, each operation rounded once
 unfoldable pub nearZero : Float → Float → Bool
 nearZero w0 w1 =
     lt
@@ -31,7 +31,7 @@ channelFields custom =
     refuse (custom && nearZero w0 w1) kernelNearZero
     (bundle (w0 ∷ w1 ∷ []))
 
--- number and values for each case of the code's enum (Specification 1.5)
+-- the outcome for each case of the code's enum (Specification 1.5)
 abbrev pub channelOutcome : Channel → Outcome (List Float)
 channelOutcome (Weights w0 w1 next) = accepted (w0 ∷ w1 ∷ []) next
 channelOutcome (Refused n) = refused n

@@ -1,4 +1,4 @@
-// The two weights of a channel in the Gabor bundle, and the kernels that are refused.
+// The two weights of a channel in the Gabor bundle, and the refusal of kernels with a sum near zero.
 ghost use mathlib.Core.Path.{_≡_};
 ghost use mathlib.Core.Bool.{true, cond};
 ghost use mathlib.Core.List.{[], _∷_};
@@ -11,7 +11,7 @@ use header_half::Half;
 // 2^-23, `f32::EPSILON`.
 const EPSILON: f32 = 0.00000011920929;
 
-// What reading the two weights of a channel gives.
+// The two weights of a channel and the next bit position, or the number of a refusal.
 pub enum Channel {
     Weights(f32, f32, usize),
     Refused(u32),
@@ -36,7 +36,7 @@ fn judged_channel(w0: f32, w1: f32, next: usize) -> Channel
     Channel::Weights(w0, w1, next)
 }
 
-// A channel's two weights and the next place, or 7, 1, 2, 3.
+// Reads the two weights of a channel, or refuses with 7, 1, 2 or 3.
 pub fn read_channel(bytes: &[u8], at: usize) -> Channel
     ensures { λ r. ⌜ channelOutcome r ≡ read (channelFields true) (now (bytes .entry)) at ⌝ }
 {

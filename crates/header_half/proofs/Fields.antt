@@ -1,4 +1,4 @@
--- A binary32 from its three fields. Assumes nothing.
+-- A binary32 number from its sign, exponent and fraction fields. Assumes nothing.
 use Prim.Native.Nat.{ℕ, suc, _+_, _*_, _/_, _%_, _<_}
 use mathlib.Core.Bool.{Bool, true, false, not}
 use mathlib.Core.Path.{_≡_, refl}
@@ -32,7 +32,7 @@ module _ (s x t : ℕ) (hs : s < 2) (hx : x < 255) (ht : t < 8388608) where
   unfolding nanBits
   no-nan = rw (exponent-is, ne-eqb x 255 not-255) tt
 
--- an exponent field that is neither 0 nor 255
+-- an exponent field other than 0 and 255
 pub normal-fields : (s : Bool) (y t : ℕ) → y < 254 → ofFields binary32 s (suc y) t ≡ odd 24 s (8388608 + t) y 149
 unfolding ofFields
 normal-fields s y t h = rw (ne-eqb (suc y) 255 (λ e. none e))

@@ -1,4 +1,4 @@
--- A significand with zeros put at its end, and the exponent lowered by as many, is the same number: how binary16 and binary32 write one value. Assumes nothing.
+-- A significand with zeros appended and the exponent lowered by as many is the same number, so binary16 and binary32 can encode the same value. Assumes nothing.
 use Prim.Native.Nat.{ℕ, zero, suc, _+_, _-_, _*_, _/_, _%_, _^_, _<_}
 use mathlib.Core.Bool.{Bool, true, false}
 use mathlib.Core.Path.{_≡_, refl, sym, ap, _∙_}
@@ -35,7 +35,7 @@ under-same : (r a b : ℕ) → (r ≡ 0 → a ≡ b) → under r a ≡ under r b
 under-same zero a b h = ap suc (h refl)
 under-same (suc r) a b h = refl
 
--- looking at more digits than a number has finds no more zeros
+-- a number has no more trailing zeros if more digits are examined
 zeros-more : (d m t : ℕ) → 0 < t → t < 2 ^ d → trailingZeros (d + m) t ≡ trailingZeros d t
 unfolding trailingZeros
 zeros-more zero m t p h = absurd (none t p h)
@@ -47,7 +47,7 @@ zeros-more (suc d) m t p h =
     ∙ under-same (t % 2) (trailingZeros (d + m) (t / 2)) (trailingZeros d (t / 2))
     (λ e. zeros-more d m (t / 2) (omega arith) (omega (arith, pow-suc 2 d)))
 
--- ---- the number itself
+-- ---- the same number
 minus-both : (a b n : ℕ) (x : Bool) → leb b a ≡ x → minus (a + n) (b + n) ≡ minus a b
 minus-both a b n true e =
     let h : a + n - (b + n) ≡ a - b = omega arith in
@@ -75,7 +75,7 @@ odd-shift d j i s q k l p =
     ∙ ap (fin s (q / 2 ^ t)) (minus-both (k + t) l (i + j) (leb l (k + t)) refl)
     ∙ sym (odd-is d s q k l p)
 
--- a significand of d digits may be given room for m more
+-- a significand of d digits also fits d + m digits
 pub odd-room : (d m : ℕ) (s : Bool) (q k l : ℕ) → 0 < q → q < 2 ^ d → odd (d + m) s q k l ≡ odd d s q k l
 odd-room d m s q k l p h =
     odd-is (d + m) s q k l p

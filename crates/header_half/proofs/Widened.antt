@@ -1,4 +1,4 @@
--- The number of a half's fields is that of the binary32 fields which `widen` computes, in its three cases. Assumes nothing.
+-- The value of a half equals that of the binary32 fields that `widen` computes, in its three cases. Assumes nothing.
 use Prim.Native.Nat.{ℕ, zero, suc, _+_, _-_, _*_, _/_, _%_, _^_, _<_, _≤_}
 use mathlib.Core.Bool.{Bool, true, false}
 use mathlib.Core.Path.{_≡_, refl, sym, ap, _∙_, subst}
@@ -13,7 +13,7 @@ use Rattle.header_half.specs.Value.{valueOf, halfOf}
 use Rattle.header_half.proofs.Significand.{odd-shift, odd-room}
 use Rattle.header_half.proofs.Fields.{normal-fields}
 
--- ---- the three cases, by fields
+-- ---- the three cases, on the fields
 normal : (s : Bool) (x t : ℕ) → 0 < x → x < 31 → ofFields binary32 s (x + 112) (t * 8192) ≡ valueOf s x t
 unfolding valueOf
 normal s zero t p h = absurd (not-suc-le-zero p)
@@ -26,7 +26,7 @@ zeroed : (s : Bool) → ofFields binary32 s 0 0 ≡ valueOf s 0 0
 unfolding valueOf ofFields odd
 zeroed s = refl
 
--- t moved up by n has its highest digit in the eleventh place
+-- t shifted left by n has 11 binary digits
 subnormal : (s : Bool) (t n : ℕ) → 0 < t → 0 < n → n ≤ 10 → 1024 ≤ t * 2 ^ n → t * 2 ^ n < 2048
     → ofFields binary32 s (113 - n) ((t * 2 ^ n - 1024) * 8192) ≡ valueOf s 0 t
 unfolding valueOf
@@ -53,7 +53,7 @@ subnormal s t n p h k lo hi =
         e : 11 ≡ 11 - n + n
         e = omega arith
 
--- ---- how far up a subnormal's digits move
+-- ---- how far the digits of a subnormal half are shifted
 pub record Moved (t n : ℕ) : Type 0 where
   pub zeros : leadingZeros 32 t ≡ 21 + n
   pub some : 0 < n
@@ -81,7 +81,7 @@ moved t p h =
     subst (Moved t) e
     (record { zeros = omega (arith, z .1); some = omega arith; few = omega arith; low = up; high = under; whole = mod-eq-of-lt (omega arith) })
 
--- ---- the three cases, by the 16 bits
+-- ---- the three cases, on the 16 bits
 sign : (h : ℕ) → leb 1 (h / 32768) ≡ leb 32768 h
 sign h = by (leb 32768 h) refl
   where

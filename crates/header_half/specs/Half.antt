@@ -12,23 +12,23 @@ use Rattle.header_half.specs.declared.Half.{Half}
 use Rattle.header_half.specs.declared.Half.the-variants.{Value, Refused}
 use Rattle.header_half.specs.declared.HalfAnswer.{HalfAnswer}
 
--- exponent field 31, an infinity or a NaN
+-- exponent field 31: an infinity or a NaN
 abbrev pub halfChecks : ℕ → List Check
 halfChecks h = always halfNotFinite (eqb (exponentOf h) 31) ∷ []
 
--- 16 bits as a half
+-- 16 bits as a half-precision number, refused if it is not finite
 abbrev pub finite : ℕ → ℕ → Outcome Float
 finite h next = judged (firstOf (halfChecks h)) (halfOf h) next
 
--- F16() of ISO/IEC 18181-1, read at bit p
+-- F16() of ISO/IEC 18181-1, read from bit p
 unfoldable pub f16 : List ℕ → ℕ → Outcome Float
 f16 s p = andThen (u 16 s p) finite
 
--- number and values for each case of the code's enum (Specification 1.5)
+-- the outcome for each case of the code's enum (Specification 1.5)
 abbrev pub halfOutcome : Half → Outcome Float
 halfOutcome (Value v next) = accepted v next
 halfOutcome (Refused n) = refused n
 
--- number, value and next place, side by side; a refusal has +0.0 and 0
+-- number, value and next position as a struct; a refusal has +0.0 and 0
 abbrev pub halfAnswer : Outcome Float → HalfAnswer
 halfAnswer o = record { number = number o; value = value (ofBits binary32 0) o; next = next o }

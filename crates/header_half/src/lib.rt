@@ -1,4 +1,4 @@
-// Half-precision numbers, read from a header at any bit place.
+// Half-precision numbers, read from any bit position of a header.
 use header_bits::Bits;
 ghost use mathlib.Core.Path.{_≡_};
 ghost use Prim.Native.Nat.{_<_};
@@ -7,13 +7,13 @@ ghost use lib.Ieee.{binary32, ofFields};
 ghost use Rattle.header_half.specs.Value.{exponentOf, halfOf};
 ghost use Rattle.header_half.specs.Half.{f16, finite, halfOutcome, halfAnswer};
 
-// A half-precision number: its value and the next bit place, or the number of a refusal.
+// A half-precision number: its value and the next bit position, or the number of a refusal.
 pub enum Half {
     Value(f32, usize),
     Refused(u32),
 }
 
-// A half reading with its number and values side by side.
+// A half-precision reading as a struct.
 #[repr(C)]
 pub struct HalfAnswer {
     pub number: u32,
@@ -21,7 +21,7 @@ pub struct HalfAnswer {
     pub next: usize,
 }
 
-// The binary32 with a sign, an exponent field and digits.
+// The binary32 number with this sign, exponent field and fraction.
 fn of_fields(sign: u32, exponent: u32, digits: u32) -> f32
     requires { ⌜ (sign < 2) × (exponent < 255) × (digits < 8388608) ⌝ }
     ensures { λ r. ⌜ r ≡ ofFields binary32 (leb 1 sign) exponent digits ⌝ }
@@ -29,8 +29,8 @@ fn of_fields(sign: u32, exponent: u32, digits: u32) -> f32
     f32::from_bits(sign * 2147483648 + exponent * 8388608 + digits)
 }
 
-// A finite half as a binary32, exactly. A subnormal half is normal in binary32: its highest digit moves up to the
-// leading place.
+// A finite half as a binary32 number, exactly. A subnormal half is normal in binary32: its highest digit is shifted up
+// to become the leading one.
 fn widen(half: u32) -> f32
     requires { ⌜ (half < 65536) × (exponentOf half < 31) ⌝ }
     ensures { λ r. ⌜ r ≡ halfOf half ⌝ }
@@ -60,7 +60,7 @@ fn finite_half(half: u32, next: usize) -> Half
     Half::Value(value, next)
 }
 
-// The half's exact value and the next place, or 7, 1, 2, as an enum.
+// Reads a half-precision number as an enum, or refuses with 7, 1 or 2.
 pub fn read_f16_as_f32(bytes: &[u8], at: usize) -> Half
     ensures { λ r. ⌜ halfOutcome r ≡ f16 (now (bytes .entry)) at ⌝ }
 {
@@ -70,7 +70,7 @@ pub fn read_f16_as_f32(bytes: &[u8], at: usize) -> Half
     }
 }
 
-// Number, value and next place of each case.
+// A reading as a struct; a refusal has zeros.
 pub fn half_answer(reading: Half) -> HalfAnswer
     ensures { λ r. ⌜ r ≡ halfAnswer (halfOutcome reading) ⌝ }
 {
@@ -88,7 +88,7 @@ pub fn half_answer(reading: Half) -> HalfAnswer
     }
 }
 
-// The same reading as a struct.
+// Reads a half-precision number as a struct, or refuses with 7, 1 or 2.
 pub fn read_half(bytes: &[u8], at: usize) -> HalfAnswer
     ensures { λ r. ⌜ r ≡ halfAnswer (f16 (now (bytes .entry)) at) ⌝ }
 {

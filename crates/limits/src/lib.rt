@@ -1,4 +1,4 @@
-// Limits of Specification 4.1 and sizes that several families use, one constant per type.
+// Limits of Specification 4.1 and sizes that several crates use, one constant per type.
 
 // The longest side of a region or a frame, in samples.
 pub const MAX_SIDE: usize = 16_384;

@@ -1,4 +1,4 @@
--- An offset that code holds as so many ahead less so many back, `subℕ ahead back`: how it adds. Assumes nothing.
+-- Sums of offsets that the code holds as a difference of two natural numbers, `subℕ a b` for a - b. Assumes nothing.
 use mathlib.Core.Path.{_≡_, ap, _∙_}
 use Prim.Native.Nat.{ℕ, suc, _+_, _-_, _<_}
 use native.Mathlib.Decide.{decLt}
@@ -6,7 +6,7 @@ use native.Mathlib.Omega.{arith}
 use borrow.Author.Tests.{lt-ltb, le-ltb}
 use lib.IntN.{pos, negsuc, _+ℤ_, subℕ, +ℤ-comm}
 
--- a place and an offset
+-- a position plus an offset
 pub offset-from : (x a b : ℕ) → pos x +ℤ subℕ a b ≡ subℕ (x + a) b
 offset-from x a b = go (decLt a b) (decLt (x + a) b)
   where

@@ -1,4 +1,4 @@
--- What specs/Statements.antt promises of the mirror. Assumes nothing.
+-- Proves specs/Statements.antt. Assumes nothing.
 use Rattle.mirror.proofs.Laws.{mirror-lt, mirror-periodic as periodic, mirror-low as low, mirror-high as high}
 use Rattle.mirror.proofs.Cut.{mirror-cut as cut}
 use Rattle.mirror.specs.Statements.{MirrorInside, MirrorPeriodic, MirrorLow, MirrorHigh, MirrorCut}

@@ -1,4 +1,4 @@
--- What `mirror` answers (Specification 8.3): the table of its checks, and the outcome for every offset and length.
+-- The answer of `mirror` (Specification 8.3): its table of checks, and the outcome for every offset and length.
 use mathlib.Core.Bool.{cond}
 use mathlib.Core.List.{List, [], _∷_}
 use Prim.Native.Nat.{ℕ}
@@ -10,7 +10,7 @@ use Rattle.refusals.specs.Checks.{Check, always, firstOf}
 use Rattle.mirror.specs.declared.MirrorAnswer.{MirrorAnswer}
 use Rattle.mirror.specs.Mirror.{mirror}
 
--- Specification 8.3: 9 for a mirror length outside 1 to 16,384, or an offset outside the range of left.
+-- 9 for a length outside 1 to 16,384 or an offset outside −1,048,576 to 1,048,576 (Specification 4.1, 8.3)
 abbrev pub mirrorChecks : ℤ → ℕ → List Check
 mirrorChecks offset len =
     always outOfRange (ltb len 1)
@@ -19,10 +19,10 @@ mirrorChecks offset len =
     ∷ always outOfRange (ltZ (pos 1048576) offset)
     ∷ []
 
--- a refusal has 0 as its place
+-- a refusal has the index 0
 abbrev pub mirrorAnswered : ℕ → ℕ → MirrorAnswer
 mirrorAnswered number place = record { number = number; place = cond (eqb number 0) place 0 }
 
--- the number of the first check that applies, and the offset's place where none does
+-- the number of the first check that applies, and the mirrored index if none does
 abbrev pub mirrorOutcome : ℤ → ℕ → MirrorAnswer
 mirrorOutcome offset len = mirrorAnswered (firstOf (mirrorChecks offset len)) (mirror offset len)

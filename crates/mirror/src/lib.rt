@@ -1,4 +1,4 @@
-// The place of an offset in a row of samples, mirrored at both edges (Specification 8.1).
+// The mirrored index of an integer among n samples (Specification 8.1).
 use limits::MAX_SIDE;
 ghost use mathlib.Core.Path.{_≡_};
 ghost use lib.Signed.{mag};
@@ -17,7 +17,7 @@ pub struct MirrorAnswer {
     pub place: usize,
 }
 
-// The place of an offset that is not negative. Runs of n samples go up and down alternately.
+// The mirrored index of a number that is not negative. Runs of n indices ascend and descend alternately.
 fn place(ahead: usize, n: usize) -> usize
     ensures { λ r. ⌜ r ≡ mirror (pos ahead) n ⌝ }
 {
@@ -32,7 +32,7 @@ fn place(ahead: usize, n: usize) -> usize
     if run % 2 == 0 { inner } else { n - 1 - inner }
 }
 
-// The place of x - back in a row of n samples; 0 where there are none.
+// The mirrored index of x - back among n samples, 0 if n is 0.
 pub fn mirrored(x: usize, back: usize, n: usize) -> usize
     ensures { λ r. ⌜ r ≡ mirror (subℕ x back) n ⌝ }
 {
@@ -42,7 +42,7 @@ pub fn mirrored(x: usize, back: usize, n: usize) -> usize
     place(back - x - 1, n)
 }
 
-// The offset, or -1 - offset where it is negative: both have one place.
+// The offset, or -1 - offset if it is negative: both have the same mirrored index.
 fn unsigned(offset: isize) -> usize
     ensures { λ r. ⌜ r ≡ mag offset ⌝ }
 {
@@ -61,7 +61,7 @@ fn refused() -> MirrorAnswer
     }
 }
 
-// The place of an offset in a row of len samples, for the lengths and offsets of Specification 4.1.
+// The mirrored index of an offset among len samples, or refusal 9 outside the limits of Specification 4.1.
 pub fn mirror(offset: isize, len: usize) -> MirrorAnswer
     ensures { λ r. ⌜ r ≡ mirrorOutcome offset len ⌝ }
 {

@@ -1,4 +1,4 @@
--- When a run is copied. Assumes nothing.
+-- The conditions under which a run of samples is copied. Assumes nothing.
 use mathlib.Core.Path.{_≡_}
 use mathlib.Core.Bool.{false, and-false}
 use mathlib.Core.List.{List}

@@ -1,4 +1,4 @@
--- A list with a run of its samples written anew: what a loop along a row leaves. Assumes nothing.
+-- A list with a run of its samples overwritten: the result of a loop along a row. Assumes nothing.
 use mathlib.Core.Path.{_≡_, refl, ap, _∙_}
 use mathlib.Core.List.{List}
 use mathlib.Core.Logic.{⊎-elim}
@@ -17,7 +17,7 @@ unfolding fill
 length-fill d at zero f = refl
 length-fill d at (suc n) f = length-set (fill d at n f) (at + n) (f n) ∙ length-fill d at n f
 
--- ---- what stands at each index
+-- ---- the sample at each index
 
 pub fill-before : (d : List Float) (at n : ℕ) (f : ℕ → Float) (k : ℕ) → k < at → getD (fill d at n f) k nan ≡ getD d k nan
 unfolding fill
@@ -40,7 +40,7 @@ fill-at d at (suc n) f i r p =
     (λ (l : i < n). getD-set-other (fill d at n f) (at + n) (at + i) (f n) nan (λ (q : at + i ≡ at + n). omega arith) ∙ fill-at d at n f i (omega arith) l)
     (eq-or-lt-of-le (le-of-suc-le-suc p))
 
--- ---- a loop's turn and its end
+-- ---- an iteration of the loop, and its end
 
 pub fill-turn : (d dst : List Float) (at n : ℕ) (f : ℕ → Float) (v : Float) → dst ≡ fill d at n f → v ≡ f n → set dst (at + n) v ≡ fill d at (n + 1) f
 unfolding fill
@@ -51,7 +51,7 @@ fill-end d dst at j n f e p q = let z : j ≡ n = omega arith in rw (← z) e
 
 -- ---- runs one after another
 
--- only the values below n count
+-- only f below n matters
 pub fill-cong : (d : List Float) (at n : ℕ) (f g : ℕ → Float) → ((i : ℕ) → i < n → f i ≡ g i) → fill d at n f ≡ fill d at n g
 unfolding fill
 fill-cong d at zero f g h = refl
@@ -60,7 +60,7 @@ fill-cong d at (suc n) f g h =
     let rest : fill d at n f ≡ fill d at n g = fill-cong d at n f g (λ i l. h i (omega arith)) in
     rw (here, rest)
 
--- a run of m behind a run of n
+-- a run of m after a run of n
 pub fill-then : (d : List Float) (at n m : ℕ) (f g k : ℕ → Float) → ((i : ℕ) → i < n → f i ≡ k i) → ((i : ℕ) → i < m → g i ≡ k (n + i))
     → fill (fill d at n f) (at + n) m g ≡ fill d at (n + m) k
 unfolding fill
@@ -76,7 +76,7 @@ pub fill-one : (d : List Float) (at : ℕ) (v : Float) (f : ℕ → Float) → v
 unfolding fill
 fill-one d at v f e = let z : at + 0 ≡ at = omega arith in rw (z, e)
 
--- what is there already changes nothing
+-- writing the samples that are already there changes nothing
 pub fill-same : (d : List Float) (at n : ℕ) (f : ℕ → Float) → at + n ≤ length d → ((i : ℕ) → i < n → f i ≡ getD d (at + i) nan) → fill d at n f ≡ d
 fill-same d at n f r h = ext-getD nan (fill d at n f) d (length-fill d at n f) each
   where
@@ -91,7 +91,7 @@ fill-same d at n f r h = ext-getD nan (fill d at n f) d (length-fill d at n f) e
             let i : k - at < n = omega arith in
             rw e at (fill-at d at n f (k - at) r i ∙ h (k - at) i)
 
--- ---- a row of w columns whose ends are written apart
+-- ---- a row of w columns whose first and last sample are written separately
 
 pub row-of-one : (d : List Float) (o w : ℕ) (f : ℕ → Float) (v : Float) → w ≡ 1 → v ≡ f 0 → set d o v ≡ fill d o w f
 row-of-one d o w f v p q = rw p (fill-one d o v f q)

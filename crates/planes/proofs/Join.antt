@@ -1,4 +1,4 @@
--- Rectangles of a set that lie below or beside each other, written one after the other: together they are one rectangle. Assumes nothing.
+-- Two adjacent rectangles of a set, one below or beside the other, written in sequence: together they are one rectangle. Assumes nothing.
 use mathlib.Core.Path.{_≡_, refl, sym, _∙_}
 use mathlib.Core.Bool.{Bool, true, false, cond, _&&_, and-false}
 use mathlib.Core.List.{List}
@@ -17,7 +17,7 @@ use Rattle.planes.proofs.SetLaws.{sets-ext}
 use Rattle.planes.specs.Rect.{rowsFill, planesFill}
 use Rattle.planes.proofs.Rect.{rows-cong, Between, between, planes-at, planes-later, length-planesFill}
 
--- only the samples of the rectangle count
+-- only the samples of the rectangle matter
 pub planes-cong : (w h left n top m : ℕ) (u v : Picture) (d : List Float) (k : ℕ) → ((c x i : ℕ) → c < k → x < n → i < m → u c x i ≡ v c x i)
     → planesFill w h left n top m u d k ≡ planesFill w h left n top m v d k
 unfolding planesFill
@@ -46,7 +46,7 @@ module _ (N w h k : ℕ) (few : k ≤ N) where
     long : length a ≡ N * h * w
     long = rw ea (length-planesFill w h left n top m u fits (omega arith) d k ∙ len)
 
-    -- m rows, and below them m' rows
+    -- m rows, then m' rows below them
     pub rect-below : b ≡ planesFill w h left n top (m + m') t d k
     unfolding inRect
     rect-below = sets-ext N w h b (planesFill w h left n top (m + m') t d k)
@@ -86,7 +86,7 @@ module _ (N w h k : ℕ) (few : k ≤ N) where
     held : length a ≡ N * h * w
     held = rw ea (length-planesFill w h left n top m u (omega arith) high d k ∙ len)
 
-    -- n columns, and right of them n' columns
+    -- n columns, then n' columns right of them
     pub rect-beside : b ≡ planesFill w h left (n + n') top m t d k
     unfolding inRect
     rect-beside = sets-ext N w h b (planesFill w h left (n + n') top m t d k)
@@ -127,7 +127,7 @@ module _ (N w h k : ℕ) (few : k ≤ N) where
     stays : length a ≡ N * h * w
     stays = rw ea (length-planesFill w h left n top m u fits high d k ∙ len)
 
-    -- n' columns of a rectangle that is there, written anew
+    -- n' columns of a rectangle that is already written, written again
     pub rect-inside : b ≡ planesFill w h left n top m t d k
     unfolding inRect
     rect-inside = sets-ext N w h b (planesFill w h left n top m t d k)

@@ -1,4 +1,4 @@
--- What a loop along a row keeps: so many of the samples that it is to write. Assumes nothing.
+-- The invariant of a loop along a row: the first i of its n samples are written. Assumes nothing.
 use mathlib.Core.Path.{_≡_, refl}
 use mathlib.Core.List.{List}
 use Prim.Native.Nat.{ℕ, _+_, _<_, _≤_}
@@ -8,7 +8,7 @@ use lib.Ieee.{Float}
 use Rattle.planes.specs.Fill.{fill}
 use Rattle.planes.proofs.Fill.{fill-turn, fill-end}
 
--- of n samples f, from index `at` on, i are written over d
+-- of the n samples f, from index `at` on, the first i are written over d
 pub record Written (d : List Float) (at n : ℕ) (f : ℕ → Float) (dst : List Float) (i : ℕ) : Type 0 where
   pub few : i ≤ n
   pub size : length dst ≡ length d

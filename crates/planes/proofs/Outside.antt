@@ -1,4 +1,4 @@
--- Copying what lies outside the filter region: what the loops along rows, over rows and over planes leave. Assumes nothing.
+-- Copying the samples outside the filter region: the results of the loops along rows, over rows and over planes. Assumes nothing.
 use mathlib.Core.Path.{_≡_, refl, sym, ap, _∙_}
 use mathlib.Core.Bool.{true, false, and-false}
 use mathlib.Core.List.{List}
@@ -18,7 +18,7 @@ use Rattle.planes.proofs.Rect.{planes-turn, planes-later, rows-cong}
 use Rattle.planes.specs.Band.{inFilter}
 use Rattle.planes.specs.Outside.{rowOutside, rowsOutside, planesOutside}
 
--- ---- one row of w samples from index o on: s has the samples read, d is the list written
+-- ---- one row of w samples from index o: s is the list read, d is the list written
 module _ (l : Layout) (y o : ℕ) (s d : List Float) where
   above : (x : ℕ) → y < l .top → inFilter l x y ≡ false
   unfolding inFilter inRect
@@ -49,7 +49,7 @@ module _ (l : Layout) (y o : ℕ) (s d : List Float) where
   unfolding rowOutside
   row-below t w h e = e ∙ fill-cong d o w _ _ (λ x p. rw (below x h))
 
-  -- a row of the filter region: what lies left of it, then what lies right of it
+  -- a row of the filter region: the samples left of it, then those right of it
   pub row-beside : (t u : List Float) (w r : ℕ) → r ≡ l .left + l .width → r ≤ w → o + w ≤ length d → l .top ≤ y → y < l .top + l .height
       → t ≡ fill d o (l .left) (λ x. getD s (o + x) nan) → u ≡ fill t (o + r) (w - r) (λ x. getD s (o + r + x) nan) → u ≡ fill d o w (rowOutside l y o s d)
   unfolding rowOutside
@@ -71,7 +71,7 @@ module _ (l : Layout) (y o : ℕ) (s d : List Float) where
 
 -- ---- rows
 
--- what comes after the rows written is as it was
+-- the samples after the written rows are unchanged
 pub rows-ahead : (d : List Float) (at stride n m : ℕ) (v : ℕ → ℕ → Float) (k : ℕ) → n ≤ stride → at + m * stride ≤ k
     → getD (rowsFill d at stride n m v) k nan ≡ getD d k nan
 unfolding rowsFill
@@ -81,7 +81,7 @@ rows-ahead d at stride n (suc m) v k p q =
     ∙ rows-ahead d at stride n m v k p (omega (arith, suc-mul m stride))
 
 module _ (l : Layout) (from at w : ℕ) (s d : List Float) where
-  -- a loop's turn finds row i as it was
+  -- an iteration of the loop finds row i unchanged
   pub row-next : (a b : List Float) (i o : ℕ) → a ≡ rowsFill d at w w i (rowsOutside l from at w s d) → o ≡ at + i * w
       → b ≡ fill a o w (rowOutside l (from + i) o s a) → b ≡ fill a o w ((rowsOutside l from at w s d) i)
   unfolding rowsOutside rowOutside
@@ -91,7 +91,7 @@ module _ (l : Layout) (from at w : ℕ) (s d : List Float) where
 
 -- ---- planes
 
--- a row of a plane, counted from a row of it
+-- a row of a plane, counted from another row
 pub of-row : (w h : ℕ) (s : List Float) (c x y i : ℕ) → getD s ((c * h + y) * w + i * w + x) nan ≡ of w h s c x (y + i)
 unfolding of
 of-row w h s c x y i =

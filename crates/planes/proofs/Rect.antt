@@ -1,4 +1,4 @@
--- What loops over planes and rows leave of a rectangle, as the set of a picture. Assumes nothing.
+-- The result of loops over planes and rows that write a rectangle, as the set of a picture. Assumes nothing.
 use mathlib.Core.Path.{_≡_, refl, sym, _∙_}
 use mathlib.Core.Bool.{true, false, cond, _&&_}
 use mathlib.Core.List.{List}
@@ -19,7 +19,7 @@ use Rattle.planes.specs.Fill.{fill}
 use Rattle.planes.proofs.Fill.{length-fill, fill-before, fill-after, fill-at, fill-cong}
 use Rattle.planes.specs.Rect.{rowsFill, planesFill}
 
--- ---- loops over rows: a turn, the end, and what counts
+-- ---- loops over rows: an iteration, the end, and the samples that matter
 
 pub rows-turn : (d a b : List Float) (at stride n i o : ℕ) (v : ℕ → ℕ → Float) → a ≡ rowsFill d at stride n i v → o ≡ at + i * stride
     → b ≡ fill a o n (v i) → b ≡ rowsFill d at stride n (i + 1) v
@@ -52,7 +52,7 @@ pub planes-end : (w h left n top m : ℕ) (v : Picture) (d a : List Float) (i k 
     → a ≡ planesFill w h left n top m v d k
 planes-end w h left n top m v d a i k e p q = let z : i ≡ k = omega arith in rw (← z) e
 
--- ---- one row of a set, rows being counted through all planes
+-- ---- one row of a set; r counts the rows of all planes
 module _ (d : List Float) (w r left n : ℕ) (f : ℕ → Float) (fits : left + n ≤ w) where
   row-other : (q x : ℕ) → x < w → (q ≡ r → ⊥) → getD (fill d (r * w + left) n f) (q * w + x) nan ≡ getD d (q * w + x) nan
   row-other q x h ne = go (decLt q r)
@@ -72,7 +72,7 @@ module _ (d : List Float) (w r left n : ℕ) (f : ℕ → Float) (fits : left + 
   row-beside x (inl l) = fill-before d (r * w + left) n f (r * w + x) (omega arith)
   row-beside x (inr l) = fill-after d (r * w + left) n f (r * w + x) (omega arith)
 
--- ---- m rows of a set from row r on
+-- ---- m rows of a set from row r
 module _ (w left n : ℕ) (v : ℕ → ℕ → Float) (fits : left + n ≤ w) where
   -- where row r + i starts
   starts : (r i : ℕ) → r * w + left + i * w ≡ (r + i) * w + left
@@ -111,7 +111,7 @@ module _ (w left n : ℕ) (v : ℕ → ℕ → Float) (fits : left + n ≤ w) wh
           rw (z, y) (row-here (rowsFill d (r * w + left) w n m v) w (r + m) left n (v m) fits x (omega (arith, length-rowsFill d (r * w + left) w n m v, less)) c e)
       go ih (no z) = row-other (rowsFill d (r * w + left) w n m v) w (r + m) left n (v m) fits q x (omega arith) z ∙ ih (omega arith)
 
--- ---- in an interval or not, with its test
+-- ---- whether a number lies in an interval, decided by its test
 abbrev pub Between : ℕ → ℕ → ℕ → Type 0
 Between lo n x = ((lo ≤ x) × (x < lo + n) × ((leb lo x && ltb x (lo + n)) ≡ true)) ⊎ ((x < lo ⊎ lo + n ≤ x) × ((leb lo x && ltb x (lo + n)) ≡ false))
 
@@ -138,7 +138,7 @@ module _ (w h left n top m : ℕ) (v : Picture) (fits : left + n ≤ w) (high : 
       rows-out w left n (λ i x. v k x i) fits (planesFill w h left n top m v d k) (k * h + top) m (c * h + y) x p (inl (inr (omega (arith, suc-mul k h, mul-le-mul-right h l))))
       ∙ planes-later d k c x y (omega arith) p q
 
-  -- the sample at a place after k planes
+  -- the sample at a position after k planes
   abbrev Then : List Float → ℕ → ℕ → ℕ → ℕ → Type 0
   Then d k c x y = of w h (planesFill w h left n top m v d k) c x y ≡ cond (inRect left n top m x y) (v c (x - left) (y - top)) (of w h d c x y)
 
@@ -167,7 +167,7 @@ module _ (w h left n top m : ℕ) (v : Picture) (fits : left + n ≤ w) (high : 
   planes-at d (suc k) c x y l room p q =
       planes-step d k c x y room p q (λ (z : c < k). planes-at d k c x y z (omega (arith, suc-mul k h, add-mul (k * h) h w, rw (suc-mul k h) at room)) p q) (omega arith) (ℕ-discrete c k) (between left n x) (between top m y)
 
-  -- the set that the loops leave
+  -- the set after the loops
   pub planes-set : (d : List Float) (k : ℕ) → length d ≡ k * h * w
       → planesFill w h left n top m v d k ≡ setOf k w h (λ c x y. cond (inRect left n top m x y) (v c (x - left) (y - top)) (of w h d c x y))
   planes-set d k e =

@@ -1,4 +1,4 @@
--- Room in a slice: what the tests of a run and of a set say, and where rows and a plane's part of the filter region lie. Assumes nothing.
+-- Room in a slice: what the tests of a run and of a set say, and where rows and the filter region's part of a plane lie. Assumes nothing.
 use mathlib.Core.Path.{_≡_}
 use mathlib.Core.Bool.{true, _&&_}
 use Prim.Native.Nat.{ℕ, _+_, _-_, _*_, _<_, _≤_}
@@ -13,7 +13,7 @@ use Rattle.planes.specs.Band.{layoutFits, setFits}
 use Rattle.planes.proofs.Stored.{and-first, and-second, layout-fits}
 use Rattle.planes.specs.Fits.{LayoutFits}
 
--- a test of n samples from index `at` on that stays within the machine's numbers
+-- a test that n samples from index `at` end at `end` or before, without overflow
 pub run-ends : (at n end : ℕ) → n ≤ end → leb at (end - n) ≡ leb (at + n) end
 run-ends at n end h = go (decLe (at + n) end)
   where
@@ -30,7 +30,7 @@ row-room i n w p = omega (arith, suc-mul i w, mul-le-mul-right w p)
 pub next-row : (i w : ℕ) → (i + 1) * w ≡ i * w + w
 next-row i w = rw add-one (suc-mul i w)
 
--- m rows from row `top` on of plane c, in numbers of the machine and within n planes of h rows
+-- m rows of plane c from row `top`: their indices fit machine integers, and they lie within n planes of h rows
 pub record RowsRoom (w h n c top m : ℕ) : Type 0 where
   pub lines : c * h ≤ 49152
   pub start : (c * h + top) * w ≤ 65536 * 16384
@@ -46,7 +46,7 @@ rows-room w h n c top m wide high down q p =
 
 -- ---- sets
 
--- a set of n planes of that length
+-- a slice of length len is a set of n planes
 pub record SetFits (l : Layout) (n len : ℕ) : Type 0 where
   pub layout : LayoutFits l
   pub planes : n ≤ 3
@@ -74,9 +74,9 @@ set-true l n len s =
       eq-eqb len (n * l .image .height * l .image .width) (s .size),
     )
 
--- ---- a plane's part of the filter region
+-- ---- the filter region's part of a plane
 
--- where it starts
+-- the index of its first sample
 abbrev pub regionStart : Layout → ℕ → ℕ
 regionStart l c = (c * l .image .height + l .top) * l .image .width + l .left
 
@@ -85,7 +85,7 @@ region-index l c x y =
     let e : c * l .image .height + (l .top + y) ≡ c * l .image .height + l .top + y = omega arith in
     rw e (omega (arith, add-mul (c * l .image .height + l .top) y (l .image .width)))
 
--- its rows in plane c of n
+-- its rows, in plane c of n
 abbrev pub PlaneRoom : Layout → ℕ → ℕ → Type 0
 PlaneRoom l n c = RowsRoom (l .image .width) (l .image .height) n c (l .top) (l .height)
 

@@ -28,7 +28,7 @@ pub length-setOf : (n w h : ℕ) (g : Picture) → length (setOf n w h g) ≡ n 
 unfolding setOf
 length-setOf n w h g = length-tab (n * h * w) (λ i. g (i / w / h) (i % w) (i / w % h))
 
--- each place of a set lies in its list
+-- the index of each sample is below the length of the set
 pub place-lt : (n w h c x y : ℕ) → c < n → x < w → y < h → (c * h + y) * w + x < n * h * w
 place-lt n w h c x y p q r = digits-lt (digits-lt p r) q
 
@@ -40,7 +40,7 @@ of-setOf n w h g c x y p q r =
     getD-tab (n * h * w) (λ i. g (i / w / h) (i % w) (i / w % h)) i (place-lt n w h c x y p q r)
     ∙ rw (d, digits-mod (c * h + y) q, digits-div c r, digits-mod c r)
 
--- two lists of n planes are equal by their samples
+-- two sets of n planes are equal if all their samples are
 pub sets-ext : (n w h : ℕ) (s t : List Float) → length s ≡ n * h * w → length t ≡ n * h * w
     → ((c x y : ℕ) → c < n → x < w → y < h → of w h s c x y ≡ of w h t c x y) → s ≡ t
 unfolding of
@@ -59,7 +59,7 @@ sets-ext n w h s t ls lt e = ext-getD nan s t (ls ∙ sym lt) each
         let at : (i / w / h * h + i / w % h) * w + i % w ≡ i = rw (div-add-mod' (i / w) h) (div-add-mod' i w) in
         rw at at (e (i / w / h) (i % w) (i / w % h) (div-lt-iff-lt-mul H .1 row) (mod-lt i W) (mod-lt (i / w) H))
 
--- a place inside the picture is seen without mirroring
+-- a position inside the picture is read without mirroring
 pub around-inside : (w h : ℕ) (g : Picture) (x y c : ℕ) (dx dy : ℤ) (u v : ℕ) → pos x +ℤ dx ≡ pos u → pos y +ℤ dy ≡ pos v → u < w → v < h
     → around w h g x y c dx dy ≡ g c u v
 unfolding around

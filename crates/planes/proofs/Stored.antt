@@ -1,4 +1,4 @@
--- What loops over planes and rows leave is what `passed` says: the samples outside the filter region are copied, then the pass writes its rectangle. Assumes nothing.
+-- The result of the loops over planes and rows is `passed`: the samples outside the filter region are copied, then the pass writes its rectangle. Assumes nothing.
 use mathlib.Core.Path.{_≡_, refl, sym, _∙_}
 use mathlib.Core.Bool.{Bool, true, false, false≢true, cond, _&&_}
 use mathlib.Core.List.{List}
@@ -19,7 +19,7 @@ use Rattle.planes.specs.Outside.{planesOutside}
 use Rattle.planes.specs.Band.{resultHeight, inFilter, written, inner, passed, layoutFits, setFits, rowsFit, filterRow, copiedOutside}
 use Rattle.planes.specs.Fits.{LayoutFits, BandFits}
 
--- ---- facts behind the tests
+-- ---- facts that the tests establish
 
 pub and-first : (a b : Bool) → (a && b) ≡ true → a ≡ true
 and-first true b e = refl
@@ -60,7 +60,7 @@ band-fits l n from to src dst s d r =
 pub full-rows : (l : Layout) (to : ℕ) → l .full ≡ true → to ≤ resultHeight l → to ≤ l .image .height
 full-rows l to e h = rw e at h
 
--- ---- a rectangle's test
+-- ---- the test of a rectangle
 
 record Inside (left n top m x y : ℕ) : Type 0 where
   pub a : left ≤ x
@@ -95,7 +95,7 @@ bool-iff true false f g = absurd (f tt)
 bool-iff false true f g = absurd (g tt)
 bool-iff false false f g = refl
 
--- ---- the written part of the filter region is a rectangle: b says whether the result is the full planes
+-- ---- the written part of the filter region is a rectangle; b: the result region is the image region
 module _ (iw ih left width top height from to x y : ℕ) (across : left + width ≤ iw) (down : top + height ≤ ih) (order : from ≤ to) (col : x < iw) where
   abbrev Part : Bool → Type 0
   Part b =
@@ -150,7 +150,7 @@ inner-at l s c x y t =
 
 -- ---- the sets
 module _ (l : Layout) (n from to : ℕ) (src dst : List Float) (fits : BandFits l n from to src dst) where
-  -- what copying the samples outside the filter region leaves: its own samples are as they were
+  -- after copying the samples outside the filter region; those inside it are unchanged
   abbrev copied : List Float
   copied = passed n l from to (inner l dst) src dst
 
@@ -158,7 +158,7 @@ module _ (l : Layout) (n from to : ℕ) (src dst : List Float) (fits : BandFits 
   unfolding passed
   length-passed p = length-setOf n (l .image .width) (l .image .height) _
 
-  -- each written sample lies in the filter region: nothing is copied
+  -- if each written sample lies in the filter region, nothing is copied
   copied-within : ((x y : ℕ) → x < l .image .width → y < l .image .height → T (written l from to x y) → T (inFilter l x y)) → dst ≡ copied
   unfolding passed
   copied-within among = sets-ext n (l .image .width) (l .image .height) dst copied (fits .target) (length-passed (inner l dst))
@@ -170,7 +170,7 @@ module _ (l : Layout) (n from to : ℕ) (src dst : List Float) (fits : BandFits 
           (of (l .image .width) (l .image .height) dst c x y)
       kept c x y i j = cond-kept (written l from to x y) (inFilter l x y) _ _ _ (among x y i j) (inner-at l dst c x y)
 
-  -- the result is the filter region alone
+  -- the result region is the filter region
   pub copied-alone : l .full ≡ false → dst ≡ copied
   unfolding written inFilter
   copied-alone e = copied-within (λ x y i j t. among (l .full) e (fits .rows) x y t)
@@ -188,7 +188,7 @@ module _ (l : Layout) (n from to : ℕ) (src dst : List Float) (fits : BandFits 
   copied-nothing p q = copied-within (λ x y i j t.
       within (l .left) (l .width) (l .top) (l .height) x y (record { a = omega (arith, fits .layout .across); b = omega arith; c = omega (arith, fits .layout .down); d = omega arith }))
 
-  -- the result is the full planes: each row is written, the filter region's samples as they were
+  -- the result region is the image region: the samples outside the filter region are copied, those inside it are unchanged
   abbrev kept : Picture
   kept = planesOutside l (l .image .width) (l .image .height) from src dst
 
@@ -266,7 +266,7 @@ module _ (l : Layout) (n from to : ℕ) (src dst : List Float) (fits : BandFits 
           let a : f + (y - (l .top + f)) ≡ y - l .top = omega arith in
           rw a))
 
--- ---- the tests in turn
+-- ---- the tests, in order
 module _ (l : Layout) (n from to : ℕ) (src dst : List Float) where
   pub no-source : setFits l n (length src) ≡ false → dst ≡ copiedOutside l n from to src dst
   unfolding copiedOutside
@@ -296,7 +296,7 @@ fits-copied l n from to src dst f =
     (rw (sides, le-leb n 3 (f .planes), eq-eqb (length dst) (n * l .image .height * l .image .width) (f .target)))
     (rw (le-leb from to (f .order), le-leb to (resultHeight l) (f .rows))))
 
--- the filter region's rows of a band
+-- the rows of a band that lie in the filter region
 pub record FilterRows (l : Layout) (from to : ℕ) : Type 0 where
   pub order : filterRow l from ≤ filterRow l to
   pub end : filterRow l to ≤ l .height

@@ -1,4 +1,4 @@
--- A list with a run of its samples written anew. Definitions only.
+-- A list with a run of its samples overwritten. Definitions only.
 use mathlib.Core.List.{List}
 use Prim.Native.Nat.{ℕ, zero, suc, _+_}
 use lib.ListN.{set}

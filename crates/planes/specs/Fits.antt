@@ -1,4 +1,4 @@
--- A layout and rows of a result that fit. Definitions only.
+-- Layouts and rows of the result region that fit. Definitions only.
 use mathlib.Core.Path.{_≡_}
 use mathlib.Core.List.{List}
 use Prim.Native.Nat.{ℕ, _+_, _*_, _≤_}
@@ -13,7 +13,7 @@ pub record LayoutFits (l : Layout) : Type 0 where
   pub across : l .left + l .width ≤ l .image .width
   pub down : l .top + l .height ≤ l .image .height
 
--- a pass over rows of a result, from one set of n planes to another
+-- a pass over rows of the result region, from one set of n planes to another
 pub record BandFits (l : Layout) (n from to : ℕ) (src dst : List Float) : Type 0 where
   pub layout : LayoutFits l
   pub planes : n ≤ 3

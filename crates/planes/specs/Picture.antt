@@ -1,4 +1,4 @@
--- A picture, what a filter sees around one of its samples (Specification 8.2), and rectangles. Definitions only.
+-- A picture, the neighbours of a sample as a filter reads them (Specification 8.2), and rectangles. Definitions only.
 use Prim.Native.Nat.{ℕ, _+_}
 use lib.IntN.{ℤ, pos, _+ℤ_}
 use lib.Ieee.{Float}
@@ -6,15 +6,15 @@ use Rattle.mirror.specs.Mirror.{mirror}
 use mathlib.Core.Bool.{Bool, _&&_}
 use lib.Dec.{leb, ltb}
 
--- the sample of a channel at a column and a row
+-- the sample of a channel at a column and row
 abbrev pub Picture : Type 0
 Picture = ℕ → ℕ → ℕ → Float
 
--- the sample of a channel so many columns to the right and so many rows down
+-- the sample of a channel at an offset (dx, dy): dx columns right, dy rows down
 abbrev pub Around : Type 0
 Around = ℕ → ℤ → ℤ → Float
 
--- around column x and row y of a picture of w columns and h rows, mirrored at its edges (Specification 8.2)
+-- the neighbours of column x and row y in a picture of w columns and h rows, mirrored at its edges (Specification 8.2)
 unfoldable pub around : ℕ → ℕ → Picture → ℕ → ℕ → Around
 around w h g x y = λ c dx dy. g c (mirror (pos x +ℤ dx) w) (mirror (pos y +ℤ dy) h)
 

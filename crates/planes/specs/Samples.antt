@@ -1,4 +1,4 @@
--- The arithmetic of samples for definitions: binary32 of IEEE 754, each operation rounded once, to nearest with ties to even.
+-- Sample arithmetic for definitions: binary32 of IEEE 754, each operation rounded once, to nearest with ties to even (Specification 2.4).
 use Prim.Native.Nat.{ℕ}
 use lib.Ieee.{Float, binary32, add, sub, mul, div, ofBits}
 
@@ -16,7 +16,7 @@ x ⊗ y = mul binary32 x y
 abbrev pub _⊘_ : Float → Float → Float
 x ⊘ y = div binary32 x y
 
--- a constant by its bits
+-- a constant, given by its bits
 abbrev pub bits : ℕ → Float
 bits b = ofBits binary32 b
 

@@ -1,4 +1,4 @@
--- A set of planes as a list, plane after plane and row after row without gaps (Specification 9.1), and as a picture. Definitions only.
+-- A set of planes as a list, plane by plane and row by row without gaps (Specification 9.1), and as a picture. Definitions only.
 use mathlib.Core.List.{List, [], _∷_}
 use Prim.Native.Nat.{ℕ, zero, suc, _+_, _*_, _/_, _%_}
 use lib.ListN.{getD}
@@ -14,6 +14,6 @@ unfoldable pub tab : ℕ → (ℕ → Float) → List Float
 tab zero f = []
 tab (suc n) f = f 0 ∷ tab n (λ i. f (suc i))
 
--- the list of n planes that a picture makes
+-- the set of n planes of a picture
 unfoldable pub setOf : ℕ → ℕ → ℕ → Picture → List Float
 setOf n w h g = tab (n * h * w) (λ i. g (i / w / h) (i % w) (i / w % h))

@@ -1,5 +1,5 @@
-// Planes row after row without gaps, one after the other: where a filter region lies in them, and which sets and rows
-// there are.
+// Planes stored one after another, row by row without gaps: the layout of a filter region in them, and tests that sets
+// and rows fit it.
 use limits::MAX_SIDE;
 ghost use mathlib.Core.Path.{_≡_};
 ghost use Prim.Native.Nat.{ℕ, _+_, _≤_, min};
@@ -10,7 +10,7 @@ ghost use Rattle.planes.specs.Fill.{fill};
 ghost use Rattle.planes.specs.Copy.{copiedRun};
 ghost use Rattle.planes.specs.Band.{layoutFits, setFits, rowsFit, filterRow};
 
-// The most planes of a set.
+// The largest number of planes of a set.
 pub const PLANES: usize = 3;
 
 // The sides of a region, in samples.
@@ -19,8 +19,8 @@ pub struct Size {
     pub height: usize,
 }
 
-// Where a filter region lies in an image region: `left` and `top` count from the image region's corner.
-// `full`: the result of a pass is the full planes (`preserve_outside`), else the filter region alone.
+// The position of a filter region in an image region: `left` and `top` count from the image region's corner.
+// `full`: the result region is the image region (`preserve_outside` is 1), otherwise the filter region.
 pub struct Layout {
     pub image: Size,
     pub left: usize,
@@ -30,7 +30,7 @@ pub struct Layout {
     pub full: bool,
 }
 
-// The lesser of two.
+// The minimum of two numbers.
 pub fn at_most(x: usize, k: usize) -> usize
     ensures { λ r. ⌜ r ≡ min x k ⌝ }
 {
@@ -40,7 +40,7 @@ pub fn at_most(x: usize, k: usize) -> usize
     k
 }
 
-// Whether n from `at` on end at `end` or before it.
+// Whether n samples from index `at` end at `end` or before.
 fn inside(at: usize, n: usize, end: usize) -> bool
     ensures { λ r. ⌜ r ≡ leb (at + n) end ⌝ }
 {
@@ -50,7 +50,7 @@ fn inside(at: usize, n: usize, end: usize) -> bool
     at <= end - n
 }
 
-// Whether the sides are in measure and the filter region in the image.
+// Whether the image region's sides are at most 16,384 and the filter region is inside it.
 pub fn layout_fits(l: Layout) -> bool
     ensures { λ r. ⌜ r ≡ layoutFits l ⌝ }
 {
@@ -66,7 +66,7 @@ pub fn layout_fits(l: Layout) -> bool
     inside(l.top, l.height, l.image.height)
 }
 
-// Whether a slice of that length is a set of n planes.
+// Whether a slice of this length is a set of n planes.
 pub fn set_fits(l: Layout, n: usize, len: usize) -> bool
     ensures { λ r. ⌜ r ≡ setFits l n len ⌝ }
 {
@@ -79,7 +79,7 @@ pub fn set_fits(l: Layout, n: usize, len: usize) -> bool
     len == n * l.image.height * l.image.width
 }
 
-// Whether the result has these rows.
+// Whether these are rows of the result region.
 pub fn rows_fit(l: Layout, from: usize, to: usize) -> bool
     ensures { λ r. ⌜ r ≡ rowsFit l from to ⌝ }
 {
@@ -92,7 +92,7 @@ pub fn rows_fit(l: Layout, from: usize, to: usize) -> bool
     to <= l.height
 }
 
-// The filter region's row for a row of the result.
+// The row of the filter region at a row of the result region.
 pub fn filter_row(l: Layout, y: usize) -> usize
     ensures { λ r. ⌜ r ≡ filterRow l y ⌝ }
 {
@@ -117,7 +117,7 @@ fn copy_samples(dst: &mut [f32], at: usize, src: &[f32], from: usize, n: usize)
     }
 }
 
-// Copies n samples from index `from` of `src` to index `at` of `dst`. Nothing where either slice has no such run.
+// Copies n samples from index `from` of `src` to index `at` of `dst`. Does nothing if either slice is too short.
 pub fn copy_run(dst: &mut [f32], at: usize, src: &[f32], from: usize, n: usize)
     ensures { λ _. ⌜ now (dst .exit) ≡ copiedRun (now (dst .entry)) at (now (src .entry)) from n ⌝ }
 {

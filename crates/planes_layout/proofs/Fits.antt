@@ -28,12 +28,12 @@ use Rattle.planes.specs.Fits.{LayoutFits}
 use Rattle.planes_layout.specs.declared.LayoutAnswer.{LayoutAnswer}
 use Rattle.planes_layout.specs.Outcome.{layoutOf, noLayout, layoutAnswer, layoutOutcome, passChecks, PassOutcome, passOutcome}
 
--- a part that lies inside, an axis at a time
+-- containment on one axis
 part-fits : (a b : ℤ) (n m : ℕ) → T (leZ a b) → T (leZ (b +ℤ pos m) (a +ℤ pos n)) → natAbs (b -ℤ a) + m ≤ n
 part-fits a b n m h k =
     omega (arith, le-to a b h, le-to (b +ℤ pos m) (a +ℤ pos n) k, sum-is a (pos n), sum-is b (pos m), difference-is b a, size-is (b -ℤ a), ahead a b (le-to a b h))
 
--- ---- the tests behind the number 0
+-- ---- the tests that number 0 implies
 
 pub zero-is : (a b c : Bool) → cond (true && not (a && b)) outOfMeasure (cond (true && not c) notInside 0) ≡ 0 → T a × T b × T c
 zero-is true true true e = (tt, tt, tt)
@@ -75,12 +75,12 @@ module _ (image filter : Region) (full : Bool) (ok : firstOf (placedChecks image
       let f = layout-accepted .fits in
       rw (le-leb (l .image .width) 16384 (f .wide), le-leb (l .image .height) 16384 (f .high), le-leb (l .left + l .width) (l .image .width) (f .across), le-leb (l .top + l .height) (l .image .height) (f .down))
 
-  -- in an accepted layout a set is judged by its length alone
+  -- in an accepted layout, whether a slice is a set depends on its length alone
   length-judged : (n len : ℕ) → n ≤ 3 → setFits (layoutOf image filter full) n len ≡ eqb len (n * image .height * image .width)
   unfolding layoutOf
   length-judged n len few = rw (layout-true, le-leb n 3 few)
 
--- ---- which number a pass gives: 4 and 5 come before the others
+-- ---- the number of a pass: 4 and 5 come first
 
 pub placed-or : (a b c : Bool) (k m : ℕ) → k ≡ cond (true && not (a && b)) outOfMeasure (cond (true && not c) notInside 0) → (k ≡ 0 → ⊥)
     → k ≡ cond (true && not (a && b)) outOfMeasure (cond (true && not c) notInside m)
@@ -166,7 +166,7 @@ answer-accepted image filter full p e h =
     let y : p .y ≡ natAbs (filter .top -ℤ image .top) = ap (λ (z : PlacedAnswer). z .y) e ∙ rw k in
     rw (k, x, y)
 
--- ---- for passes: a is the answer, and the pass's number and target follow
+-- ---- for passes: a is the answer; then the number and the written set of the pass
 
 pub answer-number : (image filter : Region) (full : Bool) (a : LayoutAnswer) → a ≡ layoutOutcome image filter full → a .number ≡ firstOf (placedChecks image filter)
 unfolding layoutAnswer

@@ -1,4 +1,4 @@
--- The layout of a filter region in an image region, and the outcome of a pass (Specification 9.1, 9.4). Definitions only; Fits.antt has their laws.
+-- The layout of a filter region in an image region, and the outcome of a pass (Specification 9.1, 9.4). Definitions only; Fits.antt has the laws.
 use mathlib.Core.Bool.{Bool, false, cond, _&&_, not}
 use mathlib.Core.List.{List, [], _∷_, _++_}
 use Prim.Native.Nat.{ℕ, _*_}
@@ -15,7 +15,7 @@ use Rattle.planes.specs.declared.Layout.{Layout}
 use Rattle.planes.specs.Band.{rowsFit}
 use Rattle.planes_layout.specs.declared.LayoutAnswer.{LayoutAnswer}
 
--- columns and rows count from the image region's corner; full: the result is the full planes
+-- columns and rows count from the image region's corner; full: the result region is the image region
 unfoldable pub layoutOf : Region → Region → Bool → Layout
 layoutOf image filter full = record {
   image = record { width = image .width; height = image .height };
@@ -36,9 +36,9 @@ layoutAnswer n l = record { number = n; layout = cond (eqb n 0) l noLayout }
 abbrev pub layoutOutcome : Region → Region → Bool → LayoutAnswer
 layoutOutcome image filter full = layoutAnswer (firstOf (placedChecks image filter)) (layoutOf image filter full)
 
--- ---- a pass over rows from `from` up to `to` of its result, from one set of n planes to another
+-- ---- a pass over the rows from `from` up to, not including, `to` of the result region, from one set of n planes to another
 
--- Specification 9.4: 4, 5, then 7 for the two sets, then 9 for the flag that says whether the result is the full planes, and for the rows, which need it
+-- Specification 9.4: 4, 5, then 7 for both sets, then 9 for the flag `preserve_outside` and for the rows, which are checked only if the flag is in range
 unfoldable pub passChecks : Region → Region → ℕ → ℕ → ℕ → ℕ → List Float → List Float → List Check
 passChecks image filter full n from to src dst =
     placedChecks image filter
@@ -46,11 +46,11 @@ passChecks image filter full n from to src dst =
     ∷ always outOfRange (not (flagFits full))
     ∷ given (flagFits full) outOfRange (not (rowsFit (layoutOf image filter (flagSet full)) from to)) ∷ [])
 
--- the number, and what the set written holds
+-- the number, and the written set after the pass
 pub record PassOutcome : Type 0 where
   pub number : ℕ
   pub target : List Float
 
--- a refused pass leaves the set as it was
+-- a refused pass leaves the set unchanged
 unfoldable pub passOutcome : ℕ → List Float → List Float → PassOutcome
 passOutcome n left dst = record { number = n; target = cond (eqb n 0) left dst }

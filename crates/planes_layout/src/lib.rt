@@ -1,4 +1,4 @@
-// Where a filter region lies in the planes of an image region: what every pass takes from the two regions.
+// The layout of a filter region in the planes of an image region, which every pass uses.
 use planes::Layout;
 use planes::Size;
 use refusals::ACCEPTED;
@@ -30,7 +30,7 @@ fn refused(number: u32) -> LayoutAnswer
     LayoutAnswer { number, layout }
 }
 
-// 4 where either is no region of a picture, 5 where the filter region is not inside the image region.
+// The layout, or refusal: 4 if a region is outside the limits, 5 if the filter region is not inside the image region.
 pub fn layout_of(image: Region, filter: Region, full: bool) -> LayoutAnswer
     ensures { λ a. ⌜ a ≡ layoutOutcome image filter full ⌝ }
 {

@@ -1,4 +1,4 @@
-// What every filter pass stores besides its own samples: copies of those outside the filter region.
+// Copies of the samples outside the filter region, which every pass writes besides its filtered samples.
 use planes::Layout;
 use planes::copy_run;
 use planes::rows_fit;
@@ -14,7 +14,7 @@ ghost use Rattle.planes.specs.Fits.{LayoutFits};
 ghost use Rattle.planes.specs.Outside.{rowOutside, rowsOutside, planesOutside};
 ghost use Rattle.planes.specs.Band.{copiedOutside};
 
-// Row y of the image, which starts at index o: what lies outside the filter region.
+// Copies the samples of row y of the image, which starts at index o, that lie outside the filter region.
 fn copy_row_outside(src: &[f32], dst: &mut [f32], l: Layout, y: usize, o: usize)
     requires { ⌜ (o + l .image .width ≤ length (now src)) × (o + l .image .width ≤ length (now dst)) × (l .left + l .width ≤ l .image .width) ⌝ }
     ensures { λ _. ⌜ now (dst .exit) ≡ fill (now (dst .entry)) o (l .image .width) (rowOutside l y o (now (src .entry)) (now (dst .entry))) ⌝ }
@@ -33,7 +33,7 @@ fn copy_row_outside(src: &[f32], dst: &mut [f32], l: Layout, y: usize, o: usize)
     copy_run(dst, o + right, src, o + right, width - right);
 }
 
-// Rows `from` to from + n of one plane, of which the first starts at index `at`.
+// The same for n rows of one plane from row `from`, which starts at index `at`.
 fn copy_rows_outside(src: &[f32], dst: &mut [f32], l: Layout, from: usize, n: usize, at: usize)
     requires { ⌜ (at + n * l .image .width ≤ length (now src)) × (at + n * l .image .width ≤ length (now dst)) × (l .left + l .width ≤ l .image .width) × (from + n ≤ l .image .height) ⌝ }
     ensures { λ _. ⌜ now (dst .exit) ≡ rowsFill (now (dst .entry)) at (l .image .width) (l .image .width) n (rowsOutside l from at (l .image .width) (now (src .entry)) (now (dst .entry))) ⌝ }
@@ -47,7 +47,7 @@ fn copy_rows_outside(src: &[f32], dst: &mut [f32], l: Layout, from: usize, n: us
     }
 }
 
-// The same rows of the first n planes.
+// The same for these rows in the first n planes.
 fn copy_planes_outside(src: &[f32], dst: &mut [f32], l: Layout, n: usize, from: usize, rows: usize)
     requires { ⌜ LayoutFits l ⌝ }
     requires { ⌜ (n ≤ 3) × (length (now src) ≡ n * l .image .height * l .image .width) × (length (now dst) ≡ n * l .image .height * l .image .width) × (from + rows ≤ l .image .height) ⌝ }
@@ -61,7 +61,7 @@ fn copy_planes_outside(src: &[f32], dst: &mut [f32], l: Layout, n: usize, from: 
     }
 }
 
-// Whether the filter region, which lies in the image region, is all of it.
+// Whether the filter region is the whole image region.
 fn fills_image(l: Layout) -> bool
     ensures { λ r. ⌜ r ≡ (eqb (l .width) (l .image .width) && eqb (l .height) (l .image .height)) ⌝ }
 {
@@ -71,8 +71,8 @@ fn fills_image(l: Layout) -> bool
     l.height == l.image.height
 }
 
-// Rows `from` to `to` of the result: copies what lies outside the filter region. Nothing where sets, layout or rows
-// do not fit.
+// Copies the samples outside the filter region in rows `from` up to, not including, `to` of the result region. Does
+// nothing if sets, layout or rows do not fit.
 pub fn copy_outside(src: &[f32], dst: &mut [f32], l: Layout, n: usize, from: usize, to: usize)
     ensures { λ _. ⌜ now (dst .exit) ≡ copiedOutside l n from to (now (src .entry)) (now (dst .entry)) ⌝ }
 {

@@ -1,4 +1,4 @@
--- Tables of checks: the number is 0 where no check applies, and only there. Assumes nothing.
+-- Tables of checks: the number is 0 exactly where no check applies. Assumes nothing.
 use mathlib.Core.Path.{_≡_, refl, sym}
 use mathlib.Core.Bool.{Bool, true, false, true≢false, not, _&&_}
 use mathlib.Core.List.{List, [], _∷_}
@@ -19,19 +19,19 @@ pub of-true : (b : Bool) → b ≡ true → T b
 of-true true e = tt
 of-true false e = absurd (true≢false (sym e))
 
--- a condition that does not apply, as it stands in a table: what it negates holds,
+-- a table entry `not b` that does not apply: b holds
 pub met : (b : Bool) → not b ≡ false → T b
 met true e = tt
 met false e = absurd (true≢false e)
 
--- where what it needs is in range
+-- the same where the entry needs a value that is in range
 pub met-given : (needs b : Bool) → (needs && not b) ≡ false → T needs → T b
 met-given true b e t = met b e
 met-given false b e t = absurd t
 
 -- ---- tables
 
--- each check's number is above 0: by computation where the numbers are closed
+-- every check of the table has a number above 0
 abbrev pub numbered : List Check → Bool
 numbered [] = true
 numbered (c ∷ cs) = ltb 0 (c .number) && numbered cs
@@ -56,7 +56,7 @@ pub none-zero : (cs : List Check) → NoneApplies cs → firstOf cs ≡ 0
 none-zero [] n = refl
 none-zero (c ∷ cs) n = rw (n .0) (none-zero cs (n .1))
 
--- row i of a table, counted from 0; past the last, one that never applies
+-- row i of a table, counted from 0; past the last row, a check that never applies
 abbrev pub rowOf : List Check → ℕ → Check
 rowOf cs i = getD cs i (always 0 false)
 
@@ -65,6 +65,6 @@ none-at [] n i = refl
 none-at (c ∷ cs) n zero = n .0
 none-at (c ∷ cs) n (suc i) = none-at cs (n .1) i
 
--- where the number is 0, row i does not apply
+-- if the number is 0, row i does not apply
 pub row-passed : (cs : List Check) → T (numbered cs) → firstOf cs ≡ 0 → (i : ℕ) → (rowOf cs i .needs && rowOf cs i .fault) ≡ false
 row-passed cs t e i = none-at cs (zero-none cs t e) i

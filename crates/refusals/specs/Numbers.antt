@@ -4,19 +4,19 @@ use Prim.Native.Nat.{ℕ}
 abbrev pub accepted : ℕ
 accepted = 0
 
--- the header's bits run out
+-- a header field ends past the last bit
 abbrev pub bitsRunOut : ℕ
 bitsRunOut = 1
 
--- a half-precision number has exponent field 31
+-- a half-precision number is infinite or NaN: its exponent field is 31
 abbrev pub halfNotFinite : ℕ
 halfNotFinite = 2
 
--- a channel's |1 + (w0 + w1) × 4| is under 2^-23
+-- custom weights of a channel: |1 + (w0 + w1) × 4| is below 2^-23
 abbrev pub kernelNearZero : ℕ
 kernelNearZero = 3
 
--- a side, area, left or top outside the measures
+-- a left, top, side or area exceeds its limits
 abbrev pub outOfMeasure : ℕ
 outOfMeasure = 4
 
@@ -24,26 +24,26 @@ outOfMeasure = 4
 abbrev pub notInside : ℕ
 notInside = 5
 
--- edge filter on, and the filter region's left or top is negative or no multiple of 8
+-- EPF: the filter region's left or top is negative or not a multiple of 8
 abbrev pub notOnBlocks : ℕ
 notOnBlocks = 6
 
--- a caller's slice has a wrong length
+-- a slice of the caller has the wrong length
 abbrev pub wrongLength : ℕ
 wrongLength = 7
 
--- a touched block's group is not in the frame, or its grid is present and does not hold the block
+-- EPF: a block's group is not in the frame, or its grid is present and lacks the block
 abbrev pub blockNotHeld : ℕ
 blockNotHeld = 8
 
--- a setting out of range
+-- a setting is out of range, or a run record is not valid
 abbrev pub outOfRange : ℕ
 outOfRange = 9
 
--- the band number is not below the count, is done, or the run is finished
+-- the band does not exist or is done, or the run is finished
 abbrev pub bandNotOpen : ℕ
 bandNotOpen = 10
 
--- advance while a band is missing or after the finish; the result before the finish
+-- advance: a band is missing or the run is finished; result: the run is not finished
 abbrev pub passNotDone : ℕ
 passNotDone = 11

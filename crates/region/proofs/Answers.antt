@@ -1,4 +1,4 @@
--- The tables of checks taken apart: when each method refuses. Assumes nothing.
+-- When each method refuses, read off its table of checks. Assumes nothing.
 use mathlib.Core.Path.{_≡_}
 use mathlib.Core.Bool.{true, false}
 use Rattle.refusals.specs.Numbers.{outOfMeasure}
@@ -7,7 +7,7 @@ use Rattle.region.specs.Measures.{measured}
 use Rattle.region.specs.declared.Region.{Region}
 use Rattle.region.specs.Answers.{givenChecks, pairChecks}
 
--- ---- laws: the number given, by which test failed first
+-- ---- laws: the number, by the first check that applies
 module _ (r : Region) where
   pub given-fails : measured r ≡ false → firstOf (givenChecks r) ≡ outOfMeasure
   given-fails e = rw e

@@ -1,4 +1,4 @@
--- Laws of the measures of regions. Assumes nothing.
+-- Laws of the limits of regions. Assumes nothing.
 use mathlib.Core.Path.{_≡_, refl}
 use mathlib.Core.Bool.{Bool, true, false, _&&_}
 use Prim.Native.Nat.{_*_, _<_, _≤_}
@@ -18,7 +18,7 @@ use Rattle.region.specs.Regions.{columns, rows, regionOf}
 use Rattle.region.specs.declared.Region.{Region}
 use Rattle.region.specs.Measures.{areaFits, measured, pictured}
 
--- ---- what measured regions have
+-- ---- regions within the limits of region arithmetic
 
 module _ (r : Region) (t : T (measured r)) where
   across : T (place (r .left) && side (r .width))
@@ -41,7 +41,7 @@ module _ (r : Region) (t : T (measured r)) where
   pub measured-height : r .height ≤ 16384
   measured-height = side-size (r .height) (and-r (place (r .top)) (side (r .height)) down)
 
-  -- the far edges
+  -- the right and bottom edges
   pub far-column : mag (columns r .end) < 0x8000_0000
   far-column = omega (arith, mag-add (r .left) (pos (r .width)), place-size (r .left) measured-left, measured-width)
 
@@ -54,7 +54,7 @@ measured-of r a b w h =
     and-i (place (r .left) && side (r .width)) (place (r .top) && side (r .height))
     (and-i (place (r .left)) (side (r .width)) a (side-of (r .width) w)) (and-i (place (r .top)) (side (r .height)) b (side-of (r .height) h))
 
--- by the axes
+-- a region is within the limits if both of its axes are
 pub measured-spans : (x y : Span) → measured (regionOf x y) ≡ (measuredSpan x && measuredSpan y)
 unfolding measured regionOf measuredSpan
 measured-spans x y = refl
@@ -63,7 +63,7 @@ pub measured-axes : (r : Region) → measured r ≡ (measuredSpan (columns r) &&
 unfolding measured measuredSpan
 measured-axes r = rw (extent-back (r .left) (r .width), extent-back (r .top) (r .height))
 
--- ---- what regions of pictures have
+-- ---- regions within the limits of an image or filter region
 
 module _ (r : Region) (t : T (pictured r)) where
   sides : T (areaFits (r .width) (r .height))
@@ -83,7 +83,7 @@ module _ (r : Region) (t : T (pictured r)) where
   pub pictured-area : r .width * r .height ≤ 16777216
   pictured-area = leb→le (r .width * r .height) 16777216 (and-r (leb 1 (r .height)) _ (and-r (leb 1 (r .width)) _ sides))
 
--- ---- the meet of two measured regions, where it has a place, is measured
+-- ---- the intersection of two regions within the limits is within the limits, if it is not empty
 
 meet-narrow : (a b : Span) → vacant (meet a b) ≡ false → extent (meet a b) ≤ extent a
 meet-narrow a b e =

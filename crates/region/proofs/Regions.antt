@@ -1,4 +1,4 @@
--- A region is given back by its columns and rows. Assumes nothing.
+-- A region and its columns and rows determine each other. Assumes nothing.
 use mathlib.Core.Path.{_≡_}
 use Rattle.region_axis.proofs.Laws.{extent-back}
 use Rattle.region.specs.declared.Region.{Region}
@@ -6,7 +6,7 @@ use Rattle.region.specs.Regions.{columns, rows, regionOf}
 
 -- ---- laws
 
--- a region is the region of its columns and rows, and has them
+-- the region made of a region's columns and rows is that region, and the other way round
 pub region-back : (r : Region) → regionOf (columns r) (rows r) ≡ r
 unfolding regionOf
 region-back r = rw (extent-back (r .left) (r .width), extent-back (r .top) (r .height))

@@ -1,4 +1,4 @@
--- What each method answers (Specification 6.1, 6.4): the first number that applies, and the value, or zeros where it refuses.
+-- The answer of each method (Specification 6.1, 6.4): the number of the first check that applies, and the value, zeros if refused.
 use mathlib.Core.Bool.{Bool, false, cond, _&&_, not}
 use mathlib.Core.List.{List, [], _∷_}
 use Prim.Native.Nat.{ℕ}
@@ -18,7 +18,7 @@ boolAnswer n b = record { number = n; holds = cond (eqb n 0) b false }
 abbrev pub edgeAnswer : ℕ → ℤ → EdgeAnswer
 edgeAnswer n z = record { number = n; edge = cond (eqb n 0) z (pos 0) }
 
--- ---- tables: each region that is given
+-- ---- tables of checks, for each given region
 
 abbrev pub givenChecks : Region → List Check
 givenChecks r = always outOfMeasure (not (measured r)) ∷ []
@@ -31,11 +31,11 @@ pairChecks a b = always outOfMeasure (not (measured a && measured b)) ∷ []
 abbrev pub isEmptyOutcome : Region → BoolAnswer
 isEmptyOutcome r = boolAnswer (firstOf (givenChecks r)) (isEmpty r)
 
--- the column past the last
+-- left + width, the first column outside
 abbrev pub rightOutcome : Region → EdgeAnswer
 rightOutcome r = edgeAnswer (firstOf (givenChecks r)) (columns r .end)
 
--- the row past the last
+-- top + height, the first row outside
 abbrev pub bottomOutcome : Region → EdgeAnswer
 bottomOutcome r = edgeAnswer (firstOf (givenChecks r)) (rows r .end)
 

@@ -5,14 +5,14 @@ use lib.Dec.{leb}
 use Rattle.region_axis.specs.Measures.{place, side}
 use Rattle.region.specs.declared.Region.{Region}
 
--- a region that region arithmetic takes: left and top −1,048,576 to 1,048,576, sides 0 to 16,384
+-- the limits of region arithmetic: left and top −1,048,576 to 1,048,576, sides 0 to 16,384
 unfoldable pub measured : Region → Bool
 measured r = (place (r .left) && side (r .width)) && (place (r .top) && side (r .height))
 
--- sides of at least 1, and an area of at most 16,777,216
+-- sides at least 1, area at most 16,777,216
 abbrev pub areaFits : ℕ → ℕ → Bool
 areaFits w h = leb 1 w && (leb 1 h && leb (w * h) 16777216)
 
--- a region that an image or a filter may have
+-- the limits of an image or filter region
 unfoldable pub pictured : Region → Bool
 pictured r = measured r && areaFits (r .width) (r .height)

@@ -1,4 +1,4 @@
--- A region as its columns and rows, and what it has and contains (Specification 2.1, 6.1).
+-- A region as its columns and rows; emptiness and containment (Specification 2.1, 6.1).
 use mathlib.Core.Bool.{Bool, _&&_, _||_}
 use lib.Dec.{eqb}
 use lib.IntN.{ℤ, pos}
@@ -14,7 +14,7 @@ columns r = spanOf (r .left) (r .width)
 abbrev pub rows : Region → Span
 rows r = spanOf (r .top) (r .height)
 
--- place (x, y) lies in r
+-- position (x, y) lies in r
 pub record Holds (r : Region) (x y : ℤ) : Type 0 where
   pub column : In (columns r) x
   pub row : In (rows r) y
@@ -25,14 +25,14 @@ regionOf x y = record { left = x .start; top = y .start; width = extent x; heigh
 abbrev pub zeroRegion : Region
 zeroRegion = record { left = pos 0; top = pos 0; width = 0; height = 0 }
 
--- a side of 0
+-- a region is empty if a side is 0
 abbrev pub isEmpty : Region → Bool
 isEmpty r = eqb (r .width) 0 || eqb (r .height) 0
 
--- each place of t is a place of r
+-- t is inside r: each position of t is a position of r
 unfoldable pub inside : Region → Region → Bool
 inside r t = covers (columns r) (columns t) && covers (rows r) (rows t)
 
--- an empty target is contained
+-- an empty target is contained too
 abbrev pub contains : Region → Region → Bool
 contains r t = isEmpty t || inside r t

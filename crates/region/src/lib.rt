@@ -1,5 +1,5 @@
-// Region and the questions that it answers (region.rs). Each method checks the regions that it is given against the
-// limits of Specification 4.1.
+// Regions and tests on them (region.rs of the original). Each method checks the given regions against the limits of
+// Specification 4.1.
 use refusals::ACCEPTED;
 use refusals::OUT_OF_MEASURE;
 use region_interval::Span;
@@ -53,7 +53,7 @@ fn within(s: Span) -> bool
     region_axis::judge(s).ok
 }
 
-// Region arithmetic takes sides of 0 and has no area limit.
+// Whether a region is within the limits of region arithmetic: sides may be 0, and the area has no limit.
 pub fn measured(r: Region) -> bool
     ensures { λ b. ⌜ b ≡ measured r ⌝ }
 {
@@ -106,7 +106,7 @@ fn no_edge(number: u32) -> EdgeAnswer
     EdgeAnswer { number, edge: 0 }
 }
 
-// Where a span of r's ends.
+// The end of a span of r, if r is within the limits.
 fn edge_of(r: Region, s: Span) -> EdgeAnswer
     requires { ⌜ (T (measured r) → mag (s .end) < 0x8000_0000) ⌝ }
     ensures { λ a. ⌜ a ≡ edgeAnswer (firstOf (givenChecks r)) (s .end) ⌝ }
@@ -118,7 +118,7 @@ fn edge_of(r: Region, s: Span) -> EdgeAnswer
 }
 
 impl Region {
-    // A side of 0.
+    // Whether a side is 0, or refusal 4.
     pub fn is_empty(self) -> BoolAnswer
         ensures { λ r. ⌜ r ≡ isEmptyOutcome self ⌝ }
     {
@@ -128,21 +128,21 @@ impl Region {
         told(empty(self))
     }
 
-    // The column past the last.
+    // left + width, or refusal 4.
     pub fn right(self) -> EdgeAnswer
         ensures { λ r. ⌜ r ≡ rightOutcome self ⌝ }
     {
         edge_of(self, columns(self))
     }
 
-    // The row past the last.
+    // top + height, or refusal 4.
     pub fn bottom(self) -> EdgeAnswer
         ensures { λ r. ⌜ r ≡ bottomOutcome self ⌝ }
     {
         edge_of(self, rows(self))
     }
 
-    // An empty target or each place inside, or 4.
+    // Whether the target is empty or inside, or refusal 4.
     pub fn contains(self, target: Region) -> BoolAnswer
         ensures { λ r. ⌜ r ≡ containsOutcome self target ⌝ }
     {
@@ -156,7 +156,7 @@ impl Region {
     }
 }
 
-// Each place of the target is a place of r.
+// Whether the target is inside r.
 fn inside(r: Region, target: Region) -> bool
     ensures { λ b. ⌜ b ≡ inside r target ⌝ }
 {

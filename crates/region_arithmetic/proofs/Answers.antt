@@ -1,4 +1,4 @@
--- The tables of checks taken apart: when a result is refused. Assumes nothing.
+-- When a result is refused, read off the tables of checks. Assumes nothing.
 use mathlib.Core.Path.{_≡_}
 use mathlib.Core.Bool.{Bool, true, false}
 use Rattle.refusals.specs.Numbers.{outOfMeasure, outOfRange}
@@ -7,7 +7,7 @@ use Rattle.region.specs.Measures.{measured}
 use Rattle.region.specs.declared.Region.{Region}
 use Rattle.region_arithmetic.specs.Answers.{madeChecks, settingChecks, judgedNumber}
 
--- ---- laws: the number given, by which test failed first
+-- ---- laws: the number, by the first check that applies
 module _ (r made : Region) where
   pub result-fails : measured r ≡ false → firstOf (madeChecks r made) ≡ outOfMeasure
   result-fails e = rw e

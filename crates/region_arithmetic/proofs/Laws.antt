@@ -1,4 +1,4 @@
--- The laws of region arithmetic, from those of intervals. Assumes nothing.
+-- The laws of region arithmetic, derived from those of intervals. Assumes nothing.
 use mathlib.Core.Path.{_≡_, refl, sym, ap, _∙_, subst}
 use mathlib.Core.Bool.{Bool, true, false, _||_, true≢false}
 use Prim.Native.Nat.{ℕ, _+_, _<_, _≤_}
@@ -36,7 +36,7 @@ or-false-right : (a b : Bool) → (a || b) ≡ false → b ≡ false
 or-false-right true b e = absurd (true≢false e)
 or-false-right false b e = e
 
--- ---- containing, by the axes
+-- ---- containment, per axis
 
 module _ (r t : Region) where
   contains-of : T (covers (columns r) (columns t)) → T (covers (rows r) (rows t)) → T (contains r t)
@@ -62,7 +62,7 @@ module _ (r : Region) (n : isEmpty r ≡ false) where
   rows-held : vacant (rows r) ≡ false
   rows-held = span-not-vacant (r .top) (r .height) (eqb-false (r .height) 0 (or-false-right (eqb (r .width) 0) (eqb (r .height) 0) n))
 
--- ---- a region of spans has those spans
+-- ---- the columns and rows of a region made of two spans
 
 columns-back : (x y : Span) → T (leZ (x .start) (x .end)) → columns (regionOf x y) ≡ x
 unfolding regionOf

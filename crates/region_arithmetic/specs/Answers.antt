@@ -1,4 +1,4 @@
--- What each function answers (Specification 6.1, 6.4): the first number that applies, and the region, or zeros where it refuses.
+-- The answer of each function (Specification 6.1, 6.4): the number of the first check that applies, and the region, zeros if refused.
 use mathlib.Core.Bool.{Bool, cond, not}
 use mathlib.Core.List.{List, [], _∷_}
 use Prim.Native.Nat.{ℕ}
@@ -17,25 +17,25 @@ use Rattle.region_arithmetic.specs.declared.RegionAnswer.{RegionAnswer}
 unfoldable pub regionAnswer : ℕ → Region → RegionAnswer
 regionAnswer n r = record { number = n; region = cond (eqb n 0) r zeroRegion }
 
--- ---- tables: the region that is given, and then the one that results
+-- ---- tables of checks: the given regions, then the result
 
 abbrev pub madeChecks : Region → Region → List Check
 madeChecks r made = always outOfMeasure (not (measured r)) ∷ always outOfMeasure (not (measured made)) ∷ []
 
--- a result is judged only where the setting that it needs is in range
+-- the result is checked only if the setting that it needs is in range
 abbrev pub settingChecks : Region → Bool → Region → List Check
 settingChecks r sound made =
     always outOfMeasure (not (measured r)) ∷ given sound outOfMeasure (not (measured made)) ∷ always outOfRange (not sound) ∷ []
 
--- a factor: 0 to 16
+-- downsampling factors: 0 to 16
 abbrev pub isFactor : ℕ → Bool
 isFactor f = leb f 16
 
--- an alignment: a power of two from 1 to 8,192
+-- alignments: the powers of two from 1 to 8,192
 abbrev pub isAlignment : ℕ → Bool
 isAlignment d = powerBelow 14 d
 
--- the number of a region that results
+-- the number of a resulting region: 4 if it exceeds the limits
 unfoldable pub judgedNumber : Region → ℕ
 judgedNumber r = firstOf (givenChecks r)
 

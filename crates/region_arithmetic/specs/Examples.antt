@@ -1,4 +1,4 @@
--- Regions moved, cut to cells and aligned, computed. Assumes nothing.
+-- Regions downsampled and aligned, computed. Assumes nothing.
 use mathlib.Core.Path.{_≡_, refl}
 use lib.IntN.{pos, negsuc}
 use Rattle.region.specs.Regions.{regionOf}
@@ -18,7 +18,7 @@ instance-aligned : alignedTo 8 instance ≡ record { left = negsuc 7; top = negs
 unfolding alignedTo regionOf
 instance-aligned = refl
 
--- an empty region may become one that is not: left −3, width 0, aligned to 8
+-- an empty region may become nonempty: left −3, width 0, aligned to 8
 empty-aligned : alignedTo 8 (record { left = negsuc 2; top = pos 0; width = 0; height = 8 }) ≡ record { left = negsuc 7; top = pos 0; width = 8; height = 8 }
 unfolding alignedTo regionOf
 empty-aligned = refl

@@ -1,4 +1,4 @@
--- What a reader would ask of region arithmetic, stated; proofs/Laws.antt proves it. A place is a column and a row, counted as left and top are.
+-- Laws of region arithmetic, stated; proofs/Laws.antt proves them. A position is a column and a row, in the coordinates of left and top.
 use mathlib.Core.Path.{_≡_}
 use mathlib.Core.Bool.{false}
 use Prim.Native.Nat.{ℕ, _<_}
@@ -19,7 +19,7 @@ pub record Aligned (m : ℕ) (r : Region) : Type 0 where
 abbrev pub IntersectionInside : Type 0
 IntersectionInside = (a b : Region) → T (contains a (intersected a b)) × T (contains b (intersected a b))
 
--- and contains every region, if it is not empty, that is contained in both
+-- and contains every nonempty region that is contained in both
 abbrev pub IntersectionGreatest : Type 0
 IntersectionGreatest = (a b c : Region) → isEmpty c ≡ false → T (contains a c) → T (contains b c) → T (contains (intersected a b) c)
 
@@ -27,11 +27,11 @@ IntersectionGreatest = (a b c : Region) → isEmpty c ≡ false → T (contains 
 abbrev pub AlignedContains : Type 0
 AlignedContains = (m : ℕ) (r : Region) → 0 < m → Aligned m (alignedTo m r) × T (contains (alignedTo m r) r)
 
--- and is contained in every aligned region that contains its argument, if that is not empty
+-- and is contained in every aligned region that contains its argument, if the argument is not empty
 abbrev pub AlignedLeast : Type 0
 AlignedLeast = (m : ℕ) (r s : Region) → 0 < m → isEmpty r ≡ false → Aligned m s → T (contains s r) → T (contains s (alignedTo m r))
 
--- the shrunk region has the cell of each place of the region
+-- the shrunk region contains the cell of each position of the region
 abbrev pub ShrunkHas : Type 0
 ShrunkHas = (m : ℕ) (r : Region) → 0 < m → (x y : ℤ) → Holds r x y → Holds (shrunkBy m r) (floorDiv x m) (floorDiv y m)
 

@@ -1,4 +1,4 @@
-// Regions made from regions (region.rs). Each function checks the regions that it is given, and its result,
+// Operations that return a region (region.rs of the original). Each function checks the given regions and its result
 // against the limits of Specification 4.1.
 use refusals::ACCEPTED;
 use refusals::OUT_OF_MEASURE;
@@ -38,7 +38,7 @@ fn refused(number: u32) -> RegionAnswer
     }
 }
 
-// The region of these columns and rows, if it is within the measures.
+// The region of these columns and rows if it is within the limits, or refusal 4.
 fn judged(x: Span, y: Span) -> RegionAnswer
     ensures { λ r. ⌜ r ≡ regionAnswer (judgedNumber (regionOf x y)) (regionOf x y) ⌝ }
 {
@@ -71,7 +71,7 @@ fn is_alignment(grid_dim: u32) -> bool
     1u32 << exponent == grid_dim
 }
 
-// Both corners moved, or 4.
+// The region moved by (x, y), or refusal 4.
 pub fn translate(r: Region, x: i32, y: i32) -> RegionAnswer
     ensures { λ a. ⌜ a ≡ translateOutcome r x y ⌝ }
 {
@@ -84,7 +84,7 @@ pub fn translate(r: Region, x: i32, y: i32) -> RegionAnswer
     )
 }
 
-// The places that both have, of n places from a on and m places from b on.
+// The positions common to n positions from a and m positions from b.
 fn shared(a: i32, n: u32, b: i32, m: u32) -> Span
     ensures { λ s. ⌜ s ≡ meet (spanOf a n) (spanOf b m) ⌝ }
 {
@@ -94,7 +94,7 @@ fn shared(a: i32, n: u32, b: i32, m: u32) -> Span
     )
 }
 
-// What two regions within the measures have in common.
+// The intersection of two regions within the limits.
 fn common(a: Region, b: Region) -> RegionAnswer
     requires { ⌜ T (measured a) × T (measured b) ⌝ }
     ensures { λ r. ⌜ r ≡ regionAnswer 0 (intersected a b) ⌝ }
@@ -110,7 +110,7 @@ fn common(a: Region, b: Region) -> RegionAnswer
     judged(x, y)
 }
 
-// The common places, the zero region where there are none, or 4.
+// The intersection, zeros if it is empty, or refusal 4.
 pub fn intersection(a: Region, b: Region) -> RegionAnswer
     ensures { λ r. ⌜ r ≡ intersectionOutcome a b ⌝ }
 {
@@ -123,7 +123,7 @@ pub fn intersection(a: Region, b: Region) -> RegionAnswer
     common(a, b)
 }
 
-// So many places on every side, or 4.
+// The region with `size` more columns and rows on every side, or refusal 4.
 pub fn pad(r: Region, size: u32) -> RegionAnswer
     ensures { λ a. ⌜ a ≡ padOutcome r size ⌝ }
 {
@@ -136,7 +136,7 @@ pub fn pad(r: Region, size: u32) -> RegionAnswer
     )
 }
 
-// The cells touched, or 4, 9.
+// The cells of 2^factor × 2^factor positions that the region touches, or refusal 4 or 9.
 pub fn downsample(r: Region, factor: u32) -> RegionAnswer
     ensures { λ a. ⌜ a ≡ downsampleOutcome r factor ⌝ }
 {
@@ -152,7 +152,7 @@ pub fn downsample(r: Region, factor: u32) -> RegionAnswer
     )
 }
 
-// The least aligned region around it, or 4, 9.
+// The smallest region around r whose edges are multiples of `grid_dim`, or refusal 4 or 9.
 pub fn container_aligned(r: Region, grid_dim: u32) -> RegionAnswer
     ensures { λ a. ⌜ a ≡ alignedOutcome r «grid_dim» ⌝ }
 {

@@ -1,4 +1,4 @@
--- Laws of the measures of one axis. Assumes nothing.
+-- Laws of the limits of one axis. Assumes nothing.
 use mathlib.Core.Path.{_≡_, refl, ap}
 use mathlib.Core.Bool.{Bool, true, false}
 use mathlib.Core.Logic.{⊎-elim}
@@ -51,7 +51,7 @@ extent-back z n =
     (λ (l : below (z +ℤ pos n -ℤ z) ≡ 0). omega (arith, size-is (z +ℤ pos n -ℤ z), difference-is (z +ℤ pos n) z, sum-is z (pos n)))
     (one-side (z +ℤ pos n -ℤ z))
 
--- ---- what is judged
+-- ---- spans that are checked
 
 module _ (s : Span) where
   pub axis-unplaced : place (s .start) ≡ false → axisOf s ≡ record { ok = false; start = pos 0; len = 0 }
@@ -66,7 +66,7 @@ module _ (s : Span) where
   unfolding axisOf measured side
   axis-in e h = rw (e, le-leb (extent s) 16384 h)
 
-  -- an end that is far from every place
+  -- an end that is far from every accepted start
   pub far-end : T (place (s .start)) → 4194304 < above (s .end) + below (s .end) → 16384 < extent s
   far-end p h =
       let d = s .end -ℤ s .start in
@@ -92,7 +92,7 @@ pub axis-yes : (s : Span) → measured s ≡ true → axisOf s ≡ record { ok =
 unfolding axisOf
 axis-yes s e = rw e
 
--- an interval that is not turned round is the one of its start and extent
+-- an interval with start ≤ end is given by its start and extent
 pub span-back : (s : Span) → T (leZ (s .start) (s .end)) → spanOf (s .start) (extent s) ≡ s
 span-back s h = ap (λ (z : ℤ). record { start = s .start; end = z }) (eq-of (s .start +ℤ pos (extent s)) (s .end) arithmetic)
   where

@@ -12,14 +12,14 @@ use Rattle.region_axis.specs.declared.Axis.{Axis}
 unfoldable pub place : ℤ → Bool
 place z = leZ (negsuc 1048575) z && leZ z (pos 1048576)
 
--- a side as region arithmetic takes it: 0 to 16,384
+-- a side in region arithmetic: 0 to 16,384
 unfoldable pub side : ℕ → Bool
 side n = leb n 16384
 
--- a span that region arithmetic takes
+-- a span within the limits of region arithmetic
 unfoldable pub measured : Span → Bool
 measured s = place (s .start) && side (extent s)
 
--- a span within the measures as a start and a length; zeros where it is not
+-- a span within the limits, as a start and a length; zeros otherwise
 unfoldable pub axisOf : Span → Axis
 axisOf s = cond (measured s) (record { ok = true; start = s .start; len = extent s }) (record { ok = false; start = pos 0; len = 0 })

@@ -1,5 +1,5 @@
-// The measures of one axis: an interval as a start and a length, if they are within Specification 4.1, and how far
-// two places are apart.
+// The limits of one axis (Specification 4.1): an interval as a start and a length, if it is within them, and the
+// distance of two positions.
 use limits::MAX_SIDE_U64;
 use region_interval::Span;
 ghost use mathlib.Core.Path.{_≡_};
@@ -9,7 +9,7 @@ ghost use lib.IntN.{pos, natAbs, _-ℤ_};
 ghost use lib.Signed.{mag};
 ghost use Rattle.region_axis.specs.Measures.{place, axisOf};
 
-// A span within the measures, as a region has it.
+// A span within the limits, as the start and length that a region has.
 pub struct Axis {
     pub ok: bool,
     pub start: i32,
@@ -19,12 +19,12 @@ pub struct Axis {
 const LOWEST_PLACE: i64 = -1_048_576;
 
 const HIGHEST_PLACE: i64 = 1_048_576;
-// Past these an end is more than the largest side from any place within the measures.
+// An end beyond these is farther than the longest side from every accepted start.
 const LOWEST_END: i64 = -4_194_304;
 
 const HIGHEST_END: i64 = 4_194_304;
 
-// How far b is from a.
+// The distance |b - a|.
 fn distance(a: i64, b: i64) -> u64
     requires { ⌜ (mag a < 0x4_0000_0000_0000) × (mag b < 0x4_0000_0000_0000) ⌝ }
     ensures { λ r. ⌜ r ≡ natAbs (b -ℤ a) ⌝ }
@@ -55,7 +55,7 @@ fn out_of_measure() -> Axis
     }
 }
 
-// The span of these ends as a start and a length, if it is within the measures.
+// The span of these ends as a start and a length, zeros if it exceeds the limits.
 fn judged(start: i64, end: i64) -> Axis
     ensures { λ r. ⌜ r ≡ axisOf (record { start = start; end = end }) ⌝ }
 {
@@ -79,14 +79,14 @@ fn judged(start: i64, end: i64) -> Axis
     }
 }
 
-// Start and length where they are within the measures, else zeros.
+// Start and length of a span within the limits, zeros otherwise.
 pub fn judge(s: Span) -> Axis
     ensures { λ r. ⌜ r ≡ axisOf s ⌝ }
 {
     judged(s.start, s.end)
 }
 
-// How far place b is from place a.
+// The distance |b - a|.
 pub fn offset(a: i32, b: i32) -> u32
     ensures { λ r. ⌜ r ≡ natAbs (b -ℤ a) ⌝ }
 {

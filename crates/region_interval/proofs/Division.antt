@@ -1,4 +1,4 @@
--- What division rounded down and rounded up say: the multiples below and above. Assumes nothing.
+-- Division rounded down and rounded up, by the nearest multiples below and above. Assumes nothing.
 use mathlib.Core.Path.{_≡_, refl, sym, ap, _∙_}
 use mathlib.Core.Bool.{Bool, true, false}
 use Prim.Native.Nat.{ℕ, zero, suc, _+_, _*_, _/_, _%_, _<_, _≤_}
@@ -11,7 +11,7 @@ use lib.Signed.{leZ}
 use Rattle.region_interval.specs.Integers.{floorDiv, ceilDiv}
 use Rattle.region_interval.proofs.Order.{above, below, le-to, le-of, eq-of, neg-above, neg-below}
 
--- ---- a multiple of m, above and below 0
+-- ---- a multiple of m, positive and negative part
 
 pub multiple-above : (k : ℤ) (m : ℕ) → above (k *ℤ pos m) ≡ above k * m
 multiple-above (pos a) m = refl
@@ -34,7 +34,7 @@ floor-is (negsuc a) m h =
     let e : suc (a / m) * m ≡ a / m * m + m = suc-mul (a / m) m in
     record { under = omega (arith, div-add-mod' a m, mod-lt a h); over = omega (arith, div-add-mod' a m, mod-lt a h) }
 
--- a multiple that is at most z is at most the quotient's
+-- a multiple of m that is at most z is at most q * m
 pub floor-most : (q z : ℤ) (m : ℕ) (k : ℤ) → Floor q z m → above k * m + below z ≤ above z + below k * m → above k + below q ≤ above q + below k
 floor-most q z m k f h = go (decLe (above k + below q) (above q + below k))
   where
@@ -46,7 +46,7 @@ floor-most q z m k f h = go (decLe (above k + below q) (above q + below k))
         let g : (above k + below q) * m ≡ above k * m + below q * m = omega arith in
         absurd (omega (arith, mul-le-mul-right m n, f .over))
 
--- the quotient is the one k with k * m ≤ z < k * m + m
+-- the quotient is the only k with k * m ≤ z < k * m + m
 pub floor-only : (z : ℤ) (m : ℕ) (k : ℤ) → 0 < m → Floor k z m → floorDiv z m ≡ k
 floor-only z m k h f =
     let g = floor-is z m h in
@@ -62,7 +62,7 @@ ceil-under z m h =
     let b : below (negℤ q) * m ≡ above q * m = ap (λ (n : ℕ). n * m) (neg-below q) in
     omega (arith, f, neg-above z, neg-below z, a, b)
 
--- a multiple that is at least z is at least the quotient's
+-- a multiple of m that is at least z is at least c * m
 pub ceil-least : (z : ℤ) (m : ℕ) (k : ℤ) → 0 < m → above z + below k * m ≤ above k * m + below z
     → above (ceilDiv z m) + below k ≤ above k + below (ceilDiv z m)
 ceil-least z m k h l =

@@ -1,4 +1,4 @@
--- From a flag that a branch tests to what it says. Assumes nothing.
+-- From a boolean that a branch tests to the fact that it stands for. Assumes nothing.
 use mathlib.Core.Path.{_≡_, refl, sym, _∙_}
 use mathlib.Core.Bool.{Bool, true, false, not}
 use lib.Dec.{T}

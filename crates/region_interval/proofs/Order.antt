@@ -1,4 +1,4 @@
--- Linear arithmetic on integers by way of natural numbers, which `omega` reads: how far an integer lies above 0 and how far below.
+-- Linear arithmetic on integers, translated to natural numbers for `omega`: an integer is given by its distance above 0 and its distance below 0.
 -- Assumes nothing.
 use mathlib.Core.Path.{_≡_, refl, sym, ap, _∙_}
 use mathlib.Core.Bool.{Bool, true, false}
@@ -20,7 +20,7 @@ abbrev pub below : ℤ → ℕ
 below (pos n) = 0
 below (negsuc n) = suc n
 
--- it lies on one side
+-- one of the two distances is 0
 pub one-side : (z : ℤ) → (above z ≡ 0) ⊎ (below z ≡ 0)
 one-side (pos n) = inr refl
 one-side (negsuc n) = inl refl
@@ -80,7 +80,7 @@ neg-below (negsuc n) = refl
 pub difference-is : (a b : ℤ) → above (a -ℤ b) + (below a + above b) ≡ above a + below b + below (a -ℤ b)
 difference-is a b = omega (arith, sum-is a (negℤ b), neg-above b, neg-below b)
 
--- ---- sizes
+-- ---- magnitudes
 
 pub size-is : (z : ℤ) → natAbs z ≡ above z + below z
 size-is (pos n) = omega arith
@@ -90,18 +90,18 @@ pub not-negative : (z : ℤ) → below z ≡ 0 → T (nonNeg z)
 not-negative (pos n) h = tt
 not-negative (negsuc n) h = absurd (omega arith)
 
--- b - a for a ≤ b
+-- b - a is not negative if a ≤ b
 pub ahead : (a b : ℤ) → above a + below b ≤ above b + below a → below (b -ℤ a) ≡ 0
 ahead a b h = ⊎-elim (λ (l : above (b -ℤ a) ≡ 0). omega (arith, difference-is b a)) (λ (r : below (b -ℤ a) ≡ 0). r) (one-side (b -ℤ a))
 
--- either way round
+-- |a - b| is |b - a|
 pub same-size : (a b : ℤ) → natAbs (a -ℤ b) ≡ natAbs (b -ℤ a)
 same-size a b =
     let e : a -ℤ b ≡ negℤ (b -ℤ a) = eq-of (a -ℤ b) (negℤ (b -ℤ a)) (omega (arith, difference-is a b, difference-is b a, neg-above (b -ℤ a), neg-below (b -ℤ a))) in
     let s : natAbs (a -ℤ b) ≡ natAbs (negℤ (b -ℤ a)) = ap natAbs e in
     omega (arith, size-is (negℤ (b -ℤ a)), size-is (b -ℤ a), neg-above (b -ℤ a), neg-below (b -ℤ a))
 
--- ---- the lesser and the greater of two
+-- ---- minimum and maximum
 
 pub least-left : (a b : ℤ) → leZ a b ≡ true → least a b ≡ a
 least-left a b e = rw e
@@ -129,7 +129,7 @@ mag-greatest a b n h k = go (leZ a b) refl
     go true e = rw e k
     go false e = rw e h
 
--- ---- below, and not below
+-- ---- less than, and its negation
 
 pub lt-not-le : (a b : ℤ) → ltZ a b ≡ true → leZ b a ≡ false
 lt-not-le (pos a) (pos b) e = lt-leb b a (ltb-true a b e)
@@ -143,7 +143,7 @@ not-lt-le (pos a) (negsuc b) e = refl
 not-lt-le (negsuc a) (pos b) e = sym e
 not-lt-le (negsuc a) (negsuc b) e = le-leb a b (ltb-false b a e)
 
--- ---- how far sums and negations lie from 0
+-- ---- bounds on `mag` (z, or -1 - z if z is negative) of sums and negations
 
 mag-sub : (a b : ℕ) → mag (subℕ a b) ≤ a + b
 mag-sub a b = go (ltb a b) refl
@@ -163,7 +163,7 @@ mag-neg (pos zero) = omega arith
 mag-neg (pos (suc a)) = omega arith
 mag-neg (negsuc a) = omega arith
 
--- ---- the greater of two is at least either, and the least that is; so for the lesser
+-- ---- the maximum is the least upper bound, the minimum the greatest lower bound
 
 pub le-refl : (a : ℤ) → T (leZ a a)
 le-refl a = le-of a a (omega arith)
@@ -204,7 +204,7 @@ module _ (a b : ℤ) where
   pub least-over : (c : ℤ) → T (leZ c a) → T (leZ c b) → T (leZ c (least a b))
   least-over c h k = by-order-least (λ z. T (leZ c z)) (λ e. h) (λ e. k)
 
--- e - s where a ≤ s ≤ e ≤ b
+-- e - s is at most b - a if a ≤ s ≤ e ≤ b
 pub between : (a s e b : ℤ) → T (leZ a s) → T (leZ s e) → T (leZ e b) → natAbs (e -ℤ s) ≤ natAbs (b -ℤ a)
 between a s e b h k l =
     omega (

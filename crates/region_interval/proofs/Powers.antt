@@ -1,4 +1,4 @@
--- The powers of two below a limit, and the count of trailing zero bits, which is a power's exponent. Assumes nothing.
+-- Powers of two below a limit, and the number of trailing zero bits, which is a power's exponent. Assumes nothing.
 use mathlib.Core.Path.{_≡_, refl, sym, ap, _∙_}
 use mathlib.Core.Bool.{Bool, true, false, _&&_, true≢false, false≢true}
 use mathlib.Core.Logic.{⊎-elim}
@@ -35,7 +35,7 @@ power-out (suc n) d e = go (λ (l : powerBelow n d ≡ true). power-out n d l) (
     go less true f = (n, omega arith, eqb→eq d (2 ^ n) (rw f tt))
     go less false f = let s = less (rw f at e) in (s .0, omega (arith, s .1), s .2)
 
--- computed for the exponents of the alignments
+-- checked by computation for the exponents of the alignments
 unfoldable counted : ℕ → Bool
 counted zero = true
 counted (suc n) = eqb (trailingZeros 32 (2 ^ n)) n && counted n
@@ -55,7 +55,7 @@ counted-at (suc n) k t h = ⊎-elim
 pub zeros-of-power : (k : ℕ) → k < 14 → trailingZeros 32 (2 ^ k) ≡ k
 zeros-of-power k h = counted-at 14 k (rw all-counted tt) h
 
--- so the test by trailing zeros finds the powers below 2 ^ 14
+-- so the test by trailing zero bits accepts every power of two below 2 ^ 14
 pub power-found : (d : ℕ) → powerBelow 14 d ≡ true → (trailingZeros 32 d < 14) × (2 ^ trailingZeros 32 d ≡ d)
 power-found d e =
     let s = power-out 14 d e in

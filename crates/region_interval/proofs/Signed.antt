@@ -1,4 +1,4 @@
--- How far sums, negations, quotients and products of integers lie from 0, and signed machine numbers read back. Assumes nothing.
+-- Bounds on `mag` (z, or -1 - z if z is negative) of sums, negations, quotients and products of integers, and signed machine integers converted back. Assumes nothing.
 use mathlib.Core.Path.{_≡_, refl, sym, ap, _∙_, subst}
 use mathlib.Core.Bool.{Bool, true, false}
 use Prim.Native.Nat.{ℕ, zero, suc, _+_, _-_, _*_, _/_, _%_, _^_, _<_, _≤_}
@@ -22,9 +22,9 @@ mag-floor (negsuc a) m = div-le-self a m
 pub mag-ceil : (z : ℤ) (m : ℕ) → mag (ceilDiv z m) ≤ mag z + 2
 mag-ceil z m = omega (arith, mag-neg (floorDiv (negℤ z) m), mag-floor (negℤ z) m, mag-neg z)
 
--- ---- what the machine reads back
+-- ---- conversion to a machine integer and back
 
--- a number that a call or a field hands on
+-- an integer in range of i64 is unchanged
 pub back : (z : ℤ) → mag z < 9223372036854775808 → toZ w64 (ofZ w64 z) ≡ z
 back z h = toZ-ofZ (record { sfits = h })
 
@@ -41,7 +41,7 @@ shifted {z} m h = rw (toZ-ofZ h) (toZ-ofZ (record { sfits = omega (arith, h .sfi
     same (pos a) = refl
     same (negsuc a) = refl
 
--- a sum of two that lie below n and m
+-- a sum fits an i64 if the bounds n and m on `mag` of its terms add up to at most 2^63
 pub sum64 : (n m : ℕ) (a b : ℤ) → mag a < n → mag b < m → n + m ≤ 9223372036854775808 → SFits w64 (a +ℤ b)
 sum64 n m a b h k l = record { sfits = omega (arith, mag-add a b) }
 
@@ -60,7 +60,7 @@ mag-mul (negsuc a) m = let e : suc a * m ≡ a * m + m = suc-mul a m in rw e (tu
     turned zero = omega arith
     turned (suc k) = omega arith
 
--- 2 ^ f of an i64, for the alignments
+-- 2 ^ f as an i64, for the exponents of the alignments
 pub power64 : (f : ℕ) → f < 14 → toZ w64 ((1 * 2 ^ f) % 18446744073709551616) ≡ pos (2 ^ f)
 power64 f h =
     let l : 2 ^ f < 2 ^ 14 = pow-lt {i = f} {j = 14} h in

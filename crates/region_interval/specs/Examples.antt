@@ -3,7 +3,7 @@ use mathlib.Core.Path.{_≡_, refl}
 use lib.IntN.{pos, negsuc}
 use Rattle.region_interval.specs.Integers.{floorDiv, ceilDiv}
 
--- toward minus infinity, at and around zero
+-- rounded toward minus infinity, at and around zero
 floor-below : floorDiv (negsuc 2) 2 ≡ negsuc 1
 floor-below = refl
 

@@ -1,4 +1,4 @@
--- Division of an integer by a natural number, rounded down and rounded up, and the lesser and the greater of two integers, for the arithmetic of Specification 6.1–6.3.
+-- Division of an integer by a natural number, rounded down and rounded up, and the minimum and maximum of two integers, for Specification 6.1–6.3.
 use mathlib.Core.Bool.{cond}
 use Prim.Native.Nat.{ℕ, _/_}
 use lib.IntN.{ℤ, pos, negsuc, negℤ}

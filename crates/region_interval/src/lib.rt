@@ -1,4 +1,4 @@
-// One axis of a region: the places p with start ≤ p < end, on numbers so wide that the arithmetic refuses nothing.
+// One axis of a region: the positions p with start ≤ p < end, on integers wide enough that nothing overflows.
 ghost use mathlib.Core.Path.{_≡_};
 ghost use Prim.Native.Nat.{_+_, _≤_, _<_, _^_, min};
 ghost use lib.IntN.{pos, negℤ, _+ℤ_, _*ℤ_};
@@ -71,7 +71,7 @@ fn multiple(q: i64, f: u32) -> i64
     q * (1i64 << f)
 }
 
-// len places from start on.
+// len positions from start.
 pub fn span_of(start: i32, len: u32) -> Span
     ensures { λ r. ⌜ r ≡ spanOf start len ⌝ }
 {
@@ -81,7 +81,7 @@ pub fn span_of(start: i32, len: u32) -> Span
     }
 }
 
-// Both ends moved.
+// Both ends moved by d.
 pub fn moved(start: i32, len: u32, d: i32) -> Span
     ensures { λ r. ⌜ r ≡ moved d (spanOf start len) ⌝ }
 {
@@ -92,7 +92,7 @@ pub fn moved(start: i32, len: u32, d: i32) -> Span
     }
 }
 
-// N places more at either end.
+// n more positions at each end.
 pub fn padded(start: i32, len: u32, n: u32) -> Span
     ensures { λ r. ⌜ r ≡ padded n (spanOf start len) ⌝ }
 {
@@ -103,7 +103,7 @@ pub fn padded(start: i32, len: u32, n: u32) -> Span
     }
 }
 
-// The cells of 2^f places that the span touches, an f past 63 counting as 63.
+// The cells of 2^f positions that the span touches. An f over 63 counts as 63.
 pub fn shrunk(start: i32, len: u32, f: u32) -> Span
     ensures { λ r. ⌜ r ≡ shrunk (2 ^ min f 63) (spanOf start len) ⌝ }
 {
@@ -114,7 +114,7 @@ pub fn shrunk(start: i32, len: u32, f: u32) -> Span
     }
 }
 
-// The span widened to multiples of 2^f, an f past 13 counting as 13.
+// The span extended to multiples of 2^f. An f over 13 counts as 13.
 pub fn aligned(start: i32, len: u32, f: u32) -> Span
     ensures { λ r. ⌜ r ≡ aligned (2 ^ min f 13) (spanOf start len) ⌝ }
 {

@@ -1,4 +1,4 @@
--- Laws of intervals: meets, widening to multiples, and the cells that an interval touches. Assumes nothing.
+-- Laws of intervals: intersection, extension to multiples, and the cells that an interval touches. Assumes nothing.
 use mathlib.Core.Path.{_≡_, refl}
 use mathlib.Core.Bool.{Bool, true, false}
 use Prim.Native.Nat.{ℕ, _+_, _*_, _<_, _≤_}
@@ -26,7 +26,7 @@ covers-start a b t = and-l (leZ (a .start) (b .start)) (leZ (b .end) (a .end)) t
 covers-end : (a b : Span) → T (covers a b) → T (leZ (b .end) (a .end))
 covers-end a b t = and-r (leZ (a .start) (b .start)) (leZ (b .end) (a .end)) t
 
--- ---- the meet is in both, and has every interval that is in both
+-- ---- the intersection is inside both, and contains every interval that is inside both
 
 pub meet-left : (a b : Span) → T (covers a (meet a b))
 meet-left a b = covers-of a (meet a b) (greatest-over-left (a .start) (b .start)) (least-under-left (a .end) (b .end))
@@ -71,9 +71,9 @@ aligned-least m s g h o t =
     (rw (o .start-is) (le-of (a *ℤ pos m) (q *ℤ pos m) (omega (arith, times (above a) (below q) (above q) (below a) m lo, multiple-above a m, multiple-below a m, multiple-above q m, multiple-below q m))))
     (rw (o .end-is) (le-of (c *ℤ pos m) (b *ℤ pos m) (omega (arith, times (above c) (below b) (above b) (below c) m hi, multiple-above b m, multiple-below b m, multiple-above c m, multiple-below c m))))
 
--- ---- the shrunk interval has just the cells that the interval touches
+-- ---- the shrunk interval has exactly the cells that the interval touches
 module _ (m : ℕ) (s : Span) (h : 0 < m) where
-  -- the cell of a place of s
+  -- the cell of each position of s
   pub cell-in : (p : ℤ) → In s p → In (shrunk m s) (floorDiv p m)
   cell-in p i =
       let q = floorDiv (s .start) m in
@@ -95,7 +95,7 @@ module _ (m : ℕ) (s : Span) (h : 0 < m) where
       below-end (yes l) f hi =
           absurd (omega (arith, f .under, hi, ceil-under (s .end) m h, times (above (ceilDiv (s .end) m)) (below (floorDiv p m)) (above (floorDiv p m)) (below (ceilDiv (s .end) m)) m l))
 
-  -- a place of s in a cell of the shrunk interval: the cell's first, or the interval's where that is later
+  -- each cell of the shrunk interval holds a position of s: the cell's first position, or the interval's if that is later
   pub cell-touched : vacant s ≡ false → (k : ℤ) → In (shrunk m s) k → (p : ℤ) × In s p × (floorDiv p m ≡ k)
   cell-touched v k i = go (leZ (s .start) (k *ℤ pos m)) refl
     where
@@ -114,7 +114,7 @@ module _ (m : ℕ) (s : Span) (h : 0 < m) where
             floor-only (s .start) m k h (record { under = omega (arith, n, multiple-above k m, multiple-below k m); over = omega (arith, f .over, times (above (floorDiv (s .start) m)) (below k) (above k) (below (floorDiv (s .start) m)) m lo) }),
           )
 
--- ---- places, and intervals that have none
+-- ---- positions, and empty intervals
 
 not-vacant-of : (s : Span) → above (s .start) + below (s .end) < above (s .end) + below (s .start) → vacant s ≡ false
 not-vacant-of s h = go (leZ (s .end) (s .start)) refl
@@ -126,7 +126,7 @@ not-vacant-of s h = go (leZ (s .end) (s .start)) refl
 pub held-not-vacant : (s : Span) (p : ℤ) → In s p → vacant s ≡ false
 held-not-vacant s p i = not-vacant-of s (omega (arith, le-to (s .start) p (i .from), lt-to p (s .end) (i .before)))
 
--- an interval with a place has its first
+-- a nonempty interval contains its start
 pub first-place : (s : Span) → vacant s ≡ false → In s (s .start)
 first-place s v = record { from = le-of (s .start) (s .start) (omega arith); before = lt-of (s .start) (s .end) (omega (arith, not-le (s .end) (s .start) v)) }
 
@@ -140,7 +140,7 @@ span-not-vacant z n h = not-vacant-of (spanOf z n) (positive (decLe n 0))
     positive (yes l) = absurd (h (omega arith))
     positive (no l) = omega (arith, sum-is z (pos n))
 
--- an interval that covers one with a place has a place
+-- an interval that covers a nonempty one is not empty
 pub covering-not-vacant : (a b : Span) → T (covers a b) → vacant b ≡ false → vacant a ≡ false
 covering-not-vacant a b t v =
     not-vacant-of a (omega (arith, le-to (a .start) (b .start) (covers-start a b t), le-to (b .end) (a .end) (covers-end a b t), not-le (b .end) (b .start) v))

@@ -4,7 +4,7 @@ use Prim.Native.Nat.{ℕ}
 use lib.IntN.{ℤ, pos, _*ℤ_}
 use Rattle.region_interval.specs.declared.Span.{Span}
 
--- ---- the aligned interval covers its argument, and is the least between multiples that does
+-- ---- the aligned interval covers its argument, and is the smallest between multiples that does
 
 -- both ends are multiples of m
 pub record OnGrid (m : ℕ) (s : Span) : Type 0 where

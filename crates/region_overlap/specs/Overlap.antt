@@ -1,4 +1,4 @@
--- What intervals have in common: none, all, or the meet (Specification 2.1, 6.2). Definitions only.
+-- Empty intervals, containment and intersection (Specification 2.1, 6.2). Definitions only.
 use mathlib.Core.Bool.{Bool, _&&_}
 use lib.Signed.{leZ, ltZ}
 use Rattle.region_interval.specs.Integers.{least, greatest}
@@ -6,19 +6,19 @@ use Rattle.region_interval.specs.declared.Span.{Span}
 use lib.Dec.{T}
 use lib.IntN.{ℤ}
 
--- no place
+-- the interval is empty
 abbrev pub vacant : Span → Bool
 vacant s = leZ (s .end) (s .start)
 
--- each place of b is a place of a
+-- each position of b is a position of a
 abbrev pub covers : Span → Span → Bool
 covers a b = leZ (a .start) (b .start) && leZ (b .end) (a .end)
 
--- the places that are in both
+-- the intersection: the positions that are in both
 abbrev pub meet : Span → Span → Span
 meet a b = record { start = greatest (a .start) (b .start); end = least (a .end) (b .end) }
 
--- p is a place of s
+-- p is a position of s
 pub record In (s : Span) (p : ℤ) : Type 0 where
   pub from : T (leZ (s .start) p)
   pub before : T (ltZ p (s .end))

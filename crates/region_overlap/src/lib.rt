@@ -1,4 +1,4 @@
-// What two intervals have in common, and whether one has a place at all.
+// Intersection and containment of intervals, and whether one is empty.
 use region_interval::Span;
 ghost use mathlib.Core.Path.{_≡_};
 ghost use lib.Signed.{leZ};
@@ -17,7 +17,7 @@ fn greater(a: i64, b: i64) -> i64
     if a <= b { b } else { a }
 }
 
-// The places that are in both.
+// The intersection: the positions that are in both.
 pub fn meet(a: Span, b: Span) -> Span
     ensures { λ r. ⌜ r ≡ meet a b ⌝ }
 {
@@ -27,7 +27,7 @@ pub fn meet(a: Span, b: Span) -> Span
     }
 }
 
-// Whether there is no place.
+// Whether the interval is empty.
 pub fn vacant(s: Span) -> bool
     ensures { λ r. ⌜ r ≡ vacant s ⌝ }
 {
@@ -40,7 +40,7 @@ fn not_after(a: i64, b: i64) -> bool
     a <= b
 }
 
-// Each place of b is a place of a.
+// Whether each position of b is a position of a.
 pub fn covers(a: Span, b: Span) -> bool
     ensures { λ r. ⌜ r ≡ covers a b ⌝ }
 {

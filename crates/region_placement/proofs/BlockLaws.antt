@@ -1,4 +1,4 @@
--- What the tests for blocks say. Assumes nothing.
+-- Laws of the tests that a filter region starts on block boundaries. Assumes nothing.
 use mathlib.Core.Path.{_≡_, refl, sym, _∙_}
 use mathlib.Core.Bool.{true, false, true≢false}
 use Prim.Native.Nat.{ℕ, _%_, _≤_}

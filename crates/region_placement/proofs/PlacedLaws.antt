@@ -1,4 +1,4 @@
--- The table of checks taken apart: when a placement is refused. Assumes nothing.
+-- When a placement is refused, read off the table of checks. Assumes nothing.
 use mathlib.Core.Path.{_≡_}
 use mathlib.Core.Bool.{true, false}
 use Rattle.refusals.specs.Numbers.{outOfMeasure, notInside}
@@ -8,7 +8,7 @@ use Rattle.region.specs.Regions.{inside}
 use Rattle.region.specs.declared.Region.{Region}
 use Rattle.region_placement.specs.Placed.{placedChecks}
 
--- ---- laws: the number given, by which test failed first
+-- ---- laws: the number, by the first check that applies
 module _ (image filter : Region) where
   pub placed-image : pictured image ≡ false → firstOf (placedChecks image filter) ≡ outOfMeasure
   placed-image e = rw e

@@ -1,11 +1,11 @@
--- Where a filter region lies on blocks (Specification 3.1, number 6). Definitions only.
+-- Whether a filter region starts on block boundaries (Specification 3.1, number 6). Definitions only.
 use mathlib.Core.Bool.{Bool, false, _&&_}
 use Prim.Native.Nat.{ℕ, _%_}
 use lib.Dec.{eqb}
 use lib.IntN.{ℤ, pos, negsuc}
 use Rattle.region.specs.declared.Region.{Region}
 
--- a left or a top that is not negative, and 0 for one that is
+-- a left or top, 0 if it is negative
 abbrev pub ahead : ℤ → ℕ
 ahead (pos k) = k
 ahead (negsuc k) = 0

@@ -1,4 +1,4 @@
--- Where a filter region lies in an image region (Specification 3.1, numbers 4 and 5): columns and rows from the image's corner, or zeros where it is refused.
+-- The position of a filter region in an image region (Specification 3.1, numbers 4 and 5): columns and rows from the image region's corner, zeros if refused.
 use mathlib.Core.Bool.{cond, _&&_, not}
 use mathlib.Core.List.{List, [], _∷_}
 use Prim.Native.Nat.{ℕ}

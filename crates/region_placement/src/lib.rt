@@ -1,4 +1,4 @@
-// Where a filter region lies in an image region, and whether it starts at multiples of 8.
+// The position of a filter region in an image region, and whether it starts at multiples of 8.
 use limits::BLOCK;
 use limits::MAX_AREA_U64;
 use refusals::ACCEPTED;
@@ -12,7 +12,7 @@ ghost use Prim.Native.Nat.{_≤_};
 ghost use Rattle.region_placement.specs.Placed.{placedOutcome};
 ghost use Rattle.region_placement.specs.Blocks.{ahead as aheadOf, onBlock, onBlocks};
 
-// Columns and rows from the image's corner.
+// Columns and rows from the image region's corner.
 #[repr(C)]
 pub struct PlacedAnswer {
     pub number: u32,
@@ -32,7 +32,7 @@ fn area_fits(width: u32, height: u32) -> bool
     (width as u64) * (height as u64) <= MAX_AREA_U64
 }
 
-// A region that an image or a filter may have.
+// Whether a region is within the limits of an image or filter region.
 fn pictured(r: Region) -> bool
     ensures { λ b. ⌜ b ≡ pictured r ⌝ }
 {
@@ -48,8 +48,8 @@ fn unplaced(number: u32) -> PlacedAnswer
     PlacedAnswer { number, x: 0, y: 0 }
 }
 
-// Where a filter region lies in an image region, for the passes: 4 where either is not a region that a picture
-// may have, 5 where it is not inside.
+// The position of a filter region in an image region: 4 if either is outside the limits, 5 if the filter region is
+// not inside the image region.
 pub fn placed(image: Region, filter: Region) -> PlacedAnswer
     ensures { λ r. ⌜ r ≡ placedOutcome image filter ⌝ }
 {
@@ -69,7 +69,7 @@ pub fn placed(image: Region, filter: Region) -> PlacedAnswer
     }
 }
 
-// A left or a top that is not negative.
+// A left or top, 0 if it is negative.
 pub fn ahead(z: i32) -> usize
     ensures { λ r. ⌜ (r ≡ aheadOf z) × (r ≤ 4294967296) ⌝ }
 {
@@ -79,7 +79,7 @@ pub fn ahead(z: i32) -> usize
     z as usize
 }
 
-// Whether a left or a top is not negative and a multiple of 8.
+// Whether a left or top is not negative and a multiple of 8.
 fn on_block(z: i32) -> bool
     ensures { λ r. ⌜ r ≡ onBlock z ⌝ }
 {

@@ -1,5 +1,5 @@
-// The numbers of a row at their types. A row's form is a letter for each number: i an i32, u a u32, s an isize, z a
-// usize, b a bool, y a byte, f the bits of an f32.
+// The numbers of a row, converted to their types. The form of a row has one letter per number: i for i32, u for u32, s
+// for isize, z for usize, b for bool, y for a byte, f for the bits of an f32.
 
 fn least(kind: u8) -> i64 {
     match kind {
@@ -27,7 +27,7 @@ pub fn has_kind(x: i64, kind: u8) -> bool {
     x <= most(kind)
 }
 
-// As many numbers as letters, each in the range of its type.
+// Whether there are as many numbers as letters, each in the range of its type.
 pub fn has_form(n: &[i64], form: &[u8]) -> bool {
     if n.len() != form.len() {
         return false;
@@ -42,7 +42,7 @@ pub fn has_form(n: &[i64], form: &[u8]) -> bool {
     true
 }
 
-// The functions below give 0 for a number that is missing or out of range: a row of the right form has none.
+// The functions below return 0 for a number that is missing or out of range. A row of the right form has none.
 fn at(n: &[i64], i: usize) -> i64 {
     if i < n.len() { n[i] } else { 0 }
 }
@@ -96,7 +96,7 @@ pub fn bool_at(n: &[i64], i: usize) -> bool {
     at(n, i) == 1
 }
 
-// The bits are those of x; a NaN has none.
+// Whether number i is the bits of x; false for NaN.
 pub fn has_float(n: &[i64], i: usize, x: f32) -> bool {
     if x == x {
         return u32_at(n, i) == f32::to_bits(x);

@@ -1,5 +1,5 @@
-// Headers: the count of the bytes and each byte, the bit place, for an edge filter whether the encoding is Modular,
-// the number, the result, the next bit place.
+// Header rows: number of bytes, the bytes, bit position, for an EPF bundle whether the encoding is Modular, refusal
+// number, values, next bit position.
 use crate::forms::bool_at;
 use crate::forms::has_float;
 use crate::forms::has_form;
@@ -14,7 +14,7 @@ use header_epf_sigma::EpfSigma;
 use header_gabor::Gabor;
 ghost use Prim.Native.Nat.{_<_};
 
-// The longest header of the list has fewer.
+// Every header of the list is shorter.
 const MOST_BYTES: usize = 64;
 
 pub enum Reader {
@@ -127,7 +127,7 @@ impl Reader {
     }
 }
 
-// The numbers as bytes go to the start of out. False where one is no byte or has no room.
+// Copies the numbers as bytes to the start of `out`. False if a number is not a byte or `out` is too short.
 fn take_bytes(n: &[i64], out: &mut [u8]) -> bool {
     let mut i = 0;
     while i < n.len() {

@@ -1,5 +1,5 @@
-// A list has one row per line: a name, then numbers, with single spaces between. Empty lines and lines that begin
-// with # are no rows.
+// A list has one row per line: a name, then numbers, separated by single spaces. Empty lines and lines that start with
+// # are not rows.
 use crate::subjects::Subject;
 use replay_text::Number;
 ghost use Prim.Native.Nat.{_≤_};
@@ -22,7 +22,7 @@ pub fn none() -> Tally {
 }
 
 impl Tally {
-    // No list is so long that a sum wraps.
+    // No list is long enough for a sum to wrap.
     pub fn plus(self, more: Tally) -> Tally {
         Tally {
             rows: std::num::wrapping_add_u64(self.rows, more.rows),
@@ -31,7 +31,7 @@ impl Tally {
     }
 }
 
-// The rows that name no subject differ.
+// Rows with an unknown name count as different.
 pub fn unknown(rows: u64, known: u64) -> Tally {
     if rows < known {
         return none();
@@ -49,7 +49,7 @@ fn until(text: &[u8], at: usize, byte: u8) -> usize
     replay_text::end_of(text, at, byte)
 }
 
-// The numbers from `from` on go to the start of out.
+// Copies the numbers of a line, from index `from`, to the start of `out`.
 fn read(line: &[u8], from: usize, out: &mut [i64]) -> Count
     requires { ⌜ from ≤ length (now line) ⌝ }
 {
@@ -112,7 +112,7 @@ fn row_of(line: &[u8], name: &[u8], subject: Subject) -> Tally {
     Tally { rows: 1, differ: 1 }
 }
 
-// The rows of a subject.
+// Compares the rows with this name.
 pub fn rows_of(text: &[u8], name: &[u8], subject: Subject) -> Tally {
     let mut t = none();
     let mut at = 0;
@@ -126,7 +126,7 @@ pub fn rows_of(text: &[u8], name: &[u8], subject: Subject) -> Tally {
     }
 }
 
-// The rows of any name.
+// Counts all rows.
 pub fn rows(text: &[u8]) -> u64 {
     let mut count: u64 = 0;
     let mut at = 0;

@@ -1,4 +1,4 @@
-// Compares the proved functions with a list of the original's answers, which is read from standard input.
+// Compares the proved functions with a list of the original's answers, read from standard input.
 mod forms;
 mod headers;
 mod list;
@@ -13,7 +13,7 @@ use subjects::Subject;
 ghost use mathlib.Core.Path.{_≡_};
 ghost use lib.ListN.{length};
 
-// Bytes that a list may have, and one more.
+// One more than the largest length of a list, in bytes.
 const ROOM: usize = 262_144;
 
 fn report(name: &[u8], t: Tally) {
@@ -25,7 +25,7 @@ fn report(name: &[u8], t: Tally) {
     io::write_all(STDOUT_FILENO, b" differ\n");
 }
 
-// Adds the rows of a subject.
+// Reports the rows of a subject and adds them to the tally.
 fn replayed(before: Tally, text: &[u8], name: &[u8], subject: Subject) -> Tally {
     let t = list::rows_of(text, name, subject);
     report(name, t);
@@ -60,7 +60,7 @@ fn header_rows(before: Tally, text: &[u8]) -> Tally {
     replayed(t, text, b"read_filters", Subject::ReadFilters)
 }
 
-// Each subject, the rows that name none of them, and all.
+// Reports each subject, the rows with an unknown name, and the total.
 fn replay(text: &[u8]) {
     let known = header_rows(size_rows(region_rows(text), text), text);
     let unknown = list::unknown(list::rows(text), known.rows);

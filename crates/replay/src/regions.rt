@@ -1,4 +1,4 @@
-// Region arithmetic: left, top, width and height of each region, the settings, the number, the result.
+// Region rows: left, top, width and height of each region, settings, refusal number, result.
 use crate::forms::bool_at;
 use crate::forms::has_form;
 use crate::forms::i32_at;

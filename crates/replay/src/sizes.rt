@@ -1,5 +1,5 @@
-// Mirror: offset, length, number, place. Group sizes: the frame's numbers, number, sizes. Split of a block: block,
-// group size shift, number, group, inner.
+// Mirror rows: offset, length, refusal number, mirrored index. Group size rows: the frame's fields, refusal number,
+// sizes. Block split rows: block, group size shift, refusal number, group, inner cell.
 use crate::forms::has_form;
 use crate::forms::isize_at;
 use crate::forms::u32_at;

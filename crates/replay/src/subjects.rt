@@ -1,4 +1,4 @@
-// What a row can be about.
+// The functions that a row can be about.
 use crate::headers;
 use crate::headers::Reader;
 use crate::regions;
@@ -24,7 +24,7 @@ pub enum Subject {
 }
 
 impl Subject {
-    // A row's numbers are what the proved function is given and what it answers.
+    // Whether the proved function returns the answer in the row for the arguments in the row.
     pub fn agrees(self, n: &[i64]) -> bool {
         match self {
             Subject::IsEmpty => regions::is_empty(n),

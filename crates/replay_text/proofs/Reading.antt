@@ -1,4 +1,4 @@
--- What is left to read of a number, byte by byte. Assumes nothing.
+-- Reading a number digit by digit: the number from the digits read and the rest of the word. Assumes nothing.
 use mathlib.Core.Path.{_≡_, refl}
 use mathlib.Core.Bool.{Bool, true, false, cond}
 use mathlib.Core.List.{List, [], _∷_}
@@ -13,7 +13,7 @@ use Rattle.replay_text.specs.Numbers.{digitOf, allDigits, appended, valu
 use Rattle.replay_text.specs.declared.Number.{Number}
 use Rattle.replay_text.specs.declared.Number.the-variants.{Malformed}
 
--- the number that comes of n when xs are still to be read
+-- the number when n has been read and xs are the remaining bytes
 unfoldable pub continued : ℕ → Bool → ℕ → List ℕ → Number
 continued base negative n xs = cond (allDigits base xs) (valueOf negative (appended base n xs)) Malformed
 

@@ -19,7 +19,7 @@ unfolding indexOf
 index-within b [] = omega arith
 index-within b (x ∷ rest) = after-within (eqb x b) (indexOf b rest) (length rest) (index-within b rest)
 
--- it lies between `at` and the end of the text
+-- the end lies between `at` and the end of the text
 pub end-within : (text : List ℕ) (at b : ℕ) → at ≤ length text → (at ≤ endOf text at b) × (endOf text at b ≤ length text)
 end-within text at b h =
     let k = index-within b (drop at text) in

@@ -20,7 +20,7 @@ one-bits : numberOf (120 ∷ 51 ∷ 102 ∷ 56 ∷ 48 ∷ 48 ∷ 48 ∷ 48 ∷ 4
 unfolding digitOf allDigits appended spelled numberOf
 one-bits = refl
 
--- an empty word, a sign alone, 1a, and x1
+-- not numbers: an empty word, a sign alone, 1a, and x1
 nothing : numberOf [] ≡ Malformed
 unfolding numberOf
 nothing = refl

@@ -1,4 +1,4 @@
--- Which number a word is.
+-- The number that a word denotes.
 use Prim.Native.Nat.{ℕ, _+_, _-_, _*_}
 use mathlib.Core.Bool.{Bool, true, false, cond}
 use mathlib.Core.List.{List, [], _∷_}
@@ -8,7 +8,7 @@ use lib.Dec.{ltb, leb, eqb}
 use Rattle.replay_text.specs.declared.Number.{Number}
 use Rattle.replay_text.specs.declared.Number.the-variants.{Value, Malformed}
 
--- what an ASCII digit stands for, 0 to 9 and a to f; 16 of any other byte
+-- the value of an ASCII digit, 0 to 9 and a to f; 16 for any other byte
 unfoldable pub digitOf : ℕ → ℕ
 digitOf x =
     cond (ltb x 48) 16
@@ -21,12 +21,12 @@ unfoldable pub allDigits : ℕ → List ℕ → Bool
 allDigits base [] = true
 allDigits base (x ∷ rest) = cond (ltb (digitOf x) base) (allDigits base rest) false
 
--- the number n with digits written after it
+-- n with more digits appended
 unfoldable pub appended : ℕ → ℕ → List ℕ → ℕ
 appended base n [] = n
 appended base n (x ∷ rest) = appended base (n * base + digitOf x) rest
 
--- a number of the size n, which is at most 2^63 - 1
+-- the number of this sign and size; malformed if the size is over 2^63 - 1
 abbrev pub valueOf : Bool → ℕ → Number
 valueOf negative n = cond (leb n 0x7fff_ffff_ffff_ffff) (Value (cond negative (negℤ (pos n)) (pos n))) Malformed
 
@@ -35,7 +35,7 @@ unfoldable pub spelled : ℕ → Bool → List ℕ → Number
 spelled base negative [] = Malformed
 spelled base negative (x ∷ rest) = cond (allDigits base (x ∷ rest)) (valueOf negative (appended base 0 (x ∷ rest))) Malformed
 
--- - and decimal digits; x and eight hexadecimal digits, the bits of a float; decimal digits
+-- a minus sign and decimal digits; x and eight hexadecimal digits, the bits of a float; or decimal digits
 unfoldable pub numberOf : List ℕ → Number
 numberOf [] = Malformed
 numberOf (x ∷ rest) =

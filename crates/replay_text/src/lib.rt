@@ -1,4 +1,4 @@
-// Rows of text: where a word or a line ends, and which number a word is.
+// Rows of text: the end of a word or a line, and the number that a word denotes.
 ghost use mathlib.Core.Path.{_≡_};
 ghost use Prim.Native.Nat.{_≤_};
 ghost use lib.ListN.{drop};
@@ -11,12 +11,13 @@ pub enum Number {
 }
 
 const LARGEST: u64 = 0x7fff_ffff_ffff_ffff;
-// The largest number that has room for a hexadecimal digit more; a decimal digit more makes a larger one too large.
+// The largest number that still fits a u64 with a hexadecimal digit appended. A larger one is over 2^63 - 1 with any
+// digit appended.
 const LARGEST_WITH_ROOM: u64 = 0x0fff_ffff_ffff_ffff;
 
 const NO_DIGIT: u64 = 16;
 
-// The place of the first such byte from `at` on, or the end of the text.
+// The index of the first such byte from `at` on, or the end of the text.
 pub fn end_of(text: &[u8], at: usize, byte: u8) -> usize
     ensures { λ r. ⌜ r ≡ endOf (now (text .entry)) at byte ⌝ }
 {
@@ -26,7 +27,7 @@ pub fn end_of(text: &[u8], at: usize, byte: u8) -> usize
     bytes::scan::find(text, at, text.len(), byte)
 }
 
-// What a hexadecimal digit stands for.
+// The value of a hexadecimal digit, 16 for any other byte.
 fn digit(byte: u8) -> u64
     ensures { λ r. ⌜ r ≡ digitOf byte ⌝ }
 {
@@ -45,7 +46,7 @@ fn digit(byte: u8) -> u64
     NO_DIGIT
 }
 
-// A number of this size.
+// The number of this sign and size, or malformed if the size is over 2^63 - 1.
 fn value(size: u64, negative: bool) -> Number
     ensures { λ r. ⌜ r ≡ valueOf negative size ⌝ }
 {
@@ -59,7 +60,7 @@ fn value(size: u64, negative: bool) -> Number
     Number::Value(n)
 }
 
-// The number whose digits stand from `from` on.
+// The number with the digits from index `from` on.
 fn spelled(word: &[u8], from: usize, base: u64, negative: bool) -> Number
     requires { ⌜ (8 ≤ base) × (base ≤ 16) ⌝ }
     ensures { λ r. ⌜ r ≡ spelled base negative (drop from (now (word .entry))) ⌝ }
@@ -83,8 +84,8 @@ fn spelled(word: &[u8], from: usize, base: u64, negative: bool) -> Number
     value(size, negative)
 }
 
-// The number that a word is: decimal digits, perhaps after a minus sign; or x and eight hexadecimal digits, the bits
-// of a float.
+// The number that a word denotes: decimal digits, optionally after a minus sign; or x and eight hexadecimal digits, the
+// bits of a float.
 pub fn number_of(word: &[u8]) -> Number
     ensures { λ r. ⌜ r ≡ numberOf (now (word .entry)) ⌝ }
 {

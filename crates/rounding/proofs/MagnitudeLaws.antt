@@ -1,4 +1,4 @@
--- |x - y| as the larger of the two differences added to 0, for every x and y. Assumes nothing.
+-- |x - y| is the larger of x - y and y - x, plus 0, for all x and y. Assumes nothing.
 use mathlib.Core.Path.{_≡_, refl, sym, ap, _∙_}
 use mathlib.Core.Logic.{_⊎_, inl, inr}
 use mathlib.Core.Bool.{Bool, true, false, not, _&&_, cond}
@@ -18,7 +18,7 @@ use lib.Ieee.Bits.{ofBits-toBits}
 use Rattle.rounding.proofs.Rounded.{round-zero}
 use Rattle.rounding.specs.Magnitude.{larger, magnitude}
 
--- ---- a value that fits is written in one way
+-- ---- a value that fits a format has one encoding
 same-bits : (f : Format) (s : Bool) (m n : ℕ) (e g : ℤ) → m * up e * down g ≡ n * up g * down e → toBits f (fin s m e) ≡ toBits f (fin s n g)
 unfolding toBits
 same-bits f s m n e g h =
@@ -34,7 +34,7 @@ of-value f nan s m e p q v = absurd v
 of-value f (inf t) s m e p q v = absurd v
 of-value f (fin t n g) s m e p q v = let k = rw (v .0) at p in rw (v .0) (unique f s n m g e k q (v .1))
 
--- ---- rounding leaves a value that fits
+-- ---- rounding keeps a value that fits
 pow-back : (a b : ℕ) → 2 ^ a ≤ 2 ^ b → a ≤ b
 pow-back a b h = go (decLt b a)
   where
@@ -89,7 +89,7 @@ pub round-back : (f : Format) (s : Bool) (m : ℕ) (e : ℤ) → T (fits f (fin 
 round-back f s zero e t = round-zero f s (0 * up e) (down e) (zero-mul (up e)) (down-pos e) ∙ ap (fin s 0) (sym (zero-exp f s e t))
 round-back f s (suc m) e t = of-value f _ s (suc m) e (round-fits f s (suc m * up e) (down e)) t (value f s (suc m) e (kept f s m e t))
 
--- ---- the other sign
+-- ---- negation
 odd-neg : (d : ℕ) (s : Bool) (q k l : ℕ) → odd d (not s) q k l ≡ neg (odd d s q k l)
 unfolding odd neg
 odd-neg d s zero k l = refl
@@ -106,7 +106,7 @@ units-neg f s q k = go (ltb (q * 2 ^ k) (2 ^ (low f + suc (emax f))))
 round-neg : (f : Format) (s : Bool) (a c : ℕ) → round f (not s) a c ≡ neg (round f s a c)
 round-neg f s a c = rw (round-is f (not s) a c, round-is f s a c) (units-neg f s _ _)
 
--- ---- two differences are opposite, or both +0
+-- ---- x - y and y - x are opposite, or both are +0
 abbrev zeroF : Float
 zeroF = fin false 0 (pos 0)
 
@@ -149,7 +149,7 @@ opposite f (fin s m e) (inf false) = inl refl
 opposite f (fin s m e) (fin t n g) =
     rw (mul-comm (down g) (down e)) (sum-opp f s t (m * up e * down g) (n * up g * down e) (down e * down g) (mul-pos (down-pos e) (down-pos g)))
 
--- ---- the larger of two such
+-- ---- the larger of two opposite values
 zero-is : ofBits binary32 0 ≡ zeroF
 unfolding ofBits ofFields odd
 zero-is = refl
@@ -183,7 +183,7 @@ of-zeros : add binary32 zeroF (larger zeroF zeroF) ≡ magnitude zeroF
 unfolding lt magnitude fits
 of-zeros = add-own 0 (pos 0) tt
 
--- |x - y|
+-- the code's expression is |x - y|
 pub difference-is : (x y : Float) → add binary32 (ofBits binary32 0) (larger (sub binary32 x y) (sub binary32 y x)) ≡ magnitude (sub binary32 x y)
 difference-is x y = rw zero-is (go (opposite binary32 x y))
   where

@@ -1,4 +1,4 @@
--- Rounding to a format: what is known of a rounded fraction's sign and of the whole numbers that it stays between. Assumes nothing.
+-- Rounding to a format: the sign of a rounded fraction, and the integers that bound it. Assumes nothing.
 use mathlib.Core.Path.{_≡_, refl, sym, _∙_}
 use mathlib.Core.Bool.{Bool, true, false, _&&_, _||_, cond, true≢false}
 use Prim.Native.Nat.{ℕ, zero, suc, _+_, _-_, _*_, _^_, _≤_, _<_}
@@ -13,13 +13,13 @@ use lib.Ieee.Back.{round-whole}
 use lib.Ieee.Scale.{round-same}
 use lib.Ieee.Order.{transfer, le-of-values, round-mono}
 
--- two numbers of one sign add as fractions
+-- the sum of two numbers of the same sign is the rounded sum of their fractions
 pub same-sign : (f : Format) (s : Bool) (a b c : ℕ) → sum f s a s b c ≡ round f s (a + b) c
 unfolding sum
 same-sign f true a b c = refl
 same-sign f false a b c = refl
 
--- the whole number n with the sign s
+-- the integer n with sign s
 abbrev pub whole : Format → Bool → ℕ → Float
 whole f s n = round f s n 1
 
@@ -33,7 +33,7 @@ whole-zero binary64 s = refl
 pub round-zero : (f : Format) (s : Bool) (a c : ℕ) → a ≡ 0 → 0 < c → round f s a c ≡ fin s 0 (pos 0)
 round-zero f s a c e C = round-same f s a c 0 1 C (zero-lt-suc 0) (omega arith) ∙ whole-zero f s
 
--- ---- between two whole numbers: finite, with no sign, at least lo and at most hi in size
+-- ---- between two integers: finite, sign bit 0, at least lo and at most hi
 abbrev pub Within : ℕ → ℕ → Float → Type 0
 Within lo hi nan = ⊥
 Within lo hi (inf s) = ⊥
@@ -46,7 +46,7 @@ or-split a b c = go (ltb a b) (eqb a b) (ltb→lt a b) (eqb→eq a b)
     go true y h k t = le-of-lt (h tt)
     go false y h k t = le-of-eq (k (and-l y c t))
 
--- ---- the sign that a value is written with
+-- ---- the sign bit of a value
 abbrev pub Signed : Bool → Float → Type 0
 Signed t nan = Unit
 Signed t (inf s) = s ≡ t
@@ -68,7 +68,7 @@ units-signed f s q k = go (ltb (q * 2 ^ k) (2 ^ (low f + suc (emax f))))
 pub round-signed : (f : Format) (s : Bool) (a c : ℕ) → Signed s (round f s a c)
 round-signed f s a c = rw round-is (units-signed f s _ _)
 
--- what lies between two values that have whole sizes
+-- a value between two values that are integers
 within-of : (x y z : Float) (lo hi : ℕ) → HasValue x false lo 1 → HasValue y false hi 1 → Signed false z → T (le x z) → T (le z y) → Within lo hi z
 unfolding le
 within-of nan y z lo hi h k s p q = absurd h
@@ -87,14 +87,14 @@ within-of (fin false m e) (fin false n g) (fin false w d) lo hi h k s p q = (
   omega (arith, transfer (w * up d) hi (down d) 1 (w * up d) (n * up g) (down d) (down g) (down-pos d) (down-pos g) refl (sym (k .1)) (or-split (w * up d * down g) (n * up g * down d) true q)),
 )
 
--- rounding does not leave two whole numbers
+-- a fraction between two integers is still between them after rounding
 pub round-within : (f : Format) (lo hi a c : ℕ) → 0 < c → hi ≤ 2 ^ prec f → lo * c ≤ a → a ≤ hi * c → Within lo hi (round f false a c)
 round-within f lo hi a c C H h k =
     within-of (whole f false lo) (whole f false hi) (round f false a c) lo hi
     (round-whole f false lo (le-trans (le-of-mul-le-mul-right (le-trans h k) C) H)) (round-whole f false hi H) (round-signed f false a c)
     (round-mono f lo 1 a c (zero-lt-suc 0) C (omega arith)) (round-mono f a c hi 1 C (zero-lt-suc 0) (omega arith))
 
--- and no sum leaves their sums
+-- the sum of two bounded values lies between the sums of the bounds
 pub add-within : (f : Format) (x y : Float) (a b c d : ℕ) → b + d ≤ 2 ^ prec f → Within a b x → Within c d y → Within (a + c) (b + d) (add f x y)
 unfolding add
 add-within f nan y a b c d H h k = absurd h
@@ -106,7 +106,7 @@ add-within f (fin s m e) (fin t n g) a b c d H h k =
     (round-within f (a + c) (b + d) (m * up e * down g + n * up g * down e) (down e * down g) (mul-pos (down-pos e) (down-pos g)) H
     (omega (arith, mul-le-mul-right (down g) (h .1), mul-le-mul-right (down e) (k .1))) (omega (arith, mul-le-mul-right (down g) (h .2), mul-le-mul-right (down e) (k .2))))
 
--- in the order of floats
+-- the same bounds as float comparisons
 pub within-le : (x y z : Float) (lo hi : ℕ) → HasValue x false lo 1 → HasValue y false hi 1 → Within lo hi z → T (le x z) × T (le z y)
 within-le x y nan lo hi h k w = absurd w
 within-le x y (inf s) lo hi h k w = absurd w

@@ -1,5 +1,5 @@
--- Which side of zero a value lies on, where an infinity may stand and a NaN is let through. Sums stay on a side; a product and a quotient go by the signs' rule.
--- `Side false x` says that x is not below zero, `Side true x` that it is not above it: a zero of either sign is on both. Assumes nothing.
+-- The side of zero on which a value lies, for infinities too; a NaN is on both sides. A sum of values on one side stays there; products and quotients follow the rule of signs.
+-- `Side false x`: x is not below zero. `Side true x`: x is not above zero. A zero of either sign is on both sides. Assumes nothing.
 use mathlib.Core.Path.{_≡_, refl, ap, ap₂, _∙_, subst}
 use mathlib.Core.Logic.{_⊎_, inl, inr}
 use mathlib.Core.Bool.{Bool, true, false, not, _&&_, cond, Bool·beq}
@@ -23,12 +23,12 @@ of-signed t nan h = tt
 of-signed t (inf s) h = h
 of-signed t (fin s m e) h = inl h
 
--- a rounded fraction: by its sign, or it is zero
+-- a rounded fraction is on the side of its sign, or it is zero
 round-side : (f : Format) (t s : Bool) (a c : ℕ) → 0 < c → (s ≡ t) ⊎ (a ≡ 0) → Side t (round f s a c)
 round-side f t s a c C (inl p) = rw p (of-signed t (round f t a c) (round-signed f t a c))
 round-side f t s a c C (inr z) = rw (round-zero f s a c z C) (inr refl)
 
--- a test's two branches
+-- both branches of a test
 pub either : (P : Float → Type 0) (b : Bool) (x y : Float) → (T b → P x) → (T (not b) → P y) → P (cond b x y)
 either P true x y h k = h tt
 either P false x y h k = k tt
@@ -62,7 +62,7 @@ sum-side f t s u a b c C p q =
     first true true g (inl p) = inl p
     first true false g (inl p) = inr (let h : a ≤ b = g tt in omega arith)
 
--- with a factor
+-- also times a factor
 pub wider : (t s : Bool) (m a b : ℕ) → (s ≡ t) ⊎ (m ≡ 0) → (s ≡ t) ⊎ (m * a * b ≡ 0)
 wider t s m a b (inl p) = inl p
 wider t s m a b (inr z) = inr (ap (λ (k : ℕ). k * a * b) z ∙ ap (λ (k : ℕ). k * b) (zero-mul a) ∙ zero-mul b)
@@ -84,7 +84,7 @@ pair p s q t m u n v (inl a) (inl b) = inl (ap₂ unlike a b)
 pair p s q t m u n v (inl a) (inr z) = inr (rw z (rw (zero-mul v) (mul-zero (m * u))))
 pair p s q t m u n v (inr z) k = inr (rw z (rw (zero-mul u) (zero-mul (n * v))))
 
--- what is not zero has its side's sign
+-- a value other than zero has the sign of its side
 sign-of : (p s : Bool) (m : ℕ) → (s ≡ p) ⊎ (m ≡ 0) → T (not (eqb m 0)) → s ≡ p
 sign-of p s m (inl a) h = a
 sign-of p s m (inr z) h = absurd (subst (λ (k : ℕ). T (not (eqb k 0))) z h)
@@ -100,7 +100,7 @@ mul-side f p q (fin s m e) (inf t) h k = either (Side (unlike p q)) (eqb m 0) na
 mul-side f p q (fin s m e) (fin t n d) h k =
     round-side f (unlike p q) (unlike s t) (m * up e * (n * up d)) (down e * down d) (mul-pos (down-pos e) (down-pos d)) (pair p s q t m (up e) n (up d) h k)
 
--- by a divisor whose sign is known, also where it is zero
+-- division by a divisor with a known sign, which may be zero
 pub div-side : (f : Format) (p q : Bool) (x y : Float) → Side p x → Signed q y → Side (unlike p q) (div f x y)
 unfolding div
 div-side f p q nan y h k = tt
@@ -118,8 +118,8 @@ div-side f p q (fin s m e) (fin t (suc n) d) h k =
     go (inl a) = inl (ap₂ unlike a k)
     go (inr z) = inr z
 
--- ---- from the tests
--- not below zero
+-- ---- from comparisons
+-- x is not below zero
 pub not-negative : (x : Float) → T (not (lt x (fin false 0 (pos 0)))) → Side false x
 unfolding lt
 not-negative nan h = tt
@@ -130,7 +130,7 @@ not-negative (fin true zero e) h = inr refl
 not-negative (fin true (suc m) e) h =
     absurd (omega (arith, nltb→le 0 (suc m * up e * 1 + 0 * 1 * down e) h, mul-pos (mul-pos (zero-lt-suc m) (up-pos e)) (zero-lt-suc 0)))
 
--- not below a value above zero
+-- x is not below a positive value
 pub not-under : (lo x : Float) → T (above lo) → T (not (lt x lo)) → Signed false x
 unfolding lt
 not-under nan x p h = absurd p

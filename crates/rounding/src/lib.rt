@@ -1,4 +1,4 @@
-// Arithmetic on single precision floats that holds for every value, infinities and NaN among them.
+// Arithmetic on binary32 numbers that is correct for all values, infinities and NaN included.
 ghost use mathlib.Core.Path.{_≡_};
 ghost use lib.Ieee.{binary32, sub};
 ghost use Rattle.rounding.specs.Magnitude.{magnitude, larger as largerOf};
@@ -9,7 +9,7 @@ fn larger(d: f32, e: f32) -> f32
     if d < e { e } else { d }
 }
 
-// |x - y|. The sum with 0 makes a zero's sign +, and keeps the maximum a single instruction.
+// The magnitude of x - y. Adding 0 turns -0 into +0, and lets the maximum compile to a single instruction.
 pub fn difference(x: f32, y: f32) -> f32
     ensures { λ r. ⌜ r ≡ magnitude (sub binary32 x y) ⌝ }
 {

@@ -1,4 +1,4 @@
--- What the block sigmas are, for callers: their list, a present grid's cell, and a missing grid. Assumes nothing.
+-- Laws of block sigmas for callers: their order, blocks with a present grid, and blocks with a missing grid. Assumes nothing.
 use mathlib.Core.Path.{_≡_, _∙_}
 use mathlib.Core.List.{List}
 use Prim.Native.Nat.{ℕ, suc, _+_, _*_, _<_}
@@ -16,29 +16,29 @@ use Rattle.sigma_groups.specs.Held.{groupAt}
 use Rattle.sigma.specs.Sigma.{sigmaIn, frameSigma, aboveAt, blockSigma, blockSigmas}
 
 module _ (f : Frame) (b : Blocks) (t : List ℕ) (grids : List Float) (modular : Float) where
-  -- One sigma a block,
+  -- One sigma per block,
   pub length-sigmas : length (blockSigmas f b t grids modular) ≡ blocksDown b * blocksAcross b
   unfolding blockSigmas
   length-sigmas = length-tab (blocksDown b * blocksAcross b) _
 
-  -- row of blocks after row.
+  -- row of blocks by row.
   pub sigmas-at : (x y : ℕ) → x < blocksAcross b → y < blocksDown b → getD (blockSigmas f b t grids modular) (y * blocksAcross b + x) nan ≡ blockSigma f b t grids modular x y
   unfolding blockSigmas
   sigmas-at x y p q = getD-tab (blocksDown b * blocksAcross b) _ (y * blocksAcross b + x) (digits-lt q p) ∙ rw (digits-div y p, digits-mod y p)
 
-  -- A block whose grid is present has its cell.
+  -- A block with a present grid has the sigma of its cell.
   pub sigma-present : (x y : ℕ) → presence t (groupAt f (b .left + x) (b .top + y)) ≡ 1
       → blockSigma f b t grids modular x y
       ≡ getD grids (gridStart t (groupAt f (b .left + x) (b .top + y)) + (innerOf (b .top + y) (f .«group_size_shift») * gridWidth t (groupAt f (b .left + x) (b .top + y)) + innerOf (b .left + x) (f .«group_size_shift»))) nan
   unfolding blockSigma frameSigma sigmaIn
   sigma-present x y p = rw (eq-eqb (presence t (groupAt f (b .left + x) (b .top + y))) 1 p)
 
-  -- Where it is missing, a block of the top row has `sigma_for_modular`,
+  -- If the grid is missing, a block of the top row has `sigma_for_modular`,
   pub sigma-top : (x : ℕ) → (presence t (groupAt f (b .left + x) (b .top + 0)) ≡ 1 → ⊥) → blockSigma f b t grids modular x 0 ≡ modular
   unfolding blockSigma frameSigma sigmaIn aboveAt
   sigma-top x p = rw (ne-eqb (presence t (groupAt f (b .left + x) (b .top + 0))) 1 p)
 
-  -- and any other repeats the block above.
+  -- and any other block repeats the sigma of the block above.
   pub sigma-repeats : (x y : ℕ) → (presence t (groupAt f (b .left + x) (b .top + suc y)) ≡ 1 → ⊥) → blockSigma f b t grids modular x (suc y) ≡ blockSigma f b t grids modular x y
   unfolding blockSigma frameSigma sigmaIn aboveAt
   sigma-repeats x y p = rw (ne-eqb (presence t (groupAt f (b .left + x) (b .top + suc y))) 1 p)

@@ -1,4 +1,4 @@
--- The sigmas that are written run by run are the block sigmas. Assumes nothing.
+-- The sigmas that are written run by run are the block sigmas. A run is a part of a row of blocks that lies in one group. Assumes nothing.
 use mathlib.Core.Path.{_≡_, refl, sym, ap, _∙_}
 use mathlib.Core.Bool.{true, false}
 use mathlib.Core.List.{List}
@@ -33,7 +33,7 @@ use Rattle.sigma_groups.proofs.Laws.{entry-lt, entries-le, Held, held, Accepted
 use Rattle.sigma_grids.proofs.Laws.{some-fewer, none-below, grid-sides, lacks-not, cells-present, start-ends}
 use Rattle.sigma.specs.Runs.{aboveIn, Holds, RunFits, RunOf, GridsOf, rowSigma, RowFits, AllFits}
 
--- a run over the whole list
+-- a run that fills the whole list
 fill-whole : (d : List Float) (n : ℕ) (f : ℕ → Float) → length d ≡ n → fill d 0 n f ≡ tab n f
 fill-whole d n f e = ext-getD nan (fill d 0 n f) (tab n f) (length-fill d 0 n f ∙ e ∙ sym (length-tab n f)) each
   where
@@ -43,7 +43,7 @@ fill-whole d n f e = ext-getD nan (fill d 0 n f) (tab n f) (length-fill d 0 n f 
         let z : 0 + k ≡ k = omega arith in
         rw z at (fill-at d 0 n f k (omega arith) m) ∙ sym (getD-tab n f k m)
 
--- what is written from index at on leaves it for the row that starts there
+-- writing from index at on does not change the row above
 pub above-same : (s : List Float) (n : ℕ) (modular : Float) (at m : ℕ) (f : ℕ → Float) (k : ℕ) → k < at + n → aboveIn (fill s at m f) n modular k ≡ aboveIn s n modular k
 unfolding aboveIn
 above-same s n modular at m f k l = go (decLt k n)
@@ -52,7 +52,7 @@ above-same s n modular at m f k l = go (decLt k n)
     go (yes p) = rw (lt-ltb k n p)
     go (no p) = rw (le-ltb k n (omega arith)) (fill-before s at m f (k - n) (omega arith))
 
--- blocks behind a block, in its group: the group is the same, and the cell so many columns on
+-- blocks to the right of a block in the same group: block b + i has the same group, and its cell is i columns to the right
 pub run-group : (b s i : ℕ) → innerOf b s + i < groupDim s → groupOf (b + i) s ≡ groupOf b s
 run-group b s i l = let e : b + i ≡ groupOf b s * groupDim s + (innerOf b s + i) = omega (arith, div-add-mod' b (groupDim s)) in rw e (digits-div (groupOf b s) l)
 
@@ -60,7 +60,7 @@ pub run-inner : (b s i : ℕ) → innerOf b s + i < groupDim s → innerOf (b + 
 run-inner b s i l = let e : b + i ≡ groupOf b s * groupDim s + (innerOf b s + i) = omega (arith, div-add-mod' b (groupDim s)) in rw e (digits-mod (groupOf b s) l)
 
 module _ (t : List ℕ) (grids : List Float) (modular : Float) (group column row n : ℕ) where
-  -- a present grid's cells lie one after another
+  -- cells of a present grid are consecutive
   pub run-present : presence t group ≡ 1 → (above : Float) (from i : ℕ) → from ≡ gridStart t group + (row * gridWidth t group + column)
       → getD grids (from + i) nan ≡ sigmaIn t grids modular above group (column + i) row
   unfolding sigmaIn
@@ -76,14 +76,14 @@ module _ (t : List ℕ) (grids : List Float) (modular : Float) (group column row
     pub row-le : row * gridWidth t group ≤ 1048576
     row-le = let l : row ≤ 1024 = omega (arith, h .row-lt, h .height-le) in omega (arith, mul-le-mul l (h .width-le))
 
-    -- the run ends inside the grids
+    -- the run ends within the grids slice
     pub run-room : gridStart t group + (row * gridWidth t group + column) + n ≤ length grids
     run-room =
         let l : suc row ≤ gridHeight t group = h .row-lt in
         omega (arith, h .columns, h .room, suc-mul row (gridWidth t group), mul-le-mul-right (gridWidth t group) l, mul-comm (gridWidth t group) (gridHeight t group))
 
 module _ (f : Frame) (sizes : GroupSizes) (t : List ℕ) (grids : List Float) (h : GridsOf f sizes t grids) (by : ℕ) where
-  -- where the last block of a run is held, the run is
+  -- if the last block of a run is held, all its blocks are
   pub run-fits : (bx limit : ℕ) (r : Run) → RunOf f bx by limit r → notHeld f t (bx + (r .n - 1)) by ≡ false → RunFits t grids (r .group) (r .column) (r .row) (r .n)
   run-fits bx limit r is no-fault =
       record {
@@ -131,7 +131,7 @@ module _ (f : Frame) (sizes : GroupSizes) (t : List ℕ) (grids : List Float) (h
             room = omega (arith, start-ends t (r .group) groups l, cells-present t (r .group) p, h .cells-are);
           }
 
--- a row's next run
+-- the next run of a row
 module _ (f : Frame) (t : List ℕ) (grids : List Float) (modular : Float) (s₀ : List Float) (n o left by : ℕ) where
   pub row-turn : (s s' : List Float) (x limit : ℕ) (r : Run) → s ≡ fill s₀ o x (rowSigma f t grids modular s₀ n o left by) → RunOf f (left + x) by limit r → x + limit ≤ n
       → s' ≡ fill s (o + x) (r .n) (λ i. sigmaIn t grids modular (aboveIn s n modular (o + x + i)) (r .group) (r .column + i) (r .row))
@@ -148,9 +148,9 @@ module _ (f : Frame) (t : List ℕ) (grids : List Float) (modular : Float) (s₀
           rw (above-same s₀ n modular o x (rowSigma f t grids modular s₀ n o left by) (o + x + i) (omega (arith, is .within)))
           (rw (at-x, block, run-group (left + x) k i inside, run-inner (left + x) k i inside, is .group-is, is .column-is, is .row-is))
 
--- ---- row after row
+-- ---- row by row
 
--- the sigma at an index: so many blocks of a row, so many rows
+-- the sigma at an index of the block sigmas
 unfoldable pub flatSigma : Frame → Blocks → List ℕ → List Float → Float → ℕ → Float
 flatSigma f b t grids modular i = blockSigma f b t grids modular (i % blocksAcross b) (i / blocksAcross b)
 
@@ -162,7 +162,7 @@ module _ (f : Frame) (b : Blocks) (t : List ℕ) (grids : List Float) (modular :
   unfolding flatSigma
   flat-is x y o p e = rw (e, digits-mod y p, digits-div y p)
 
-  -- the sigma above a block is the one before it by a row
+  -- the sigma above a block is one row of blocks earlier in the list
   above-is : (x y o : ℕ) → x < blocksAcross b → o ≡ y * blocksAcross b → o ≤ length s₀ → aboveIn (fill s₀ 0 o flat) (blocksAcross b) modular (o + x) ≡ aboveAt f b t grids modular x y
   unfolding aboveIn aboveAt blockSigma
   above-is x zero o p e room = rw (lt-ltb (o + x) (blocksAcross b) (omega (arith, zero-mul (blocksAcross b))))
@@ -172,7 +172,7 @@ module _ (f : Frame) (b : Blocks) (t : List ℕ) (grids : List Float) (modular :
       let i : o + x - blocksAcross b ≡ 0 + (k + x) = omega arith in
       rw (le-ltb (o + x) (blocksAcross b) (omega arith), i) (fill-at s₀ 0 o flat (k + x) (omega arith) (omega arith) ∙ flat-is x y k p refl)
 
-  -- a row's turn, with n blocks across
+  -- an iteration of the loop over rows, with n blocks across
   pub rows-turn : (s s' : List Float) (n y o : ℕ) → n ≡ blocksAcross b → o ≡ y * n → o ≤ length s₀ → s ≡ fill s₀ 0 o flat
       → s' ≡ fill s o n (rowSigma f t grids modular s n o (b .left) (b .top + y)) → s' ≡ fill s₀ 0 (o + n) flat
   unfolding rowSigma blockSigma
@@ -200,7 +200,7 @@ row-fits f sizes b t grids h n y q l =
       held-all = none-below (blocksDown b) y _ (h .held-all) l;
     })
 
--- an acceptance with the edge filter on, and the sizes that `group_sizes` answers
+-- an accepted call with the EPF on, and the sizes from `group_sizes`
 pub all-fits : (f : Frame) (b : Blocks) (t : List ℕ) (grids : List Float) (n on : ℕ) (answer : FrameAnswer) → Accepted on f b t grids n → flagSet on ≡ true
     → answer ≡ frameOutcome f → AllFits f (answer .sizes) b t grids
 all-fits f b t grids n on answer h o e =

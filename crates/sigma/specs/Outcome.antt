@@ -1,4 +1,4 @@
--- What `block_sigmas` answers, and what it leaves in the sigmas (Specification 7.9).
+-- The outcome of `block_sigmas`: its number, and the sigmas after the call (Specification 7.9).
 use mathlib.Core.Bool.{Bool, cond, _&&_}
 use mathlib.Core.List.{List}
 use Prim.Native.Nat.{ℕ}
@@ -15,7 +15,7 @@ pub record SigmasOutcome : Type 0 where
   pub number : ℕ
   pub sigmas : List Float
 
--- accepted, with the edge filter on, the sigmas are the filter region's; else they are as passed in
+-- accepted with the EPF on, the sigmas are the block sigmas of the filter region; otherwise they stay
 abbrev pub leftIn : ℕ → Bool → List Float → List Float → List Float
 leftIn number on defined lent = cond (eqb number 0 && on) defined lent
 

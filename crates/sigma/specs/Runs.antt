@@ -1,4 +1,4 @@
--- How the sigmas are written: runs of blocks of one group, rows of runs, row after row. Definitions only.
+-- How block sigmas are written: row of blocks by row, each row in runs. A run is a part of a row of blocks that lies in one group. Definitions only.
 use mathlib.Core.Path.{_≡_}
 use mathlib.Core.Bool.{false, cond}
 use mathlib.Core.List.{List}
@@ -17,13 +17,13 @@ use Rattle.sigma_groups.specs.Held.{groupAt, notHeld, someNotHeld}
 use Rattle.sigma.specs.Sigma.{frameSigma}
 use Rattle.sigma_groups.specs.Fitting.{TableOf}
 
--- the sigma a row of blocks before index at, and the one above the top row
+-- the sigma of the block above index at, n blocks earlier in the list; `modular` for the top row
 unfoldable pub aboveIn : List Float → ℕ → Float → ℕ → Float
 aboveIn s n modular at = cond (ltb at n) modular (getD s (at - n) nan)
 
 -- ---- a run of blocks of one group
 
--- what a run of n blocks from a cell of a group on needs of the group's grid, if it is present
+-- a present grid of the group holds the n cells from (column, row)
 pub record Holds (t : List ℕ) (grids : List Float) (group column row n : ℕ) : Type 0 where
   pub width-le : gridWidth t group ≤ 1024
   pub height-le : gridHeight t group ≤ 1024
@@ -39,7 +39,7 @@ pub record RunFits (t : List ℕ) (grids : List Float) (group column row n : ℕ
 
 -- ---- runs of a row of blocks
 
--- the run that starts at block (bx, by): so many blocks of one group, at most limit
+-- the run that starts at block (bx, by): blocks of one group, at least 1 and at most limit
 pub record RunOf (f : Frame) (bx by limit : ℕ) (r : Run) : Type 0 where
   pub group-is : r .group ≡ groupAt f bx by
   pub column-is : r .column ≡ innerOf bx (f .«group_size_shift»)
@@ -48,25 +48,25 @@ pub record RunOf (f : Frame) (bx by limit : ℕ) (r : Run) : Type 0 where
   pub within : r .n ≤ limit
   pub one-group : r .column + r .n ≤ groupDim (f .«group_size_shift»)
 
--- grids whose cells the table gives
+-- the grids slice holds the grids that the table describes
 pub record GridsOf (f : Frame) (sizes : GroupSizes) (t : List ℕ) (grids : List Float) : Type 0 where
   pub table : TableOf f sizes t
   pub sides : someBelow (sizesOf f .«num_groups») (badGrid t) ≡ false
   pub cells-are : length grids ≡ gridStart t (sizesOf f .«num_groups»)
 
--- a row's next run
+-- the next run of a row
 module _ (f : Frame) (t : List ℕ) (grids : List Float) (modular : Float) (s₀ : List Float) (n o left by : ℕ) where
   unfoldable pub rowSigma : ℕ → Float
   rowSigma x = frameSigma f t grids modular (aboveIn s₀ n modular (o + x)) (left + x) by
 
--- a row of blocks that are all held
+-- a row of blocks, each of them held
 pub record RowFits (f : Frame) (sizes : GroupSizes) (t : List ℕ) (grids : List Float) (left by n : ℕ) : Type 0 where
   pub grids-of : GridsOf f sizes t grids
   pub left-le : left ≤ 131072
   pub n-le : n ≤ 2048
   pub held-all : someBelow n (λ x. notHeld f t (left + x) by) ≡ false
 
--- all that the rows of a filter region need
+-- the conditions for all rows of a filter region
 pub record AllFits (f : Frame) (sizes : GroupSizes) (b : Blocks) (t : List ℕ) (grids : List Float) : Type 0 where
   pub grids-of : GridsOf f sizes t grids
   pub measured-blocks : Measured b

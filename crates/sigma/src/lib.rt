@@ -16,14 +16,14 @@ ghost use Rattle.sigma.specs.Sigma.{missing, sigmaIn, blockSigmas};
 ghost use Rattle.sigma.specs.Outcome.{SigmasOutcome, sigmasOutcome};
 ghost use Rattle.sigma.specs.Runs.{aboveIn, rowSigma, RunFits, RunOf, RowFits, AllFits};
 
-// What a missing grid gives, from `sigma_for_modular` and the sigma of the block above.
+// The sigma of a block whose grid is missing, from `sigma_for_modular` and the sigma of the block above.
 fn missing(_modular: f32, above: f32) -> f32
     ensures { λ r. ⌜ r ≡ missing «_modular» above ⌝ }
 {
     above
 }
 
-// The sigma of the block above index at.
+// The sigma of the block above index `at`, `modular` for the top row of blocks.
 fn above(sigmas: &[f32], across: usize, modular: f32, at: usize) -> f32
     requires { ⌜ at < length (now sigmas) ⌝ }
     ensures { λ r. ⌜ r ≡ aboveIn (now (sigmas .entry)) across modular at ⌝ }
@@ -49,7 +49,7 @@ fn fill_missing(modular: f32, across: u32, sigmas: &mut [f32], at: usize, n: u32
     }
 }
 
-// The sigmas of n blocks of one group, from its cell (column, row) on, at index at.
+// Writes the sigmas of n blocks of one group, from its cell (column, row), at index `at`.
 fn fill_run(
     table: &[u32],
     grids: &[f32],
@@ -78,7 +78,7 @@ fn fill_run(
     copy_run(sigmas, at, grids, from, n as usize);
 }
 
-// Blocks of one group in a row: the group, the cell of the first, and their count.
+// A part of a row of blocks that lies in one group: the group, the cell of the first block, the number of blocks.
 struct Run {
     group: u32,
     column: u32,
@@ -93,7 +93,7 @@ fn smaller(a: u32, b: u32) -> u32
     if a < b { a } else { b }
 }
 
-// The run that starts at block (bx, by) and has at most limit blocks.
+// The run that starts at block (bx, by) and has at most `limit` blocks.
 fn run_at(frame: Frame, sizes: GroupSizes, bx: u32, by: u32, limit: u32) -> Run
     requires { ⌜ Sound frame × (sizes ≡ sizesOf frame) × (0 < limit) ⌝ }
     requires { ⌜ (groupOf bx (frame .«group_size_shift») < sizesOf frame .«groups_per_row»)
@@ -112,7 +112,7 @@ fn run_at(frame: Frame, sizes: GroupSizes, bx: u32, by: u32, limit: u32) -> Run
     }
 }
 
-// The sigmas of a row of blocks, at index o.
+// Writes the sigmas of a row of blocks at index o.
 fn fill_row(
     frame: Frame,
     sizes: GroupSizes,
@@ -184,8 +184,8 @@ fn fill_rows(
     }
 }
 
-// The sigma of each block of the filter region, row of blocks after row, or the number that the inputs are refused
-// with.
+// Writes the sigma of each block of the filter region, row of blocks by row (Specification 7.9). Returns the number of
+// the refusal, or 0.
 pub fn block_sigmas(
     on: u32,
     frame: Frame,

@@ -1,4 +1,4 @@
--- What the measures of a filter region say. Assumes nothing.
+-- Bounds of a filter region within the limits. Assumes nothing.
 use mathlib.Core.Path.{_≡_}
 use mathlib.Core.Bool.{false}
 use Prim.Native.Nat.{_*_, _≤_}
@@ -31,7 +31,7 @@ measured b h =
       top-le = ltb-false 131072 (b .top) (t .1);
     }
 
--- at most 2,048 blocks each way
+-- at most 2,048 blocks across and down
 pub across-le : (b : Blocks) → Measured b → blocksAcross b ≤ 2048
 across-le b m = omega (arith, m .width-le)
 

@@ -1,8 +1,8 @@
--- The measures of a filter region that is in measure. Definitions only.
+-- A filter region within the limits. Definitions only.
 use Prim.Native.Nat.{_*_, _≤_}
 use Rattle.sigma_blocks.specs.declared.Blocks.{Blocks}
 
--- the measures of a filter region that is in measure
+-- the bounds of a filter region within the limits; left and top in blocks
 pub record Measured (b : Blocks) : Type 0 where
   pub width-pos : 1 ≤ b .width
   pub width-le : b .width ≤ 16384

@@ -6,14 +6,14 @@ use Rattle.frame.specs.Sizes.{blocksAlong}
 use Rattle.frame.specs.Outcome.{badSide}
 use Rattle.sigma_blocks.specs.declared.Blocks.{Blocks}
 
--- blocks across and down the filter region
+-- blocks across and down a filter region
 abbrev pub blocksAcross : Blocks → ℕ
 blocksAcross b = blocksAlong (b .width)
 
 abbrev pub blocksDown : Blocks → ℕ
 blocksDown b = blocksAlong (b .height)
 
--- a filter region with a side outside 1 to 16,384, an area over 16,777,216, or a left or top over 1,048,576, which is 131,072 blocks
+-- a filter region outside the limits: a side outside 1 to 16,384, an area over 16,777,216, or a left or top over 131,072 blocks (1,048,576 samples)
 unfoldable pub badBlocks : Blocks → Bool
 badBlocks b =
     badSide (b .width) || badSide (b .height) || ltb 16777216 (b .width * b .height) || ltb 131072 (b .left) || ltb 131072 (b .top)

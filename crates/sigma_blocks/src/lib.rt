@@ -1,4 +1,4 @@
-// A filter region in blocks of 8 by 8 samples.
+// A filter region in blocks of 8 × 8 samples.
 use limits::BLOCK_U32;
 use limits::MAX_AREA_U32;
 use limits::MAX_SIDE_U32;
@@ -8,10 +8,10 @@ ghost use lib.Dec.{ltb};
 ghost use Rattle.frame.specs.Sizes.{dividedUp};
 ghost use Rattle.sigma_blocks.specs.Measures.{badBlocks};
 
-// Left and top reach to 1,048,576 samples.
+// The largest left or top in blocks: 1,048,576 samples.
 const MAX_BLOCK: u32 = 131_072;
 
-// A filter region whose left and top are multiples of 8: these in blocks, its sides in samples.
+// A filter region whose left and top are multiples of 8. Left and top are in blocks, width and height in samples.
 #[repr(C)]
 pub struct Blocks {
     pub left: u32,
@@ -29,7 +29,7 @@ fn outside(side: u32, max: u32) -> bool
     max < side
 }
 
-// Whether its numbers are out of measure.
+// Whether the filter region is outside the limits.
 pub fn bad_blocks(blocks: Blocks) -> bool
     ensures { λ r. ⌜ r ≡ badBlocks blocks ⌝ }
 {
@@ -48,7 +48,7 @@ pub fn bad_blocks(blocks: Blocks) -> bool
     MAX_BLOCK < blocks.top
 }
 
-// Blocks along a side of samples: an eighth, rounded up.
+// Blocks along a side of samples: ⌈side / 8⌉.
 pub fn blocks_along(side: u32) -> u32
     ensures { λ r. ⌜ r ≡ dividedUp side 8 ⌝ }
 {

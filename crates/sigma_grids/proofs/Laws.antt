@@ -1,4 +1,4 @@
--- Laws of the group table: entries below a number, a grid's cells, where grids start and end. Assumes nothing.
+-- Laws of the group table: searches over its entries, the cells of a grid, and where grids start and end. Assumes nothing.
 use mathlib.Core.Path.{_≡_, refl, sym, ap, _∙_}
 use mathlib.Core.Bool.{Bool, true, false, false≢true, _||_}
 use mathlib.Core.List.{List}
@@ -15,21 +15,21 @@ use Rattle.sigma_grids.specs.declared.StartAnswer.{StartAnswer}
 use Rattle.sigma_grids.specs.Table.{presence, gridWidth, gridHeight, badGridSide, badGrid, cells, lacks, gridStart, someBelow}
 use Rattle.sigma_grids.specs.Start.{noEntries, startOutcome}
 
--- ---- tests that do not hold
+-- ---- from a test that fails
 
 pub neither : (a b : Bool) → (a || b) ≡ false → (a ≡ false) × (b ≡ false)
 neither false b h = (refl, h)
 neither true b h = absurd (false≢true (sym h))
 
--- a side that is not outside 1 to max
+-- a side that is within 1 to max
 pub side-range : (side max : ℕ) → (ltb side 1 || ltb max side) ≡ false → (1 ≤ side) × (side ≤ max)
 side-range side max h =
     let n = neither (ltb side 1) (ltb max side) h in
     (ltb-false side 1 (n .0), ltb-false max side (n .1))
 
--- ---- some number below n
+-- ---- whether some number below n has a property
 
--- one is found,
+-- it does if one of them has it;
 pub some-found : (n k : ℕ) (has : ℕ → Bool) → k < n → has k ≡ true → someBelow n has ≡ true
 unfolding someBelow
 some-found zero k has l h = absurd (omega arith)
@@ -43,7 +43,7 @@ some-found (suc n) k has l h =
     or-true true = refl
     or-true false = refl
 
--- none is so far: a loop's turn, and its end,
+-- if none has it so far: an iteration of the loop, and its end;
 pub some-turn : (n : ℕ) (has : ℕ → Bool) → someBelow n has ≡ false → has n ≡ false → someBelow (n + 1) has ≡ false
 unfolding someBelow
 some-turn n has e h = rw (add-one n, e, h)
@@ -57,7 +57,7 @@ some-fewer zero k has e l = let z : k ≡ 0 = omega arith in rw z
 some-fewer (suc n) k has e l =
     ⊎-elim (λ (z : k ≡ suc n). rw z e) (λ (m : k < suc n). some-fewer n k has (neither (someBelow n has) (has n) e .0) (le-of-suc-le-suc m)) (eq-or-lt-of-le l)
 
--- and so each of them has it not.
+-- if the search finds none, each of them lacks it
 pub none-below : (n k : ℕ) (has : ℕ → Bool) → someBelow n has ≡ false → k < n → has k ≡ false
 unfolding someBelow
 none-below zero k has e l = absurd (omega arith)
@@ -75,7 +75,7 @@ grid-sides t g h p =
     let n = neither (badGridSide (gridWidth t g)) (badGridSide (gridHeight t g)) e in
     (side-range (gridWidth t g) 1024 (n .0), side-range (gridHeight t g) 1024 (n .1))
 
--- a cell that a present grid does not lack
+-- a cell of a present grid
 pub lacks-not : (t : List ℕ) (g column row : ℕ) → lacks t g column row ≡ false → presence t g ≡ 1 → (column < gridWidth t g) × (row < gridHeight t g)
 unfolding lacks
 lacks-not t g column row h p =
@@ -91,7 +91,7 @@ pub cells-missing : (t : List ℕ) (g : ℕ) → (presence t g ≡ 1 → ⊥) �
 unfolding cells
 cells-missing t g p = rw (ne-eqb (presence t g) 1 p)
 
--- a grid has at most 1,024 by 1,024 cells
+-- a grid has at most 1,024 × 1,024 cells
 pub cells-le : (t : List ℕ) (g : ℕ) → badGrid t g ≡ false → cells t g ≤ 1048576
 cells-le t g h = go (ℕ-discrete (presence t g) 1)
   where
@@ -101,7 +101,7 @@ cells-le t g h = go (ℕ-discrete (presence t g) 1)
         omega (arith, cells-present t g p, mul-le-mul (s .0 .1) (s .1 .1))
     go (no p) = omega (arith, cells-missing t g p)
 
--- a loop's turn
+-- an iteration of the loop
 pub start-more : (t : List ℕ) (g : ℕ) → gridStart t g + cells t g ≡ gridStart t (g + 1)
 unfolding gridStart
 start-more t g = rw (add-one g)
@@ -122,7 +122,7 @@ start-ends t g (suc n) l =
     (λ (m : g < n). omega (arith, start-ends t g n m))
     (eq-or-lt-of-le (le-of-suc-le-suc l))
 
--- where the grid of a group starts that the table has
+-- the start of the grid of a group that has an entry in the table
 pub start-accepted : (t : List ℕ) (g : ℕ) → length t ≤ 768 → 3 * g ≤ length t → someBelow g (badGrid t) ≡ false → startOutcome t g ≡ record { number = 0; start = gridStart t g }
 unfolding noEntries
 start-accepted t g l m b = rw (le-ltb 768 (length t) l, le-ltb (length t) (3 * g) m, b)

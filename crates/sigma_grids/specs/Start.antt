@@ -1,4 +1,4 @@
--- Where a group's grid starts in the grids slice, as `grid_start` answers it.
+-- The index in the grids slice at which a group's grid starts, as `grid_start` returns it.
 use mathlib.Core.Bool.{Bool, cond, not, _||_}
 use mathlib.Core.List.{List, [], _∷_}
 use Prim.Native.Nat.{ℕ, _*_}
@@ -9,11 +9,11 @@ use Rattle.refusals.specs.Checks.{Check, always, given, firstOf}
 use Rattle.sigma_grids.specs.declared.StartAnswer.{StartAnswer}
 use Rattle.sigma_grids.specs.Table.{gridStart, badGrid, someBelow}
 
--- the table has no entry for some group before this one, or more entries than a frame has groups
+-- the table lacks an entry for a group before this one, or has more entries than a frame has groups
 unfoldable pub noEntries : List ℕ → ℕ → Bool
 noEntries t group = ltb 768 (length t) || ltb (length t) (3 * group)
 
--- a grid before it that is out of measure (4), a table of a wrong length (7)
+-- 4 for a grid before this one with a side out of range, 7 for a table of the wrong length
 abbrev pub startChecks : List ℕ → ℕ → List Check
 startChecks t group =
     given (not (noEntries t group)) outOfMeasure (someBelow group (badGrid t))

@@ -1,4 +1,4 @@
-// The group table of a frame, and where the grid of each group starts in the slice of all grids (Specification 7.4).
+// The group table of a frame, and where each group's grid starts in the grids slice (Specification 7.4).
 ghost use mathlib.Core.Path.{_≡_};
 ghost use mathlib.Core.Bool.{false};
 ghost use Prim.Native.Nat.{_+_, _*_, _≤_};
@@ -8,12 +8,12 @@ ghost use Rattle.sigma_grids.specs.Start.{startOutcome};
 
 const MAX_GRID_SIDE: u32 = 1_024;
 
-// A group's entry in the table: presence, grid width, grid height.
+// Numbers per group in the table: presence, grid width, grid height.
 pub const ENTRY: usize = 3;
 
 pub const PRESENT: u32 = 1;
 
-// 256 groups: 16 by 16 of 1,024 samples each way.
+// At most 256 groups: 16 × 16 of 1,024 × 1,024 samples.
 const MAX_TABLE: usize = 768;
 
 #[repr(C)]
@@ -31,7 +31,7 @@ fn bad_side(side: u32) -> bool
     MAX_GRID_SIDE < side
 }
 
-// A present grid with a side out of measure.
+// Whether a grid is present and has a side out of range.
 fn bad_grid(table: &[u32], group: usize) -> bool
     requires { ⌜ 3 * group + 3 ≤ length (now table) ⌝ }
     ensures { λ r. ⌜ r ≡ badGrid (now (table .entry)) group ⌝ }
@@ -60,7 +60,7 @@ fn some_bad_grid(table: &[u32], groups: usize) -> bool
     false
 }
 
-// A group's cells in the grids slice.
+// The number of cells of a group in the grids slice.
 fn cells(table: &[u32], group: usize) -> usize
     requires { ⌜ (3 * group + 3 ≤ length (now table)) × (badGrid (now table) group ≡ false) ⌝ }
     ensures { λ r. ⌜ r ≡ cells (now (table .entry)) group ⌝ }
@@ -78,7 +78,7 @@ fn wide(x: u32) -> usize
     x as usize
 }
 
-// The cells of the groups before one.
+// The number of cells of all groups before this one.
 fn cells_before(table: &[u32], group: usize) -> usize
     requires { ⌜ (3 * group ≤ length (now table)) × (group ≤ 256) × (someBelow group (badGrid (now table)) ≡ false) ⌝ }
     ensures { λ r. ⌜ r ≡ gridStart (now (table .entry)) group ⌝ }
@@ -98,7 +98,7 @@ fn no_start(number: u32) -> StartAnswer
     StartAnswer { number, start: 0 }
 }
 
-// Where a group's grid starts in the grids slice.
+// The start of a group's grid in the grids slice, or refusal 4 or 7.
 pub fn grid_start(table: &[u32], group: u32) -> StartAnswer
     ensures { λ r. ⌜ r ≡ startOutcome (now (table .entry)) group ⌝ }
 {

@@ -1,4 +1,4 @@
--- Laws of blocks in groups, and of what is accepted. Assumes nothing.
+-- Laws of the blocks in groups, and of accepted inputs. Assumes nothing.
 use mathlib.Core.Path.{_≡_, refl, sym, ap, _∙_}
 use mathlib.Core.Bool.{Bool, true, false, cond, not, _&&_}
 use mathlib.Core.List.{List}
@@ -29,7 +29,7 @@ use Rattle.sigma_groups.specs.Held.{groupAt, notHeld, someNotHeld}
 use Rattle.sigma_groups.specs.Outcome.{frameFits, tableFits, tableRead, someGroup, gridsFit, sigmaCount, sigmaNumber}
 use Rattle.sigma_groups.specs.Fitting.{TableOf}
 
--- what `split_block` answers
+-- from the answer of `split_block`
 pub split-group : (b s : ℕ) (a : SplitAnswer) → s ≤ 3 → a ≡ splitOutcome b s → a .group ≡ groupOf b s
 split-group b s a l e = ap (λ (r : SplitAnswer). r .group) (e ∙ split-accepted b s l)
 
@@ -40,7 +40,7 @@ module _ (f : Frame) (sizes : GroupSizes) (t : List ℕ) (h : TableOf f sizes t)
   pub sizes-fit : Bounded sizes
   sizes-fit = rw (h .sizes-are) (sizes-bounded f (h .sound))
 
-  -- a group within the groups per row and column has an entry
+  -- a group within the groups per row and per column has an entry in the table
   pub entry-lt : (column row : ℕ) → column < sizes .«groups_per_row» → row < sizes .«groups_per_column» → 3 * (row * sizes .«groups_per_row» + column) + 3 ≤ length t
   entry-lt column row c r =
       let n : sizes .«num_groups» ≡ sizes .«groups_per_column» * sizes .«groups_per_row» = sizes-fit .groups ∙ mul-comm _ _ in
@@ -52,7 +52,7 @@ module _ (f : Frame) (sizes : GroupSizes) (t : List ℕ) (h : TableOf f sizes t)
   pub entries-le : length t ≤ 768
   entries-le = omega (arith, h .entries, sizes-bounded f (h .sound) .groups-le)
 
--- a block that is held has its group in the frame and its cell in the group's grid, if that is present
+-- a block that is held: its group is in the frame, and its cell is in the group's grid if that is present
 pub record Held (f : Frame) (t : List ℕ) (bx by : ℕ) : Type 0 where
   pub in-row : groupOf bx (f .«group_size_shift») < sizesOf f .«groups_per_row»
   pub in-column : groupOf by (f .«group_size_shift») < sizesOf f .«groups_per_column»
@@ -70,9 +70,9 @@ held f t bx by h =
       in-grid = g .1;
     }
 
--- ---- what is refused and what is accepted
+-- ---- refused and accepted inputs
 
--- which of the frame's numbers are out of range, by that number
+-- from the number of a frame to the values that are out of range
 pub sides-bad : (a b : Bool) → cond a outOfMeasure (cond b outOfRange accepted) ≡ 4 → a ≡ true
 sides-bad true b e = refl
 sides-bad false true e = absurd (omega arith)
@@ -97,7 +97,7 @@ passed : (b : Bool) (k rest : ℕ) → 0 < k → cond b k rest ≡ 0 → (b ≡ 
 passed true k rest p e = absurd (omega arith)
 passed false k rest p e = (refl, e)
 
--- What an acceptance says: the frame's and the filter region's numbers are in range, and lengths, grids and blocks fit.
+-- Accepted inputs: the numbers of frame and filter region are in range, and lengths, grids and blocks fit.
 pub record Accepted (on : ℕ) (f : Frame) (b : Blocks) (t : List ℕ) (grids : List Float) (n : ℕ) : Type 0 where
   pub frame-fits : firstOf (frameChecks f) ≡ accepted
   pub blocks : Measured b
@@ -110,7 +110,7 @@ pub record Accepted (on : ℕ) (f : Frame) (b : Blocks) (t : List ℕ) (grids : 
   pub held-all : flagSet on ≡ true → someNotHeld f b t ≡ false
 
 module _ (on : ℕ) (f : Frame) (b : Blocks) (t : List ℕ) (grids : List Float) (n : ℕ) where
-  -- from the tests, once table and settings are known to be read
+  -- from the tests, if the table is readable
   accepted-tests : badSides f ≡ false → badBlocks b ≡ false → badSettings f ≡ false → (tableRead f t && someGroup f (badGrid t)) ≡ false
       → (frameFits f && not (tableFits f t)) ≡ false → (tableRead f t && not (someGroup f (badPresence t)) && not (gridsFit f t grids)) ≡ false
       → (not (badBlocks b) && flagFits on && not (eqb n (sigmaCount (flagSet on) b))) ≡ false → (tableRead f t && not (badBlocks b) && flagSet on && someNotHeld f b t) ≡ false

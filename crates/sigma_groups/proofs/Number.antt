@@ -1,4 +1,4 @@
--- The number of the first check that applies, from what each test says in turn. Assumes nothing.
+-- The number of the first check that applies, from the tests in order. Assumes nothing.
 use mathlib.Core.Path.{_≡_}
 use mathlib.Core.Bool.{Bool, true, false, not, _&&_}
 use mathlib.Core.List.{List}
@@ -16,7 +16,7 @@ use Rattle.sigma_blocks.specs.Measures.{badBlocks}
 use Rattle.sigma_groups.specs.Held.{someNotHeld}
 
 module _ (on : ℕ) (f : Frame) (b : Blocks) (t : List ℕ) (grids : List Float) (n : ℕ) where
-  -- the count of sigmas is judged by a flag in range
+  -- the number of sigmas is checked only if the flag is in range
   abbrev pub wrongCount : Bool
   wrongCount = flagFits on && not (eqb n (sigmaCount (flagSet on) b))
 
@@ -26,7 +26,7 @@ module _ (on : ℕ) (f : Frame) (b : Blocks) (t : List ℕ) (grids : List Float)
   pub blocks-out : badSides f ≡ false → badBlocks b ≡ true → outOfMeasure ≡ sigmaNumber on f b t grids n
   blocks-out s k = rw (s, k)
 
-  -- settings out of range: only the count of sigmas is judged
+  -- settings out of range: of the lengths, only that of the sigmas is checked
   module _ (s : badSides f ≡ false) (k : badBlocks b ≡ false) (q : badSettings f ≡ true) where
     pub count-wrong : wrongCount ≡ true → wrongLength ≡ sigmaNumber on f b t grids n
     count-wrong c = rw (s, k, q, c)

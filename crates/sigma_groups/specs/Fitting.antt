@@ -1,4 +1,4 @@
--- A group table, and inputs of block sigmas that fit. Definitions only.
+-- A group table of the right length, and a frame and filter region in range. Definitions only.
 use mathlib.Core.Path.{_≡_}
 use mathlib.Core.Bool.{false}
 use mathlib.Core.List.{List}
@@ -14,13 +14,13 @@ use Rattle.sigma_blocks.specs.Measures.{badBlocks}
 
 -- ---- blocks and the groups of a frame
 
--- a table that has an entry for each group of a frame whose numbers are in range
+-- a table that has an entry for each group of a frame in range
 pub record TableOf (f : Frame) (sizes : GroupSizes) (t : List ℕ) : Type 0 where
   pub sound : Sound f
   pub sizes-are : sizes ≡ sizesOf f
   pub entries : length t ≡ 3 * sizesOf f .«num_groups»
 
--- a frame and a filter region whose numbers are in range, with the frame's sizes
+-- a frame and a filter region in range, with the frame's sizes
 pub record Fitting (f : Frame) (sizes : GroupSizes) (b : Blocks) : Type 0 where
   pub sides : badSides f ≡ false
   pub settings : badSettings f ≡ false

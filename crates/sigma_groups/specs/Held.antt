@@ -9,11 +9,11 @@ use Rattle.sigma_blocks.specs.declared.Blocks.{Blocks}
 use Rattle.sigma_blocks.specs.Measures.{blocksAcross, blocksDown}
 use Rattle.sigma_grids.specs.Table.{lacks, someBelow}
 
--- the number of the group that block (bx, by) lies in, groups being counted row after row
+-- the group number of block (bx, by); groups are numbered row by row
 abbrev pub groupAt : Frame → ℕ → ℕ → ℕ
 groupAt f bx by = groupOf by (f .«group_size_shift») * sizesOf f .«groups_per_row» + groupOf bx (f .«group_size_shift»)
 
--- block (bx, by) has a group past the groups per row or column, or a grid that is present and does not hold its cell
+-- block (bx, by) is not held: its group is outside the frame, or the group's grid is present and lacks its cell
 unfoldable pub notHeld : Frame → List ℕ → ℕ → ℕ → Bool
 notHeld f t bx by =
     leb (sizesOf f .«groups_per_row») (groupOf bx (f .«group_size_shift»))

@@ -1,4 +1,4 @@
--- Which number the inputs of block sigmas get (Specification 7.9, 12.6).
+-- The number of `block_sigmas` (Specification 7.9, 12.6).
 use mathlib.Core.Bool.{Bool, cond, not, _&&_, _||_}
 use mathlib.Core.List.{List, [], _∷_}
 use Prim.Native.Nat.{ℕ, _*_}
@@ -16,33 +16,33 @@ use Rattle.sigma_grids.specs.Table.{gridStart, badPresence, badGrid, someBelow}
 use Rattle.sigma_blocks.specs.Measures.{blocksAcross, blocksDown, badBlocks}
 use Rattle.sigma_groups.specs.Held.{someNotHeld}
 
--- ---- the numbers that checks need
+-- ---- values that checks need
 
--- the frame's numbers are in range, so that it has groups
+-- the frame's sides and settings are in range
 abbrev pub frameFits : Frame → Bool
 frameFits f = not (badSides f || badSettings f)
 
--- an entry for each group of the frame
+-- the table has an entry for each group of the frame
 unfoldable pub tableFits : Frame → List ℕ → Bool
 tableFits f t = eqb (length t) (3 * sizesOf f .«num_groups»)
 
--- entries are read only where the frame's numbers are in range and the table has its length
+-- the table is readable (Specification 7.4)
 abbrev pub tableRead : Frame → List ℕ → Bool
 tableRead f t = frameFits f && tableFits f t
 
--- some group of the frame has such an entry
+-- some group of the frame has this property
 abbrev pub someGroup : Frame → (ℕ → Bool) → Bool
 someGroup f = someBelow (sizesOf f .«num_groups»)
 
--- exactly the present grids' cells
+-- the grids slice has exactly the cells of the present grids
 unfoldable pub gridsFit : Frame → List ℕ → List Float → Bool
 gridsFit f t grids = eqb (length grids) (gridStart t (sizesOf f .«num_groups»))
 
--- one sigma a block with the edge filter on, none with it off
+-- one sigma per block if the EPF is on, none if it is off
 abbrev pub sigmaCount : Bool → Blocks → ℕ
 sigmaCount on b = cond on (blocksDown b * blocksAcross b) 0
 
--- ---- checks of a frame with its group table and grids, each with what it needs
+-- ---- checks of a frame, its group table and grids, each with the values that it needs
 
 -- frame sides, and sides of present grids
 abbrev pub frameSides : Frame → Check
@@ -51,14 +51,14 @@ frameSides f = always outOfMeasure (badSides f)
 abbrev pub gridSides : Frame → List ℕ → Check
 gridSides f t = given (tableRead f t) outOfMeasure (someGroup f (badGrid t))
 
--- lengths of the table and of the grids; a group whose presence is out of range hides the latter
+-- lengths of the table and of the grids slice; the latter is passed over if a presence is out of range
 abbrev pub tableLength : Frame → List ℕ → Check
 tableLength f t = given (frameFits f) wrongLength (not (tableFits f t))
 
 abbrev pub gridsLength : Frame → List ℕ → List Float → Check
 gridsLength f t grids = given (tableRead f t && not (someGroup f (badPresence t))) wrongLength (not (gridsFit f t grids))
 
--- the frame's settings, and presences
+-- the frame's settings, and the presences
 abbrev pub frameSettings : Frame → Check
 frameSettings f = always outOfRange (badSettings f)
 
@@ -67,9 +67,9 @@ presences f t = given (tableRead f t) outOfRange (someGroup f (badPresence t))
 
 -- ---- the table of checks
 
--- The checks of Specification 7.9, ascending. With the edge filter off all is checked but 8; whether it is on is a flag,
--- which the count of sigmas and 8 need.
--- A group whose presence is out of range counts as not present: its sides are passed over, and so is 8 for its grid.
+-- The checks of Specification 7.9, ascending. If the EPF is off, all of them apply except 8. Whether it is on is a flag;
+-- the number of sigmas and 8 are checked only if the flag is in range.
+-- A presence out of range counts as missing: the sides of that grid are passed over, and so is 8 for its blocks.
 abbrev pub sigmaChecks : ℕ → Frame → Blocks → List ℕ → List Float → ℕ → List Check
 sigmaChecks on f b t grids sigmas =
     frameSides f

@@ -1,5 +1,4 @@
-// Whether the groups of a frame hold a filter region's blocks, and which number the inputs of block sigmas get
-// (Specification 7.7, 7.9).
+// Whether the grids hold a filter region's blocks, and the number of `block_sigmas` (Specification 7.7, 7.9).
 use frame::Frame;
 use frame::GroupSizes;
 use sigma_blocks::Blocks;
@@ -29,7 +28,7 @@ fn sigma_count(on: bool, blocks: Blocks) -> usize
     (down * across) as usize
 }
 
-// Whether there are not so many sigmas, which a flag out of range leaves open.
+// Whether the number of sigmas is wrong; false if the flag is out of range.
 fn wrong_count(on: u32, blocks: Blocks, sigmas: usize) -> bool
     requires { ⌜ Measured blocks ⌝ }
     ensures { λ r. ⌜ r ≡ (flagFits on && not (eqb sigmas (sigmaCount (flagSet on) blocks))) ⌝ }
@@ -67,7 +66,7 @@ fn wide(x: u32) -> usize
     x as usize
 }
 
-// Whether a group's grid is present and does not hold a cell.
+// Whether a group's grid is present and lacks a cell.
 fn lacks(table: &[u32], group: u32, column: u32, row: u32) -> bool
     requires { ⌜ 3 * group + 3 ≤ length (now table) ⌝ }
     ensures { λ r. ⌜ r ≡ lacks (now (table .entry)) group column row ⌝ }
@@ -82,7 +81,7 @@ fn lacks(table: &[u32], group: u32, column: u32, row: u32) -> bool
     table[entry + 2] <= row
 }
 
-// Whether a block's group is not in the frame, or its grid is present and does not hold it.
+// Whether a block's group is outside the frame, or its grid is present and lacks the block.
 fn not_held(frame: Frame, sizes: GroupSizes, table: &[u32], bx: u32, by: u32) -> bool
     requires { ⌜ TableOf frame sizes (now table) ⌝ }
     ensures { λ r. ⌜ r ≡ notHeld frame (now (table .entry)) bx by ⌝ }
@@ -156,7 +155,7 @@ fn touched_not_held(
     false
 }
 
-// Whether the grids slice, of that length, has not the cells that it should, which faulty presences leave open.
+// Whether the grids slice has the wrong length; false if a presence is out of range.
 fn wrong_grids(faulty: bool, cells: usize, len: usize) -> bool
     ensures { λ r. ⌜ r ≡ (not faulty && not (eqb len cells)) ⌝ }
 {
@@ -166,7 +165,7 @@ fn wrong_grids(faulty: bool, cells: usize, len: usize) -> bool
     len != cells
 }
 
-// The number for a frame and a filter region whose own numbers are in range.
+// The number of `block_sigmas` for a frame and a filter region in range.
 fn check_table(
     on: u32,
     frame: Frame,
@@ -206,7 +205,7 @@ fn check_table(
     refusals::ACCEPTED
 }
 
-// The number that these inputs get from `block_sigmas` for so many sigmas.
+// The number of `block_sigmas` for a slice of `sigmas_len` sigmas.
 pub fn check(
     on: u32,
     frame: Frame,

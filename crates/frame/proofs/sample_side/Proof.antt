@@ -1,4 +1,4 @@
--- `frame::sample_side` meets its contract: 1 shifted left by three times the LF level is 8 to its power. Assumes nothing.
+-- `frame::sample_side` meets its contract: 1 shifted left by three times the LF level is 8 to the power of the LF level. Assumes nothing.
 use mathlib.Core.Path.{_≡_, refl, _∙_}
 use Prim.Native.Nat.{ℕ, zero, suc, _*_, _%_, _^_, _≤_, _<_}
 use borrow.Author.Needs.{needs}

@@ -11,7 +11,7 @@ use Rattle.frame.proofs.Laws.{group-dim-ge, group-shift-is, group-shift
 use Rattle.frame.proofs.split_block.Statement.{statement}
 use Rattle.frame.proofs.split_block.Tie as tie
 
--- a shift and a mask by k, for 2 to the power k
+-- a shift by k and a mask of k bits, for d = 2 ^ k
 split-is : (b k d : ℕ) → 2 ^ k ≡ d → _≡_ {A = SplitAnswer} (record { number = 0; group = b / 2 ^ k; inner = bitAnd b (d - 1) }) (record { number = 0; group = b / d; inner = b % d })
 split-is b k d e = rw (sym e, and-mask b k)
 

@@ -1,4 +1,4 @@
--- `gabor::gabor_pass` meets its contract: each test gives its number and leaves `dst`, and else the band is what the definition says. Assumes nothing.
+-- `gabor::gabor_pass` meets its contract: a test that fails gives its number and leaves `dst` unchanged; otherwise the band is as defined. Assumes nothing.
 use mathlib.Core.Path.{_≡_, sym, _∙_}
 use mathlib.Core.Bool.{true}
 use borrow.Author.Needs.{needs}
@@ -37,7 +37,7 @@ returns-3 c =
     let s = start l .args in
     outcome-target (s .image) (s .filter) (s .preserve-outside) (s .weights) (s .from) (s .to) (now (s .src)) (now (s .dst)) (l .layout-of .result) (laid l) (c .before .before .before .before .before .if1 .left) (sym (c .before .set-fits2 .ensures) ∙ not-true _ (c .if3 .taken))
 
--- both sets have their length
+-- both sets have the right length
 module _ (c : tie.Else3) where
   abbrev layout : tie.After-layout-of
   layout = c .before .before .before .before .before .before
@@ -58,7 +58,7 @@ returns-4 c =
     outcome-flag (s .image) (s .filter) (s .preserve-outside) (s .weights) (s .from) (s .to) (now (s .src)) (now (s .dst)) (layout e .layout-of .result) (laid (layout e)) (placed e) (source e) (target e)
     (sym (c .before .flag-fits .ensures) ∙ not-true _ (c .if4 .taken))
 
--- and the flag is in range
+-- the flag is in range too
 module _ (c : tie.Else4) where
   abbrev sets : tie.Else3
   sets = c .before .before
@@ -74,7 +74,7 @@ returns-5 c =
     outcome-rows (s .image) (s .filter) (s .preserve-outside) (s .weights) (s .from) (s .to) (now (s .src)) (now (s .dst)) (layout e .layout-of .result) (laid (layout e)) (placed e) (source e) (target e) (flag f)
     (sym (c .before .rows-fit .ensures) ∙ not-true _ (c .if5 .taken))
 
--- all tests held
+-- all tests hold
 module _ (c : tie.Else5) where
   abbrev flagged : tie.Else4
   flagged = c .before .before

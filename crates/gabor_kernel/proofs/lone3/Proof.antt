@@ -1,4 +1,4 @@
--- `gabor_kernel::lone3` meets its contract: the code is the formula of a row of one column with rows on both sides, rounding for rounding. Assumes nothing.
+-- `gabor_kernel::lone3` meets its contract: the code is the formula of an inner row of a single column, with the same roundings. Assumes nothing.
 use mathlib.Core.Path.{refl}
 use Rattle.gabor_kernel.specs.Formula.{evaluate, formula}
 use Rattle.gabor_kernel.specs.Gabor.{alone, gaborBy}

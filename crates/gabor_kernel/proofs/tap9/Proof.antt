@@ -1,4 +1,4 @@
--- `gabor_kernel::tap9` meets its contract: the code is the formula of a row with rows on both sides, rounding for rounding. Assumes nothing.
+-- `gabor_kernel::tap9` meets its contract: the code is the formula of an inner row, with the same roundings. Assumes nothing.
 use mathlib.Core.Path.{refl}
 use Rattle.gabor_kernel.specs.Formula.{evaluate, formula}
 use Rattle.gabor_kernel.specs.Gabor.{alone, gaborBy}

@@ -1,4 +1,4 @@
--- `gabor_plane::gabor_rows` meets its contract. The invariant: i rows of n are written, and o is where the next one starts. Assumes nothing.
+-- `gabor_plane::gabor_rows` meets its contract. The invariant: i rows of n are written, and the next one starts at o. Assumes nothing.
 use mathlib.Core.Path.{_≡_, refl, _∙_}
 use Prim.Native.Nat.{ℕ, _+_, _-_, _*_, _≤_, _<_}
 use native.Mathlib.Nat.{add-mul}
@@ -25,7 +25,7 @@ loop-holds : tie.Need-loop-holds Inv-loop μ-loop
 unfolding rowsFill
 loop-holds c = (omega arith, omega arith, refl, refl)
 
--- the first row's start, in numbers of the machine
+-- the start of the first row does not overflow
 start : (s : tie.Start Inv-loop μ-loop) → s .args .at + s .args .from * s .args .stride ≤ length (now (s .args .src)) + 16384
 start s =
     omega (
@@ -34,7 +34,7 @@ start s =
       start-room (s .args .at) (s .args .stride) (s .args .w) (s .args .h) (length (now (s .args .src))) (s .args .from) (s .pre .0) (omega (arith, s .pre .1 .1)),
     )
 
--- row from + i starts at o, ends within both slices, and is followed by no more than the region
+-- row from + i starts at o and ends within both slices; the start of the next row does not overflow
 record Here (at stride w h len from i o : ℕ) : Type 0 where
   pub starts : o ≡ at + (from + i) * stride
   pub ends : o + w ≤ len

@@ -17,7 +17,7 @@ refuted : (b : Bool) → (b ≡ true → ⊥) → false ≡ b
 refuted true h = absurd (h refl)
 refuted false h = refl
 
--- no region fits where a test failed
+-- if a test fails, the region does not fit
 module _ (s : tie.Start) where
   abbrev Fit : Bool
   Fit = regionFits (s .args .at) (s .args .stride) (s .args .w) (s .args .h) (s .args .len)
@@ -30,7 +30,7 @@ fit : (at stride w h len : ℕ) → 1 ≤ w → 1 ≤ h → w ≤ stride → str
 fit at stride w h len a b c d e f =
     rw (le-leb 1 w a, le-leb 1 h b, le-leb w stride c, le-leb stride 16384 d, le-leb h 16384 e) (run-ends at ((h - 1) * stride + w) len f)
 
--- the span, in numbers of the machine
+-- the span does not overflow
 span : (c : tie.Else5) → let s = c .before .before .before .before .before in (s .args .h - 1) * s .args .stride ≤ 16384 * 16384
 span c = let s = c .before .before .before .before .before in let few : s .args .h - 1 ≤ 16384 = omega arith in mul-le-mul few (c .before .if4 .left)
 

@@ -1,4 +1,4 @@
--- `header_bits::field_at` meets its contract. The loop's invariant: `value` is the field of the bits from `left` on. Assumes nothing.
+-- `header_bits::field_at` meets its contract. The loop's invariant: `value` is the field made of the bits from `left` on. Assumes nothing.
 use Prim.Native.Nat.{_+_, _-_, _<_, _≤_}
 use mathlib.Core.Path.{_≡_}
 use native.Mathlib.Omega.{arith}
@@ -17,7 +17,7 @@ abbrev μ-loop : tie.MeasureT-loop
 loop-holds : tie.Need-loop-holds Inv-loop μ-loop
 loop-holds c = (omega arith, field-none (now (c .before .args .bytes)) _ (c .before .args .width))
 
--- a turn's value has at most 31 bits
+-- inside the loop the value has at most 31 bits
 below : (c : tie.In-loop Inv-loop μ-loop) → c .before .loop .value < 2147483648
 below c = rw (c .before .loop .inv .1) (field-within _ _ _ 31 (omega arith))
 

@@ -1,4 +1,4 @@
--- `header_epf_tables::read_halves` meets its contract. The loop's invariant: the first `i` places hold the first `i` halves. Assumes nothing.
+-- `header_epf_tables::read_halves` meets its contract. The loop's invariant: the first `i` values are the first `i` halves. Assumes nothing.
 use Prim.Native.Nat.{_-_, _≤_}
 use mathlib.Core.Path.{_≡_, refl}
 use native.Mathlib.Omega.{arith}

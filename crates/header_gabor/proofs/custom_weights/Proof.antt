@@ -1,4 +1,4 @@
--- `header_gabor::custom_weights` meets its contract: three channels, the rows of `channelsFields`. Assumes nothing.
+-- `header_gabor::custom_weights` meets its contract: it reads three channels, as `channelsFields` does. Assumes nothing.
 use borrow.Author.Needs.{needs}
 use mathlib.Core.Path.{_∙_}
 use Rattle.header_fields.specs.Fields.{read}

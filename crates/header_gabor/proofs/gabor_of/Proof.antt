@@ -1,4 +1,4 @@
--- `header_gabor::gabor_of` meets its contract, by a walk of its code: the struct is built of the bool and the array of arrays in the result's place. Assumes nothing.
+-- `header_gabor::gabor_of` meets its contract, by stepping through its code: it builds the struct of the bool and the array of arrays in the result. Assumes nothing.
 use mathlib.Core.Path.{refl, sym, ap, subst}
 use mathlib.Core.Bool.{Bool}
 use mathlib.Core.List.{[], _∷_, List, map}
@@ -53,7 +53,7 @@ module _ {M : Type 1} (𝓤 : URA M) (H : Heap 𝓤) (A : Atoms 𝓤) (W : Given
   abbrev mach : Val
   mach = vstruct (vcons (vbool b) (vcons u vnil))
 
-  -- what whoever returns the record owes
+  -- the machine value represents this record
   made : Is P w (u ∷ []) → Is T.the-row h (mach ∷ [])
   made is = ((vbool b ∷ [], (u ∷ [], tt)), (refl, (refl, (subst (λ (xs : List (List Float)). Is P xs (u ∷ [])) (sym (same w)) is, tt))))
 

@@ -1,4 +1,4 @@
--- `header_gabor_channel::read_channel` meets its contract: the two halves are the rows of `channelFields`. Assumes nothing.
+-- `header_gabor_channel::read_channel` meets its contract: it reads two halves, as `channelFields` does. Assumes nothing.
 use borrow.Author.Needs.{needs}
 use mathlib.Core.Path.{_∙_}
 use Rattle.header_half.specs.Half.{halfOutcome}

@@ -1,4 +1,4 @@
--- `header_half::half_answer` meets its contract: each case of the enum rewritten by what the match tells. Assumes nothing.
+-- `header_half::half_answer` meets its contract, for each case of the enum. Assumes nothing.
 use borrow.Author.Needs.{needs}
 use Rattle.header_half.proofs.half_answer.Statement.{statement}
 use Rattle.header_half.proofs.half_answer.Tie as tie

@@ -1,4 +1,4 @@
--- `mirror::place` meets its contract: inside the row by the identity, past it by the runs that go up and down. Assumes nothing.
+-- `mirror::place` meets its contract: inside the row by the identity, outside by the ascending and descending runs. Assumes nothing.
 use mathlib.Core.Path.{_≡_, sym}
 use native.Mathlib.Nat.{mod-lt}
 use native.Mathlib.Omega.{arith}

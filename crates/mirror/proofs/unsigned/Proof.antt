@@ -1,4 +1,4 @@
--- `mirror::unsigned` meets its contract. Each need is freed of the machine's bits (`toZ-ofZ`) and then goes by the offset's sign. Assumes nothing.
+-- `mirror::unsigned` meets its contract. The conversions between machine integers cancel (`toZ-ofZ`), then there is one case per sign of the offset. Assumes nothing.
 use mathlib.Core.Path.{_≡_, refl, sym, ap, _∙_}
 use mathlib.Core.Bool.{true, false, true≢false}
 use Prim.Native.Nat.{ℕ, zero, suc, _^_, _<_}
@@ -13,7 +13,7 @@ use lib.Signed.{mag, ltZ}
 use Rattle.mirror.proofs.unsigned.Statement.{statement}
 use Rattle.mirror.proofs.unsigned.Tie as tie
 
--- -(n + 1) + 1
+-- -(n + 1) + 1 is -n
 up-one : (n : ℕ) → negsuc n +ℤ pos 1 ≡ negℤ (pos n)
 up-one zero = refl
 up-one (suc n) = rw (lt-ltb 1 (suc (suc n)) (omega arith)) (ap negsuc (omega arith))
@@ -29,7 +29,7 @@ neg-fits (suc n) f = let l : suc n < 2 ^ 63 = f .sfits in record { sfits = omega
 not-low : (n : ℕ) → ltZ (pos n) (pos 0) ≡ true → ⊥
 not-low n t = true≢false (sym t ∙ le-ltb n 0 (omega arith))
 
--- of a negative number: one more fits, and minus that is its size
+-- for a negative z, z + 1 fits, and -(z + 1) is `mag z`
 up-fits : (z : ℤ) → SFits w64 z → ltZ z (pos 0) ≡ true → SFits w64 (z +ℤ pos 1)
 up-fits (pos n) f t = absurd (not-low n t)
 up-fits (negsuc n) f t = rw (up-one n) (neg-fits n f)
@@ -38,7 +38,7 @@ back-is : (z : ℤ) → ltZ z (pos 0) ≡ true → pos 0 -ℤ (z +ℤ pos 1) ≡
 back-is (pos n) t = absurd (not-low n t)
 back-is (negsuc n) t = rw (up-one n) (neg-neg n)
 
--- of a number that is not negative: it is its size
+-- a z that is not negative is `mag z`
 size-is : (z : ℤ) → ltZ z (pos 0) ≡ false → z ≡ pos (mag z)
 size-is (pos n) t = refl
 size-is (negsuc n) t = absurd (true≢false t)

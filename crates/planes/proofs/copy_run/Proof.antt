@@ -1,4 +1,4 @@
--- `planes::copy_run` meets its contract: both runs have room, or nothing is copied. Assumes nothing.
+-- `planes::copy_run` meets its contract: it copies if both slices hold the run, otherwise it does nothing. Assumes nothing.
 use mathlib.Core.Path.{sym, _∙_}
 use Prim.Native.Nat.{_+_, _≤_}
 use lib.ListN.{length}
@@ -9,7 +9,7 @@ use Rattle.planes.proofs.Copy.{copied-run, no-room, no-source}
 use Rattle.planes.proofs.copy_run.Statement.{statement}
 use Rattle.planes.proofs.copy_run.Tie as tie
 
--- both slices have the run
+-- both slices hold the run
 module _ (c : tie.Else2) where
   abbrev start : tie.Start
   start = c .before .before .before .before .before .before

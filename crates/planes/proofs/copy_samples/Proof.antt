@@ -1,4 +1,4 @@
--- `planes::copy_samples` meets its contract. The invariant: i samples of n are there. Assumes nothing.
+-- `planes::copy_samples` meets its contract. The invariant: i samples of n are copied. Assumes nothing.
 use mathlib.Core.Path.{refl}
 use Prim.Native.Nat.{ℕ, _+_, _-_}
 use native.Mathlib.Omega.{arith}

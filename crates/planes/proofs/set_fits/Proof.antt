@@ -1,4 +1,4 @@
--- `planes::set_fits` meets its contract: where the layout fits and there are at most three planes, their samples can be counted. Assumes nothing.
+-- `planes::set_fits` meets its contract: if the layout fits and there are at most three planes, the number of samples does not overflow. Assumes nothing.
 use mathlib.Core.Path.{_≡_, sym, _∙_}
 use mathlib.Core.Bool.{Bool, true, false, _&&_}
 use Prim.Native.Nat.{ℕ, _*_, _≤_, _<_}
@@ -21,7 +21,7 @@ many a b r n p q h = let z : a ≡ true = sym p ∙ q in rw (z, lt-leb n 3 h)
 counted : (a b r : Bool) (n : ℕ) → r ≡ a → r ≡ true → n ≤ 3 → b ≡ (a && (leb n 3 && b))
 counted a b r n p q h = let z : a ≡ true = sym p ∙ q in rw (z, le-leb n 3 h)
 
--- the rows of all planes, and their samples
+-- the number of rows of all planes, and of their samples
 module _ (c : tie.Else2) where
   fits : LayoutFits (c .before .before .before .args .l)
   fits = layout-fits _ (sym (c .before .before .layout-fits .ensures) ∙ not-false _ (c .before .if1 .left))

@@ -1,4 +1,4 @@
--- `planes_outside::copy_outside` meets its contract: each test that fails leaves `dst`, and else it is what `passed` says with the filter region's samples as they were. Assumes nothing.
+-- `planes_outside::copy_outside` meets its contract: if a test fails, `dst` stays; otherwise it is `passed` with the samples of the filter region unchanged. Assumes nothing.
 use mathlib.Core.Path.{_≡_, sym, _∙_}
 use mathlib.Core.Bool.{true}
 use Prim.Native.Nat.{_-_, _≤_}
@@ -14,7 +14,7 @@ use Rattle.planes.proofs.Stored.{band-fits, and-first, and-second, full-rows, c
 use Rattle.planes_outside.proofs.copy_outside.Statement.{statement}
 use Rattle.planes_outside.proofs.copy_outside.Tie as tie
 
--- the three tests held
+-- all three tests hold
 module _ (c : tie.Else3) where
   abbrev start : tie.Start
   start = c .before .before .before .before .before .before .before .before
@@ -35,7 +35,7 @@ module _ (c : tie.Else3) where
       ≡ copiedOutside (start .args .l) (start .args .n) (start .args .from) (start .args .to) (now (start .args .src)) (now (start .args .dst))
   held = all-fit (start .args .l) (start .args .n) (start .args .from) (start .args .to) (now (start .args .src)) (now (start .args .dst)) src-fits dst-fits rows-fit
 
-  -- rows of the full planes
+  -- rows of the image region
   rows : start .args .l .full ≡ true → start .args .to ≤ start .args .l .image .height
   rows e = full-rows (start .args .l) (start .args .to) e (fits .rows)
 

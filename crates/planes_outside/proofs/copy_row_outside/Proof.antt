@@ -1,4 +1,4 @@
--- `planes_outside::copy_row_outside` meets its contract: the three cases of a row. Assumes nothing.
+-- `planes_outside::copy_row_outside` meets its contract, in the three cases of a row. Assumes nothing.
 use mathlib.Core.Path.{refl, _∙_}
 use native.Mathlib.Omega.{arith}
 use borrow.Author.Needs.{needs}

@@ -1,4 +1,4 @@
--- `planes_outside::copy_rows_outside` meets its contract. The invariant: i rows of n are written, and o is where row i starts. Assumes nothing.
+-- `planes_outside::copy_rows_outside` meets its contract. The invariant: i rows of n are written, and row i starts at o. Assumes nothing.
 use mathlib.Core.Path.{_≡_, refl, _∙_}
 use Prim.Native.Nat.{_+_, _-_, _*_, _≤_}
 use native.Mathlib.Omega.{arith}
@@ -22,7 +22,7 @@ loop-holds : tie.Need-loop-holds Inv-loop μ-loop
 unfolding rowsFill
 loop-holds c = (omega arith, omega arith, refl, refl)
 
--- in a turn
+-- in an iteration
 fits : (c : tie.In-loop Inv-loop μ-loop) → c .before .loop .i * c .before .before .before .before .args .l .image .width + c .before .before .before .before .args .l .image .width
     ≤ c .before .before .before .before .args .n * c .before .before .before .before .args .l .image .width
 fits c = row-room (c .before .loop .i) (c .before .before .before .before .args .n) (c .before .before .before .before .args .l .image .width) (c .loop-test .taken)

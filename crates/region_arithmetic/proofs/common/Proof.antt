@@ -18,7 +18,7 @@ use Rattle.region_arithmetic.specs.declared.RegionAnswer.{RegionAnswer}
 use Rattle.region_arithmetic.proofs.common.Statement.{statement}
 use Rattle.region_arithmetic.proofs.common.Tie as tie
 
--- the spans that meet
+-- the intersections of columns and of rows
 
 module _ (c : tie.After-shared2) where
   abbrev start : tie.Start

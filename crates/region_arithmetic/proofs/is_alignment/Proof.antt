@@ -1,4 +1,4 @@
--- `is_alignment` meets its contract: the powers of two are told by their trailing zero bits. Assumes nothing.
+-- `is_alignment` meets its contract: a power of two is recognized by its trailing zero bits. Assumes nothing.
 use mathlib.Core.Path.{_≡_, refl, sym, ap, _∙_}
 use mathlib.Core.Bool.{Bool, true, false}
 use Prim.Native.Nat.{ℕ, _^_, _%_, _<_, _≤_}
@@ -14,7 +14,7 @@ use Rattle.region_interval.specs.Interval.{powerBelow}
 use Rattle.region_arithmetic.proofs.is_alignment.Statement.{statement}
 use Rattle.region_arithmetic.proofs.is_alignment.Tie as tie
 
--- no alignment has more trailing zero bits, or is another number than the power that they say
+-- a number with more than 13 trailing zero bits, or that is not the power of two with its trailing zero bits, is no alignment
 too-far : (d : ℕ) → 13 < trailingZeros 32 d → false ≡ powerBelow 14 d
 too-far d h = go (powerBelow 14 d) refl
   where

@@ -1,4 +1,4 @@
--- `offset` meets its contract: two places of an i32 are less than 2^32 apart. Assumes nothing.
+-- `offset` meets its contract: two i32 values are less than 2^32 apart. Assumes nothing.
 use mathlib.Core.Path.{_≡_, refl, sym, ap, _∙_}
 use mathlib.Core.Logic.{⊎-elim}
 use Prim.Native.Nat.{_+_, _<_, _≤_}

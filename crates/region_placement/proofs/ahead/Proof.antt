@@ -1,4 +1,4 @@
--- `region_placement::ahead` meets its contract. The machine's bits are cleared (`toZ-ofZ`), then it goes by the sign. Assumes nothing.
+-- `region_placement::ahead` meets its contract. The conversions between machine integers cancel (`toZ-ofZ`), then there is one case per sign. Assumes nothing.
 use mathlib.Core.Path.{ap, _∙_}
 use Prim.Native.Nat.{_^_, _<_, _≤_}
 use native.Mathlib.Omega.{arith}

@@ -20,7 +20,7 @@ use Rattle.region.specs.declared.BoolAnswer.{BoolAnswer}
 use Rattle.region_placement.proofs.placed.Statement.{statement}
 use Rattle.region_placement.proofs.placed.Tie as tie
 
--- of regions of pictures, which have no side of 0
+-- for regions whose sides are all at least 1
 contains-is : (r t : Region) → pictured r ≡ true → pictured t ≡ true → containsOutcome r t .holds ≡ inside r t
 contains-is r t e f =
     let m = true-of (measured r) (pictured-measured r (yes e)) in

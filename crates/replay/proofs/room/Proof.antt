@@ -1,4 +1,4 @@
--- `room` meets its contract: a repeated byte is there as often as it is repeated. Assumes nothing.
+-- `room` meets its contract: an array of n equal bytes has length n. Assumes nothing.
 use mathlib.Core.Path.{sym}
 use Prim.Native.Nat.{ℕ}
 use lib.ListN.{length-replicate}

@@ -1,4 +1,4 @@
--- `replay_text::digit` meets its contract: at each return the tests that led there say which case of `digitOf` holds. Assumes nothing.
+-- `replay_text::digit` meets its contract: at each return the tests select the case of `digitOf`. Assumes nothing.
 use borrow.Author.Needs.{needs}
 use borrow.Author.Tests.{lt-ltb, le-ltb, le-leb, lt-leb}
 use Rattle.replay_text.specs.Numbers.{digitOf}

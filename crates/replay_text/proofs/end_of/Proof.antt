@@ -1,4 +1,4 @@
--- `replay_text::end_of` meets its contract: past the end nothing is left to search, and before it the search goes to the end. Assumes nothing.
+-- `replay_text::end_of` meets its contract: past the end there is nothing to search, otherwise the search runs up to the end. Assumes nothing.
 use borrow.Author.Needs.{needs}
 use native.Mathlib.Omega.{arith}
 use native.Mathlib.Nat.{min-eq-left, min-eq-right, le-of-lt}

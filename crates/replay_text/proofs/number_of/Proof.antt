@@ -1,4 +1,4 @@
--- `replay_text::number_of` meets its contract: the first byte says which digits are read. Assumes nothing.
+-- `replay_text::number_of` meets its contract: the first byte selects the base and the sign. Assumes nothing.
 use mathlib.Core.Path.{_≡_, refl, sym, _∙_}
 use mathlib.Core.Bool.{true, false}
 use mathlib.Core.List.{List, [], _∷_}

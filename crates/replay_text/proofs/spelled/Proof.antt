@@ -1,4 +1,4 @@
--- `replay_text::spelled` meets its contract. The loop's invariant: what was read and what is left make the word's number. Assumes nothing.
+-- `replay_text::spelled` meets its contract. The loop's invariant: the digits read and the remaining ones give the number of the word. Assumes nothing.
 use mathlib.Core.Path.{_≡_, sym, ap, _∙_}
 use Prim.Native.Nat.{_-_, _*_, _≤_}
 use borrow.Author.Needs.{needs}
@@ -40,7 +40,7 @@ returns-3 c =
     let a = s .args in
     sym (l .loop .inv .1 ∙ too-large (a .base) (a .negative) (a .word .now) (l .loop .i) (l .loop .size) (c .before .before .before .before .loop-test .taken) (s .pre .0) (c .if3 .taken))
 
--- the largest size with room times the largest base
+-- the largest size that passes the test, times the largest base, does not overflow
 product : (c : tie.Else3 Inv μ) → c .before .before .before .before .before .loop .size * c .before .before .before .before .before .before .before .before .args .base ≤ 0x0fff_ffff_ffff_ffff * 16
 product c = mul-le-mul (c .if3 .left) (c .before .before .before .before .before .before .before .before .pre .1)
 

@@ -1,4 +1,4 @@
--- `replay_text::value` meets its contract: a size that is not refused is that number as an i64, and so is its opposite. Assumes nothing.
+-- `replay_text::value` meets its contract: a size that is not refused fits an i64, and so does its negation. Assumes nothing.
 use mathlib.Core.Path.{_≡_}
 use Prim.Native.Nat.{ℕ, zero, suc, _≤_}
 use borrow.Author.Needs.{needs}

@@ -17,15 +17,15 @@ use Rattle.sigma.proofs.Runs.{all-fits}
 use Rattle.sigma.proofs.block_sigmas.Statement.{statement}
 use Rattle.sigma.proofs.block_sigmas.Tie as tie
 
--- a refusal leaves the sigmas as passed in,
+-- a refusal leaves the sigmas unchanged,
 as-refused : (r number : ℕ) (on : Bool) (defined lent : List Float) → r ≡ number → (r ≡ 0 → ⊥) → _≡_ {A = SigmasOutcome} (record { number = r; sigmas = lent }) (record { number = number; sigmas = leftIn number on defined lent })
 as-refused r number on defined lent e z = rw (e, ne-eqb number 0 (λ q. z (e ∙ q)))
 
--- and so does an acceptance with the edge filter off;
+-- and so does an accepted call with the EPF off;
 as-off : (r number : ℕ) (on : Bool) (defined lent : List Float) → r ≡ number → r ≡ 0 → on ≡ false → _≡_ {A = SigmasOutcome} (record { number = r; sigmas = lent }) (record { number = number; sigmas = leftIn number on defined lent })
 as-off r number on defined lent e z o = rw (e, eq-eqb number 0 (sym e ∙ z), o)
 
--- with it on, they are the filter region's.
+-- with the EPF on they are the block sigmas of the filter region
 as-defined : (r number : ℕ) (on : Bool) (exit defined lent : List Float) → r ≡ number → r ≡ 0 → on ≡ true → exit ≡ defined → _≡_ {A = SigmasOutcome} (record { number = r; sigmas = exit }) (record { number = number; sigmas = leftIn number on defined lent })
 as-defined r number on exit defined lent e z o d = rw (e, eq-eqb number 0 (sym e ∙ z), o, d)
 

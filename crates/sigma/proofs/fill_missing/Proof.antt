@@ -1,4 +1,4 @@
--- `sigma::fill_missing` meets its contract. The invariant: the first i sigmas are written, and what they repeat is as it was. Assumes nothing.
+-- `sigma::fill_missing` meets its contract. The invariant: the first i sigmas are written, and the row above is unchanged. Assumes nothing.
 use mathlib.Core.Path.{_≡_, _∙_}
 use Prim.Native.Nat.{ℕ, _+_, _-_}
 use native.Mathlib.Omega.{arith}

@@ -1,4 +1,4 @@
--- `sigma::fill_rows` meets its contract. The invariant: y rows are written, and o is where row y goes. Assumes nothing.
+-- `sigma::fill_rows` meets its contract. The invariant: y rows are written, and row y starts at index o. Assumes nothing.
 use mathlib.Core.Path.{_≡_, refl, sym, ap, _∙_}
 use Prim.Native.Nat.{ℕ, _+_, _-_, _*_, _<_, _≤_}
 use borrow.Author.Needs.{needs}
@@ -25,7 +25,7 @@ loop-holds : tie.Need-loop-holds Inv-loop μ-loop
 unfolding fill
 loop-holds c = (omega arith, omega (arith, zero-mul (c .before .blocks-along .result)), refl, refl)
 
--- a row from row y of m lies within the m rows
+-- row y of m lies within the m rows
 row-room : (y m n k : ℕ) → y < m → k ≡ m * n → y * n + n ≤ k
 row-room y m n k l e = omega (arith, suc-mul y n, mul-le-mul-right n l)
 

@@ -36,7 +36,7 @@ module _ (c : tie.After-grid-start) where
   from-is : c .grid-start .result .start + (start .args .row * gridWidth (now (start .args .table)) (start .args .group) + start .args .column) ≡ gridStart (now (start .args .table)) (start .args .group) + (start .args .row * gridWidth (now (start .args .table)) (start .args .group) + start .args .column)
   from-is = omega (arith, start-is)
 
-  -- no sum wraps
+  -- no sum overflows
   small : gridStart (now (start .args .table)) (start .args .group) ≤ 268435456
   small = omega (arith, start-le (now (start .args .table)) (start .args .group) (start .args .group) (start .pre .0 .before) (omega arith), start .pre .0 .entry, start .pre .0 .short)
 

@@ -1,4 +1,4 @@
--- `sigma_grids::cells_before` meets its contract. The invariant: start is where grid g starts. Assumes nothing.
+-- `sigma_grids::cells_before` meets its contract. The invariant: grid g starts at `start`. Assumes nothing.
 use mathlib.Core.Path.{_≡_, refl, _∙_, ap}
 use mathlib.Core.Bool.{false}
 use Prim.Native.Nat.{_+_, _-_, _≤_}

@@ -16,7 +16,7 @@ use Rattle.sigma_grids.proofs.grid_start.Statement.{statement}
 use Rattle.sigma_grids.proofs.grid_start.Tie as tie
 
 module _ (t : List ℕ) (g : ℕ) (r : StartAnswer) where
-  -- a table of a wrong length
+  -- a table of the wrong length
   long : r ≡ record { number = 7; start = 0 } → 768 < length t → r ≡ startOutcome t g
   unfolding noEntries
   long e l = e ∙ rw (lt-ltb 768 (length t) l)
@@ -25,7 +25,7 @@ module _ (t : List ℕ) (g : ℕ) (r : StartAnswer) where
   unfolding noEntries
   short e l m = e ∙ rw (le-ltb 768 (length t) l, lt-ltb (length t) (3 * g) m)
 
-  -- a grid out of measure
+  -- a grid with a side out of range
   outside : r ≡ record { number = 4; start = 0 } → length t ≤ 768 → 3 * g ≤ length t → someBelow g (badGrid t) ≡ true → r ≡ startOutcome t g
   unfolding noEntries
   outside e l m b = e ∙ rw (le-ltb 768 (length t) l, le-ltb (length t) (3 * g) m, b)

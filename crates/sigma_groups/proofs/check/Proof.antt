@@ -39,7 +39,7 @@ module _ (c : tie.After-group-sizes) where
   abbrev start : tie.Start
   start = c .before .before .before
 
-  -- the number that the frame gets
+  -- the number of the frame
   number-is : c .group-sizes .result .number ≡ cond (badSides (f start)) outOfMeasure (cond (badSettings (f start)) outOfRange accepted)
   number-is = ap (λ (a : FrameAnswer). a .number) (c .group-sizes .ensures)
 
@@ -49,7 +49,7 @@ returns c =
     let s = start d in
     number.sides-out (s .args .on) (f s) (b s) (t s) (grids s) (n s) (sides-bad (badSides (f s)) (badSettings (f s)) (sym (number-is d) ∙ c .if1 .taken))
 
--- past the tests of the sides
+-- after the test of the frame's sides
 module _ (c : tie.After-bad-blocks) where
   abbrev sized : tie.After-group-sizes
   sized = c .before .before .before
@@ -63,7 +63,7 @@ returns-2 c =
     let s = start (sized d) in
     number.blocks-out (s .args .on) (f s) (b s) (t s) (grids s) (n s) (sides-good d) (sym (d .bad-blocks .ensures) ∙ c .if2 .taken)
 
--- past the test of the blocks
+-- after the test of the filter region
 module _ (c : tie.Else2) where
   blocks-good : badBlocks (b (start (sized (c .before)))) ≡ false
   blocks-good = sym (c .before .bad-blocks .ensures) ∙ c .if2 .left
@@ -82,7 +82,7 @@ check-table-requires c κs =
           ∙ frame-sizes (f (start d)) (sym (ap (λ (a : FrameAnswer). a .number) (d .group-sizes .ensures)) ∙ c .before .if3 .taken);
     }
 
--- with settings out of range
+-- settings out of range
 module _ (c : tie.Else3) where
   abbrev else2 : tie.Else2
   else2 = c .before .before

@@ -50,7 +50,7 @@ module _ (s : tie.Start) where
 wrong-is : (r p q : Bool) (len k m : ℕ) → r ≡ (not p && not (eqb len k)) → p ≡ q → k ≡ m → r ≡ (not q && not (eqb len m))
 wrong-is r p q len k m e pe ke = e ∙ rw (pe, ke)
 
--- what each test on the way says
+-- what the tests establish
 module _ (c : tie.After-wide) where
   abbrev start : tie.Start
   start = c .before .before .before
@@ -84,7 +84,7 @@ module _ (c : tie.Else1) where
         entries = entries-are;
       }
 
--- what the end of all grids says of them
+-- what the end of the last grid says of all grids
 module _ (c : tie.After-grid-start) where
   abbrev start2 : tie.Start
   start2 = start1 (c .before)
@@ -136,7 +136,7 @@ returns-2 c =
     number.grid-out (s .args .on) (f s) (b s) (t s) (grids s) (n s) (s .pre .sides) (s .pre .blocks) (s .pre .settings) (table-fits e)
     (grids-bad (c .before .before) (c .if2 .taken))
 
--- past the test of the grid sides
+-- after the test of the grid sides
 module _ (c : tie.After-wrong-grids) where
   grids-fit : someGroup (f (start3 c)) (badGrid (t (start3 c))) ≡ false
   grids-fit = rw (← groups2 (c .before .before .before .before)) (grids-good (c .before .before .before .before) (c .before .before .if2 .left))
@@ -156,7 +156,7 @@ returns-4 c =
     number.sigmas-wrong (s .args .on) (f s) (b s) (t s) (grids s) (n s) (s .pre .sides) (s .pre .blocks) (s .pre .settings) (table-fits (else1 d))
     (grids-fit d) (sym (wrong-grids-are d) ∙ e .if3 .left) (sym (c .before .wrong-count .ensures) ∙ c .if4 .taken)
 
--- past the test of the count
+-- after the test of the number of sigmas
 module _ (c : tie.Else4) where
   abbrev wrong4 : tie.After-wrong-grids
   wrong4 = c .before .before .before
@@ -170,7 +170,7 @@ module _ (c : tie.Else4) where
   grids-right : (not (someGroup (f start4) (badPresence (t start4))) && not (gridsFit (f start4) (t start4) (grids start4))) ≡ false
   grids-right = sym (wrong-grids-are wrong4) ∙ c .before .before .if3 .left
 
--- blocks that are not held, with the edge filter on
+-- blocks that are not held, with the EPF on
 module _ (c : tie.After-touched-not-held) where
   abbrev else4 : tie.Else4
   else4 = c .before .before

@@ -61,7 +61,7 @@ returns-2 c =
     let d = e .before .before .before .before in
     past-row _ _ _ (d .before .before .pre) _ _ _ (d .split-block .ensures) _ (e .split-block2 .ensures) (e .before .if1 .left) (c .if2 .taken)
 
--- the group's number fits
+-- the group number does not overflow
 module _ (c : tie.Else2) where
   abbrev start : tie.Start
   start = c .before .before .before .before .before .before .before .before .before

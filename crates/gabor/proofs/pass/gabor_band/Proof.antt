@@ -1,4 +1,4 @@
--- `gabor::pass::gabor_band` meets its contract: what lies outside the filter region is copied, then its rows are filtered. Assumes nothing.
+-- `gabor::pass::gabor_band` meets its contract: samples outside the filter region are copied, then its rows are filtered. Assumes nothing.
 use mathlib.Core.Path.{_∙_}
 use Prim.Native.Nat.{_-_}
 use native.Mathlib.Omega.{arith}

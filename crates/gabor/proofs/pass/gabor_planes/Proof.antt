@@ -24,7 +24,7 @@ loop-holds : tie.Need-loop-holds Inv-loop μ-loop
 unfolding planesFill
 loop-holds c = (omega arith, refl, refl)
 
--- in a turn
+-- in an iteration
 turn : (c : tie.In-loop Inv-loop μ-loop) → let s = c .before .before .before .before in PlaneRoom (s .args .l) (s .args .n) (c .before .loop .c)
 turn c = let s = c .before .before .before .before in plane-room (s .args .l) (s .args .n) (c .before .loop .c) (s .pre .0) (s .pre .1 .0) (c .loop-test .taken)
 

@@ -1,4 +1,4 @@
--- `gabor_plane::rows::region_row` meets its contract: in each of its four places a row's samples are the region's, and the rows that it reads lie within the slice. Assumes nothing.
+-- `gabor_plane::rows::region_row` meets its contract: in each of the four cases of a row its samples are the region's, and the rows that it reads lie within the slice. Assumes nothing.
 use mathlib.Core.Path.{_∙_}
 use Prim.Native.Nat.{_+_, _-_, _<_, _≤_}
 use native.Mathlib.Omega.{arith}
@@ -10,7 +10,7 @@ use Rattle.gabor_plane.proofs.RowLaws.{row-room, row-above, row-below, 
 use Rattle.gabor_plane.proofs.rows.region_row.Statement.{statement}
 use Rattle.gabor_plane.proofs.rows.region_row.Tie as tie
 
--- the row, and those on either side of it, end within the slice read
+-- the row and its adjacent rows end within the slice that is read
 module _ (s : tie.Start) where
   here : s .args .o + s .args .w ≤ length (now (s .args .src))
   here = omega (arith, row-room (s .args .at) (s .args .stride) (s .args .w) (s .args .h) (length (now (s .args .src))) (s .args .y) (s .pre .0) (s .pre .1 .0))

@@ -1,4 +1,4 @@
--- `has_float` is safe: a float that equals itself has bits. Assumes nothing.
+-- `has_float` is safe: `to_bits` needs a float that is not NaN, and the test x == x ensures that. Assumes nothing.
 use mathlib.Core.Path.{_≡_, sym}
 use mathlib.Core.Bool.{true, not, true≢false}
 use lib.Dec.{T}

@@ -1,4 +1,4 @@
--- `has_form` is safe and ends. Assumes nothing.
+-- `has_form` is safe and terminates. Assumes nothing.
 use Prim.Native.Nat.{_-_}
 use native.Mathlib.Omega.{arith}
 use lib.ListN.{length}

@@ -1,4 +1,4 @@
--- `i32_at` is safe: the number was tested. Assumes nothing.
+-- `i32_at` is safe: the number is in range after the test. Assumes nothing.
 use native.Mathlib.Omega.{arith}
 use Rattle.replay.proofs.Ranges.{back, between}
 use Rattle.replay.proofs.forms.i32_at.Statement.{statement}

@@ -1,4 +1,4 @@
--- `u32_at` is safe: the number was tested. Assumes nothing.
+-- `u32_at` is safe: the number is in range after the test. Assumes nothing.
 use native.Mathlib.Omega.{arith}
 use Rattle.replay.proofs.Ranges.{back, not-negative, up-to}
 use Rattle.replay.proofs.forms.u32_at.Statement.{statement}

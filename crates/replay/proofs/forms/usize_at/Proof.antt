@@ -1,4 +1,4 @@
--- `usize_at` is safe: the number was tested. Assumes nothing.
+-- `usize_at` is safe: the number is in range after the test. Assumes nothing.
 use native.Mathlib.Omega.{arith}
 use Rattle.replay.proofs.Ranges.{back, not-negative, size-within}
 use Rattle.replay.proofs.forms.usize_at.Statement.{statement}

@@ -1,4 +1,4 @@
--- `compared` is safe: the bytes that it passes on are there. Assumes nothing.
+-- `compared` is safe: the subslice of bytes is within its slice. Assumes nothing.
 use mathlib.Core.Path.{sym}
 use native.Mathlib.Omega.{arith}
 use lib.Seq.{length-take-le}

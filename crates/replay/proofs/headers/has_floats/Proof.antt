@@ -1,4 +1,4 @@
--- `has_floats` is safe and ends. Assumes nothing.
+-- `has_floats` is safe and terminates. Assumes nothing.
 use Prim.Native.Nat.{_-_}
 use borrow.Author.Needs.{needs}
 use native.Mathlib.Omega.{arith}

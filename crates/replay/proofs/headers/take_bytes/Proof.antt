@@ -1,4 +1,4 @@
--- `take_bytes` is safe and ends. Assumes nothing.
+-- `take_bytes` is safe and terminates. Assumes nothing.
 use mathlib.Core.Path.{_≡_, refl}
 use Prim.Native.Nat.{_-_}
 use borrow.Author.Needs.{needs}

@@ -1,4 +1,4 @@
--- `read` is safe and ends: a word starts within the line, and what is left of it shrinks. Assumes nothing.
+-- `read` is safe and terminates: each word starts within the line, and the rest of the line shrinks. Assumes nothing.
 use mathlib.Core.Path.{_≡_, refl}
 use Prim.Native.Nat.{_≤_, _-_}
 use borrow.Author.Needs.{needs}

@@ -1,4 +1,4 @@
--- `rows_of` is safe and ends: a line starts within the text, and what is left of it shrinks. Assumes nothing.
+-- `rows_of` is safe and terminates: each line starts within the text, and the rest of the text shrinks. Assumes nothing.
 use Prim.Native.Nat.{_≤_, _-_}
 use borrow.Author.Needs.{needs}
 use native.Mathlib.Omega.{arith}

@@ -1,4 +1,4 @@
--- `until` meets its contract, by what `replay_text` says of an end. Assumes nothing.
+-- `until` meets its contract, by the law of `endOf` in `replay_text`. Assumes nothing.
 use Rattle.replay_text.proofs.Words.{end-within}
 use Rattle.replay.proofs.list.until.Statement.{statement}
 use Rattle.replay.proofs.list.until.Tie as tie
