@@ -33,7 +33,8 @@ ghost use Rattle.epf.specs.Outcome.{stepChecks, epfOutcome};
 // 0.3 (Specification 11.4): sigma under this copies the sample. Bits 3E99999A.
 const COPYING_LIMIT: f32 = 0.3;
 
-// The settings of a step that it reads besides samples and sigmas: `multiplier` is the step's scale.
+// The settings of one step of the edge-preserving filter. `multiplier` is the step's scale: `pass0_sigma_scale`, 1 or
+// `pass2_sigma_scale` for steps 0, 1 or 2. `border_sad_mul` multiplies it at the borders of blocks.
 #[repr(C)]
 pub struct EpfStep {
     pub step: u32,

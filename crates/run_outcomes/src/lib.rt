@@ -17,7 +17,8 @@ ghost use Rattle.run_outcomes.specs.Result.{sliceCheck};
 
 const PLANES: usize = 3;
 
-// The record as it is after the call: as it was handed in where a band or an advance is refused, and zeros where start is.
+// The number and the record after the call. A refused band or advance returns the record that it was given, a refused
+// start returns zeros.
 #[repr(C)]
 pub struct RunAnswer {
     pub number: u32,

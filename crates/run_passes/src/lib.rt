@@ -11,14 +11,15 @@ ghost use lib.ListN.{length};
 ghost use Rattle.refusals.specs.Numbers.{outOfRange};
 ghost use Rattle.run_passes.specs.Plan.{plan, gaborOn, oneIf, stepMargin, margin, marginOutcome, scaleOf, stepOf, gaborAt, stepIndex};
 
-// The Gabor-like filter: whether it is on, a flag, and three channels (X, Y, B) of two weights, of the side neighbours and of the corners.
+// The Gabor-like filter. `enabled` is a flag: 1 is on, 0 is off. `weights` has two weights for each of the channels
+// X, Y and B: of the side neighbours and of the diagonal ones.
 #[repr(C)]
 pub struct GaborSettings {
     pub enabled: u32,
     pub weights: [[f32; 2]; 3],
 }
 
-// The edge-preserving filter: it is on where there are iterations.
+// The edge-preserving filter: off with 0 iterations, on with 1 to 3.
 #[repr(C)]
 pub struct EpfSettings {
     pub iters: u32,
@@ -33,7 +34,7 @@ pub struct Settings {
     pub epf: EpfSettings,
 }
 
-// The margin, or 9 and 0.
+// The margin in samples; 0 in a refused call.
 #[repr(C)]
 pub struct MarginAnswer {
     pub number: u32,

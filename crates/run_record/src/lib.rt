@@ -18,7 +18,8 @@ ghost use Rattle.sigma_grids.specs.Table.{someBelow};
 ghost use Rattle.run_setup.specs.Setup.{maxBands, bandCount};
 ghost use Rattle.run_record.specs.Record.{isDone, strayFlag, finished, openBands, runFits, notOpen, openChecks, overChecks, finishedChecks};
 
-// `pass` counts the passes that are over; `done` has a flag for each band of the next one: 1 where it is done.
+// The record of a run. `pass` counts the completed passes. `done` has one flag per band of the next pass: 1 if the
+// band is done.
 #[repr(C)]
 pub struct Run {
     pub setup: Setup,

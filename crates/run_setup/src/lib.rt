@@ -18,7 +18,9 @@ const MAX_AREA: u32 = 16777216;
 
 pub const MAX_BANDS: usize = 256;
 
-// What start is told and no call changes. `preserve_outside` is a flag: the result is the full planes. `band_height` is in rows of the result.
+// The setup of a run; no call changes it. `preserve_outside` is a flag: the result region is the image region if it
+// is 1, the filter region if it is 0. `band_height` is the number of rows of the result region in a band; the last
+// band may have fewer.
 #[repr(C)]
 pub struct Setup {
     pub image: Region,
