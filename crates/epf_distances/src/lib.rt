@@ -21,7 +21,7 @@ ghost use Rattle.epf_distances.specs.Seen.{nearby as nearbyOf, apartBy};
 ghost use Rattle.epf_distances.specs.Taps.{half as halfOf, shift as shiftOf, fieldOf, tapOf};
 ghost use Rattle.epf_distances.specs.Fields.{distAt, fieldsFill, distancesOf};
 
-// Add STRIDE per row of a tile for the index past its last lane: CENTRE + 56 - STRIDE.
+// CENTRE + 56 - STRIDE: the index past the last lane of a tile is rows * STRIDE + PAST.
 const PAST: usize = 188;
 
 // The largest number of fields of a step, one per pair of opposite neighbours.

@@ -124,7 +124,7 @@ pub record EpfPass : Type 0 where
   pub multiplier : Float
   pub borderMul : Float
 
--- The step over a filter region of w columns and h rows. Its row y is at position y = top + y; `sigma` takes a block's column and row.
+-- The step over a filter region of w columns and h rows. Its row r is at y = top + r; `sigma` takes a block's column and row.
 unfoldable pub epfPass : EpfPass → ℕ → ℕ → ℕ → (ℕ → ℕ → Float) → Picture → Picture
 epfPass e w h top sigma g = λ c x y.
     epf (e .scales) (kernel (e .step)) (dists (e .step)) (sigma (x / 8) (y / 8)) (multiplier (e .multiplier) (e .borderMul) (top + y) x) (e .limit) (around w h g x y) c
