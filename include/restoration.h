@@ -161,13 +161,15 @@ typedef struct RestorationMirrorAnswer {
     size_t place;
 } RestorationMirrorAnswer;
 
-// The Gabor-like filter: whether it is on, a flag, and three channels (X, Y, B) of two weights, of the side neighbours and of the corners.
+// The Gabor-like filter. `enabled` is a flag: 1 is on, 0 is off. `weights` has two weights for each of the channels
+// X, Y and B: of the side neighbours and of the diagonal ones.
 typedef struct RestorationGaborSettings {
     uint32_t enabled;
     float weights[3][2];
 } RestorationGaborSettings;
 
-// The settings of a step that it reads besides samples and sigmas: `multiplier` is the step's scale.
+// The settings of one step of the edge-preserving filter. `multiplier` is the step's scale: `pass0_sigma_scale`, 1 or
+// `pass2_sigma_scale` for steps 0, 1 or 2. `border_sad_mul` multiplies it at the borders of blocks.
 typedef struct RestorationEpfStep {
     uint32_t step;
     float channel_scale[3];
@@ -175,7 +177,7 @@ typedef struct RestorationEpfStep {
     float border_sad_mul;
 } RestorationEpfStep;
 
-// The edge-preserving filter: it is on where there are iterations.
+// The edge-preserving filter: off with 0 iterations, on with 1 to 3.
 typedef struct RestorationEpfSettings {
     uint32_t iters;
     float channel_scale[3];
@@ -188,13 +190,15 @@ typedef struct RestorationSettings {
     RestorationEpfSettings epf;
 } RestorationSettings;
 
-// The margin, or 9 and 0.
+// The margin in samples; 0 in a refused call.
 typedef struct RestorationMarginAnswer {
     uint32_t number;
     uint32_t margin;
 } RestorationMarginAnswer;
 
-// What start is told and no call changes. `preserve_outside` is a flag: the result is the full planes. `band_height` is in rows of the result.
+// The setup of a run; no call changes it. `preserve_outside` is a flag: the result region is the image region if it
+// is 1, the filter region if it is 0. `band_height` is the number of rows of the result region in a band; the last
+// band may have fewer.
 typedef struct RestorationSetup {
     RestorationRegion image;
     RestorationRegion filter;
@@ -203,14 +207,16 @@ typedef struct RestorationSetup {
     uint32_t band_height;
 } RestorationSetup;
 
-// `pass` counts the passes that are over; `done` has a flag for each band of the next one: 1 where it is done.
+// The record of a run. `pass` counts the completed passes. `done` has one flag per band of the next pass: 1 if the
+// band is done.
 typedef struct RestorationRun {
     RestorationSetup setup;
     uint32_t pass;
     uint8_t done[256];
 } RestorationRun;
 
-// The record as it is after the call: as it was handed in where a band or an advance is refused, and zeros where start is.
+// The number and the record after the call. A refused band or advance returns the record that it was given, a refused
+// start returns zeros.
 typedef struct RestorationRunAnswer {
     uint32_t number;
     RestorationRun run;
@@ -218,74 +224,88 @@ typedef struct RestorationRunAnswer {
 
 // == The C boundary of regions
 
-// Whether a region has a side of 0.
-// Numbers: 0; 4 for a region out of measure: a side over 16,384, or left or top outside -1,048,576 to 1,048,576. A
-// refusal answers false.
+// Returns whether a region is empty: its width or height is 0.
+// Numbers: 0; 4 if the region is outside the limits: a side over 16,384, or left or top outside -1,048,576 to
+// 1,048,576. A refused call returns false.
 RestorationBoolAnswer restoration_region_is_empty(RestorationRegion r);
 
-// The column past a region's last: left + width.
-// Numbers: 0; 4 for a region out of measure. A refusal has edge 0.
+// Returns the first column right of a region: left + width.
+// Numbers: 0; 4 if the region is outside the limits (see `restoration_region_is_empty`). A refused call returns edge
+// 0.
 RestorationEdgeAnswer restoration_region_right(RestorationRegion r);
 
-// The row past a region's last: top + height.
-// Numbers: 0; 4 for a region out of measure. A refusal has edge 0.
+// Returns the first row below a region: top + height.
+// Numbers: 0; 4 if the region is outside the limits (see `restoration_region_is_empty`). A refused call returns edge
+// 0.
 RestorationEdgeAnswer restoration_region_bottom(RestorationRegion r);
 
-// Whether the first region contains the second, `target`. An empty target is contained.
-// Numbers: 0; 4 where either region is out of measure. A refusal answers false.
+// Returns whether region `r` contains region `target`. An empty target is always contained.
+// Numbers: 0; 4 if either region is outside the limits (see `restoration_region_is_empty`). A refused call returns
+// false.
 RestorationBoolAnswer restoration_region_contains(RestorationRegion r, RestorationRegion target);
 
-// The region moved by `x` columns and `y` rows.
-// Numbers: 0; 4 where the region or the moved one is out of measure. A refusal has the region 0, 0, 0, 0.
+// Moves a region by `x` columns and `y` rows.
+// Numbers: 0; 4 if the region or the moved region is outside the limits (see `restoration_region_is_empty`). A
+// refused call returns the region 0, 0, 0, 0.
 RestorationRegionAnswer restoration_region_translate(RestorationRegion r, int32_t x, int32_t y);
 
-// What two regions have in common; regions that only touch, or are apart, meet in the region 0, 0, 0, 0.
-// Numbers: 0; 4 where either region is out of measure. A refusal has the region 0, 0, 0, 0.
+// Returns the intersection of two regions. If they only touch or are apart, it is the region 0, 0, 0, 0.
+// Numbers: 0; 4 if either region is outside the limits (see `restoration_region_is_empty`). A refused call returns
+// the region 0, 0, 0, 0.
 RestorationRegionAnswer restoration_region_intersection(RestorationRegion a, RestorationRegion b);
 
-// The region with `size` samples more on each of its four sides.
-// Numbers: 0; 4 where the region or the padded one is out of measure. A refusal has the region 0, 0, 0, 0.
+// Extends a region by `size` samples on each of its four sides.
+// Numbers: 0; 4 if the region or the padded region is outside the limits (see `restoration_region_is_empty`). A
+// refused call returns the region 0, 0, 0, 0.
 RestorationRegionAnswer restoration_region_pad(RestorationRegion r, uint32_t size);
 
-// The cells of 2^factor by 2^factor samples that a region touches, as a region; the shift of a negative left or top
-// rounds toward minus infinity.
-// Numbers: 0; 4 where the region, or with a factor in range the result, is out of measure; 9 for a factor over 16.
-// The lowest that applies is given. A refusal has the region 0, 0, 0, 0.
+// Downsamples a region by 2^factor: left and top are divided by 2^factor and rounded toward minus infinity, right and
+// bottom are divided and rounded toward plus infinity.
+// Numbers: 0; 4 if the region is outside the limits (see `restoration_region_is_empty`), or if the factor is in range
+// and the result is outside them; 9 if the factor is over 16. If several apply, the lowest is returned. A refused
+// call returns the region 0, 0, 0, 0.
 RestorationRegionAnswer restoration_region_downsample(RestorationRegion r, uint32_t factor);
 
-// The smallest region that contains this one and has its edges at multiples of `grid_dim`.
-// Numbers: 0; 4 where the region, or with an alignment in range the result, is out of measure; 9 for an alignment
-// that is no power of two from 1 to 8,192. The lowest that applies is given. A refusal has the region 0, 0, 0, 0.
+// Extends a region to the smallest one around it whose left, top, right and bottom are multiples of `grid_dim`.
+// Numbers: 0; 4 if the region is outside the limits (see `restoration_region_is_empty`), or if `grid_dim` is in range
+// and the result is outside them; 9 if `grid_dim` is not a power of two from 1 to 8,192. If several apply, the lowest
+// is returned. A refused call returns the region 0, 0, 0, 0.
 RestorationRegionAnswer restoration_region_container_aligned(RestorationRegion r, uint32_t grid_dim);
 
 // == The C boundary of frames and block sigmas
 
-// The sample sides of a frame (its sides divided by the upsampling and then by 8 to the power of the LF level, each
-// rounded up), its group dimension (128 shifted left by the group size shift) and group shift, and its groups per
-// row, per column and in all.
-// Numbers: 0; 4 for a frame side outside 1 to 16,384; 9 for an upsampling that is none of 1, 2, 4 and 8, an LF level
-// over 4 or a group size shift over 3.
-// The lowest that applies is given. A refusal has 0 in every other field.
+// Computes the sizes of a frame: its sample sides and the LF groups that cover them.
+// A sample side is the frame's side divided by `upsampling` and then by 8 to the power of `lf_level`, each division
+// rounded up. The group dimension is 128 shifted left by `group_size_shift`, in blocks; the group shift is its number
+// of trailing zero bits. The groups are counted per row, per column and in total.
+// Numbers: 0; 4 if a frame side is outside 1 to 16,384; 9 if `upsampling` is not 1, 2, 4 or 8, `lf_level` is over 4
+// or `group_size_shift` is over 3. If several apply, the lowest is returned. A refused call returns 0 in every other
+// field.
 RestorationFrameAnswer restoration_group_sizes(RestorationFrame f);
 
-// The group that a block's column or row lies in, and its cell in that group.
-// Numbers: 0; 9 for a group size shift over 3. A refusal has 0 in every other field.
+// Splits a column or row of blocks into its column or row of groups, `group`, and its cell in that group, `inner`.
+// Numbers: 0; 9 if `group_size_shift` is over 3. A refused call returns 0 in every other field.
 RestorationSplitAnswer restoration_split_block(uint32_t block, uint32_t group_size_shift);
 
-// With the edge-preserving filter on (`on` 1), fills `sigmas` with the sigma of each block of 8 by 8 samples of a
-// filter region, row of blocks after row: the cell of its group's grid or, where that grid is missing, the sigma of
-// the block above, the top block row starting from `sigma_for_modular`. With it off (`on` 0) `sigmas` has length 0.
-// `blocks` is the filter region, its left and top in blocks. `table` has three numbers for each group of the frame
-// (whether its grid is present, grid width, grid height); `grids` has the present grids one after another.
-// Numbers: 0; 4 for a side of the frame, for `blocks` with a side outside 1 to 16,384, an area over 16,777,216 or a
-// left or top over 131,072, or for a present grid's side outside 1 to 1,024; 7 for a table, grids or sigmas of another
-// length; 8, with the filter on, for a block whose group is not in the frame or whose present grid does not hold it;
-// 9 for the frame's settings, a presence that is neither 0 nor 1, or `on` neither 0 nor 1.
-// The lowest that applies is given, and a check that needs a faulty value does not apply (Specification 7.9, 12.6):
-// the table's length needs the frame's settings; no entry of the table is read unless the frame's sides and settings
-// are in range and the table's length is right, which the grids' sides and length, 8 and the presences need; the
-// grids' length needs the presences too; the sigmas' length and 8 need `on`. So a table of wrong length that has a
-// present grid 2,000 wide answers 7, not 4. A refusal leaves `sigmas` as they were. `table` and `grids` are only read.
+// Fills `sigmas` with one sigma per block (8 x 8 samples) of a filter region, row of blocks by row of blocks, if the
+// edge-preserving filter is on (`on` is 1).
+// A block's sigma is its cell in its group's grid. If that grid is missing, it is the sigma of the block above, and
+// in the top row of blocks it is `sigma_for_modular`. If the filter is off (`on` is 0), `sigmas` must have length 0.
+// `blocks` is the filter region, its left and top in blocks, its width and height in samples. `table` has three
+// numbers per group of the frame: presence (1 if the group has a grid, else 0), grid width and grid height. `grids`
+// has the cells of the present grids, one grid after another.
+// Numbers: 0; 4 if a frame side is outside 1 to 16,384, if `blocks` has a side outside 1 to 16,384, an area over
+// 16,777,216 or a left or top over 131,072, or if a present grid has a side outside 1 to 1,024; 7 if the length of
+// `table`, `grids` or `sigmas` is wrong; 8 if the filter is on and a block's group is not in the frame, or its grid
+// is present but lacks the block; 9 if a setting of the frame is out of range (see `restoration_group_sizes`), or a
+// presence or `on` is neither 0 nor 1.
+// If several apply, the lowest is returned. A check is passed over if it needs a value that is itself out of range
+// (Specification 7.9, 12.6). The length of `table` is checked only if the frame's settings are in range. `table` is
+// read only if the frame's sides and settings are in range and its length is right; otherwise grid sides, the length
+// of `grids`, number 8 and presences are not checked. The length of `grids` is checked only if all presences are 0 or
+// 1. The length of `sigmas` and number 8 are checked only if `on` is 0 or 1. Example: a table of the wrong length
+// with a present grid 2,000 wide gets 7, not 4.
+// A refused call leaves `sigmas` unchanged. `table` and `grids` are never changed.
 uint32_t restoration_block_sigmas(
     uint32_t on,
     RestorationFrame frame,
@@ -297,71 +317,73 @@ uint32_t restoration_block_sigmas(
 
 // == The C boundary of the header
 
-// Reads 16 bits from bit place `at` on as an IEEE 754 half-precision number, exactly, subnormals and -0 included. Bit
-// p is bit p mod 8 of byte p / 8, the lowest first, and a field's first bit is its lowest. Answers the value and the
-// next bit place.
-// Numbers: 0; 7 for more than 65,536 bytes; else 1 where the bits run out, 2 for exponent field 31. A refusal has 0
-// in every other field.
-// `bytes` is only read.
+// Reads 16 bits from bit position `at` on as an IEEE 754 half-precision number. The conversion to `float` is exact,
+// subnormals and -0 included. Bit p of the header is bit p mod 8 of byte p / 8, counted from the least significant
+// bit; the first bit of a field is its least significant. Returns the value and the next bit position.
+// Numbers: 0; 7 if there are more than 65,536 bytes; otherwise 1 if the bits run out, or 2 if the exponent field is
+// 31 (infinite or NaN). A refused call returns 0 in every other field. `bytes` is never changed.
 RestorationHalfAnswer restoration_read_half(const uint8_t *bytes, size_t bytes_len, size_t at);
 
-// Reads the Gabor-like filter's bundle from bit place `at` on: the enabled bit and, if it is set, the custom bit and,
-// if that is set, three channels of two weights each. Answers whether the filter is on, its weights (the header's own
-// or the defaults) and the next bit place; a filter that is off has weights 0.
-// Numbers: 0; 7 for more than 65,536 bytes; else the first in bit order of 1 where the bits run out, 2 for a half
-// with exponent field 31, 3 where a channel's |1 + (w0 + w1) * 4| is under 2^-23. A refusal has 0 in every other
-// field. `bytes` is only read.
+// Reads the Gabor-like filter's header bundle from bit position `at` on. It has an enabled bit; if that is set, a
+// custom bit; if that is set, two half-precision weights for each of three channels. Returns whether the filter is
+// on, its weights (custom or default) and the next bit position. If the filter is off, all weights are 0.
+// Numbers: 0; 7 if there are more than 65,536 bytes; otherwise the first of these in bit order: 1 if the bits run
+// out, 2 if a half has exponent field 31, 3 if |1 + (w0 + w1) * 4| is under 2^-23 for a channel's custom weights. A
+// refused call returns 0 in every other field. `bytes` is never changed.
 RestorationGaborAnswer restoration_read_gabor(const uint8_t *bytes, size_t bytes_len, size_t at);
 
-// Reads the edge-preserving filter's bundle of a frame encoded as VarDCT from bit place `at` on: 2 bits of iterations
-// and, if they are not 0, a custom bit with 8 sharpness halves, a custom bit with 3 channel scales and 32 ignored
-// bits, a custom bit with the four sigma settings. Answers the settings (the header's own or the defaults;
-// `sigma_for_modular` is 1) and the next bit place; a filter that is off has 0 in its fields.
-// Numbers: 0; 7 for more than 65,536 bytes; else the first in bit order of 1 where the bits run out, 2 for a half
-// with exponent field 31.
-// A refusal has 0 in every other field. `bytes` is only read.
+// Reads the edge-preserving filter's header bundle of a VarDCT frame from bit position `at` on. It has 2 bits of
+// iterations; if they are not 0, a custom bit with 8 sharpness values, a custom bit with 3 channel scales and 32
+// ignored bits, and a custom bit with the four sigma settings. Values follow a custom bit only if it is set; each is
+// a half-precision number. Returns the settings (custom or default; `sigma_for_modular` is 1) and the next bit
+// position. With 0 iterations the filter is off and all its fields are 0.
+// Numbers: 0; 7 if there are more than 65,536 bytes; otherwise the first of these in bit order: 1 if the bits run
+// out, 2 if a half has exponent field 31. A refused call returns 0 in every other field. `bytes` is never changed.
 RestorationEpfAnswer restoration_read_epf_vardct(const uint8_t *bytes, size_t bytes_len, size_t at);
 
-// Reads the edge-preserving filter's bundle of a frame encoded as Modular from bit place `at` on: 2 bits of
-// iterations and, if they are not 0, a custom bit with 3 channel scales and 32 ignored bits, a custom bit with three
-// sigma settings (`quant_mul` keeps its default), and `sigma_for_modular`, a half. Answers the settings (the header's
-// own or the defaults) and the next bit place; a filter that is off has 0 in its fields.
-// Numbers: 0; 7 for more than 65,536 bytes; else the first in bit order of 1 where the bits run out, 2 for a half
-// with exponent field 31.
-// A refusal has 0 in every other field. `bytes` is only read.
+// Reads the edge-preserving filter's header bundle of a Modular frame from bit position `at` on. It has 2 bits of
+// iterations; if they are not 0, a custom bit with 3 channel scales and 32 ignored bits, a custom bit with three
+// sigma settings (`quant_mul` keeps its default), and `sigma_for_modular`. Values follow a custom bit only if it is
+// set; each is a half-precision number. Returns the settings (custom or default) and the next bit position. With 0
+// iterations the filter is off and all its fields are 0.
+// Numbers: 0; 7 if there are more than 65,536 bytes; otherwise the first of these in bit order: 1 if the bits run
+// out, 2 if a half has exponent field 31. A refused call returns 0 in every other field. `bytes` is never changed.
 RestorationEpfAnswer restoration_read_epf_modular(const uint8_t *bytes, size_t bytes_len, size_t at);
 
-// Reads both bundles of a frame encoded as VarDCT from bit place `at` on, the Gabor-like filter's and then the
-// edge-preserving filter's, as `restoration_read_gabor` and `restoration_read_epf_vardct` do. Answers both and the
-// next bit place.
-// Numbers: 0; 7 for more than 65,536 bytes; else the first in bit order of 1, 2 and 3 as those functions give them. A
-// refusal has 0 in every other field.
-// `bytes` is only read.
+// Reads both header bundles of a VarDCT frame from bit position `at` on: the Gabor-like filter's, then the
+// edge-preserving filter's, as `restoration_read_gabor` and `restoration_read_epf_vardct` do. Returns both filters
+// and the next bit position.
+// Numbers: 0; 7 if there are more than 65,536 bytes; otherwise the first of 1, 2 and 3 in bit order, as those
+// functions return them. A refused call returns 0 in every other field. `bytes` is never changed.
 RestorationAnswer restoration_read_filters_vardct(const uint8_t *bytes, size_t bytes_len, size_t at);
 
-// Reads both bundles of a frame encoded as Modular from bit place `at` on, the Gabor-like filter's and then the
-// edge-preserving filter's, as `restoration_read_gabor` and `restoration_read_epf_modular` do. Answers both and the
-// next bit place.
-// Numbers: 0; 7 for more than 65,536 bytes; else the first in bit order of 1, 2 and 3 as those functions give them. A
-// refusal has 0 in every other field.
-// `bytes` is only read.
+// Reads both header bundles of a Modular frame from bit position `at` on: the Gabor-like filter's, then the
+// edge-preserving filter's, as `restoration_read_gabor` and `restoration_read_epf_modular` do. Returns both filters
+// and the next bit position.
+// Numbers: 0; 7 if there are more than 65,536 bytes; otherwise the first of 1, 2 and 3 in bit order, as those
+// functions return them. A refused call returns 0 in every other field. `bytes` is never changed.
 RestorationAnswer restoration_read_filters_modular(const uint8_t *bytes, size_t bytes_len, size_t at);
 
 // == The C boundary of the mirror and of single passes
 
-// The place in a row of `len` samples that a filter reads for an offset beyond an edge: with m the offset modulo
-// 2 * len, not negative, it is m if m < len and else 2 * len - 1 - m.
-// Numbers: 0; 9 for a length outside 1 to 16,384 or an offset outside -1,048,576 to 1,048,576. A refusal has place 0.
+// Computes the mirrored index, `place`, of `offset` in a row of `len` samples: the sample that a filter reads there,
+// also beyond an edge. With m = offset mod (2 * len), 0 <= m < 2 * len, the index is m if m < len and
+// 2 * len - 1 - m otherwise, so the edge sample is repeated.
+// Numbers: 0; 9 if `len` is outside 1 to 16,384 or `offset` is outside -1,048,576 to 1,048,576. A refused call
+// returns place 0.
 RestorationMirrorAnswer restoration_mirror(ptrdiff_t offset, size_t len);
 
-// The Gabor-like filter over rows `from` up to `to` of its result, which is the full planes (`preserve_outside` 1) or
-// the filter region alone (0). Reads `src` and writes `dst`, sets of three planes one after another, each row after
-// row without gaps: filtered in the filter region, copied outside it; samples of `dst` that are not in these rows of
-// the result stay. The settings' weights are any floats; `enabled` is ignored.
-// Numbers: 0; 4 for a region out of measure (sides 1 to 16,384, area to 16,777,216, left and top -1,048,576 to
-// 1,048,576); 5 for a filter region that is not inside the image region; 7 for a set whose length is not
-// 3 * width * height of the image region; 9 for `preserve_outside` neither 0 nor 1, `from` after `to`, or `to` past the
-// last row of the result. The lowest that applies is given. A refusal leaves `dst` as it was. `src` is only read.
+// Applies the Gabor-like filter to rows `from` up to, not including, `to` of the result region. The result region is
+// the image region if `preserve_outside` is 1 and the filter region if it is 0.
+// Reads the set `src` and writes the set `dst`. A set is three planes of the image region one after another, each row
+// by row without gaps. In these rows of the result region, `dst` gets filtered samples inside the filter region and
+// copies of `src` outside it. All other samples of `dst` stay. The weights may be any floats; `settings.enabled` is
+// ignored.
+// Numbers: 0; 4 if a region is outside the limits (sides 1 to 16,384, area at most 16,777,216, left and top
+// -1,048,576 to 1,048,576); 5 if the filter region is not inside the image region; 7 if the length of a set is not 3
+// * width * height of the image region; 9 if `preserve_outside` is neither 0 nor 1, `from` is over `to`, or `to` is
+// over the number of rows of the result region. If several apply, the lowest is returned. A refused call leaves `dst`
+// unchanged. `src` is never changed.
 uint32_t restoration_gabor_pass(
     RestorationRegion image,
     RestorationRegion filter,
@@ -372,14 +394,15 @@ uint32_t restoration_gabor_pass(
     const float *src, size_t src_len,
     float *dst, size_t dst_len);
 
-// Step 0, 1 or 2 of the edge-preserving filter over rows `from` up to `to` of its result, which is the full planes
-// (`preserve_outside` 1) or the filter region alone (0). Reads `src` and writes `dst` as `restoration_gabor_pass`
-// does. `sigmas` has one sigma for each block of 8 by 8 samples of the filter region, row of blocks after row;
-// sigmas, scales and multipliers are any floats.
-// Numbers: 0; 4 for a region out of measure; 5 for a filter region that is not inside the image region; 6 for a left
-// or top of the filter region that is negative or no multiple of 8; 7 for a set or sigmas of another length; 9 for a
-// step over 2, `preserve_outside` neither 0 nor 1, `from` after `to`, or `to` past the last row of the result. The
-// lowest that applies is given. A refusal leaves `dst` as it was. `src` and `sigmas` are only read.
+// Applies step 0, 1 or 2 of the edge-preserving filter to rows `from` up to, not including, `to` of the result
+// region. The result region is the image region if `preserve_outside` is 1 and the filter region if it is 0.
+// Reads `src` and writes `dst` as `restoration_gabor_pass` does. `sigmas` has one sigma per block (8 x 8 samples) of
+// the filter region, row of blocks by row of blocks. Sigmas, scales and multipliers may be any floats.
+// Numbers: 0; 4 if a region is outside the limits (see `restoration_gabor_pass`); 5 if the filter region is not
+// inside the image region; 6 if its left or top is negative or not a multiple of 8; 7 if the length of a set or of
+// `sigmas` is wrong; 9 if the step is over 2, `preserve_outside` is neither 0 nor 1, `from` is over `to`, or `to` is
+// over the number of rows of the result region. If several apply, the lowest is returned. A refused call leaves `dst`
+// unchanged. `src` and `sigmas` are never changed.
 uint32_t restoration_epf_pass(
     RestorationRegion image,
     RestorationRegion filter,
@@ -393,30 +416,34 @@ uint32_t restoration_epf_pass(
 
 // == The C boundary of runs
 
-// The margin of the settings: how many samples must lie between a sample and each cut edge of a rectangle so that the
-// sample is the one that the larger picture has. It is 1 where the Gabor-like filter is on, plus 0, 2, 3 or 6 for 0,
-// 1, 2 or 3 iterations of the edge-preserving filter.
-// Numbers: 0; 9 where `gabor.enabled` is neither 0 nor 1 or `epf.iters` is over 3, and then the margin is 0. Nothing
-// else of the settings is read.
+// Returns the margin of the settings: how many samples must lie between a sample of a rectangle and each cut edge so
+// that its result is the same as in the larger picture. A cut edge is an edge of the rectangle that is not an edge of
+// the larger picture. The margin is 1 if the Gabor-like filter is on, plus 0, 2, 3 or 6 for 0, 1, 2 or 3 iterations
+// of the edge-preserving filter.
+// Numbers: 0; 9 if `gabor.enabled` is neither 0 nor 1 or `epf.iters` is over 3. A refused call returns margin 0. No
+// other field of the settings is read.
 RestorationMarginAnswer restoration_margin(RestorationSettings settings);
 
-// Starts a run: checks all that it is handed, fills the block sigmas and answers the run's record. `table` has three
-// numbers for each group of the frame (presence, grid width, grid height), `grids` the cells of the present grids one
-// after another; `first` and `second` are three planes of the image region each, and `sigmas` has one sigma for each
-// block of 8 x 8 of the filter region, none where `epf.iters` is 0.
-// Numbers, the lowest that applies: 0; 4 where a side, an area, a left or a top is out of measure; 5 where the filter
-// region is not inside the image region; 6 where the edge filter is on and the filter region's left or top is
-// negative or no multiple of 8; 7 where a slice has a wrong length; 8 where the edge filter is on and a block's group
-// is not in the frame, or its grid is present and does not hold the block; 9 where a setting is out of range:
-// iterations over 3, a frame setting, a presence, `preserve_outside` or `gabor.enabled` neither 0 nor 1, a band
-// height outside 1 to 16,384, more than 256 bands.
-// A check that needs a faulty value does not apply (Specification 12.6): 6, the sigmas' length and 8 need the
-// iterations; the table's length needs the frame's settings; no entry of the table is read unless the frame's sides
-// and settings are in range and the table's length is right, which the grids' sides and length, 8 and the presences
-// need; the grids' length needs the presences too; the count of bands needs `preserve_outside` and the band height. So
-// a table of wrong length that has a present grid 2,000 wide answers 7, not 4.
-// Accepted, `sigmas` is filled (where there are any) and `first` and `second` are as they were. Refused, the record
-// is all zeros and every slice is as it was.
+// Starts a run: checks all arguments, fills `sigmas` with the block sigmas and returns the run's record.
+// `table` has three numbers per group of the frame (presence, grid width, grid height); `grids` has the cells of the
+// present grids, one grid after another. `first` and `second` are two sets, each of three planes of the image region;
+// the picture is in `first`. `sigmas` has one sigma per block (8 x 8 samples) of the filter region, or length 0 if
+// `epf.iters` is 0.
+// Numbers: 0; 4 if a side, an area, a left or a top is outside the limits; 5 if the filter region is not inside the
+// image region; 6 if the edge-preserving filter is on and the filter region's left or top is negative or not a
+// multiple of 8; 7 if a slice has the wrong length; 8 if the edge-preserving filter is on and a block's group is not
+// in the frame, or its grid is present but lacks the block; 9 if a setting is out of range: iterations over 3, a
+// setting of the frame, a presence, `preserve_outside` or `gabor.enabled` neither 0 nor 1, a band height outside 1 to
+// 16,384, or more than 256 bands.
+// If several apply, the lowest is returned. A check is passed over if it needs a value that is itself out of range
+// (Specification 12.6). Number 6, the length of `sigmas` and number 8 are checked only if the iterations are in
+// range. The length of `table` is checked only if the frame's settings are in range. `table` is read only if the
+// frame's sides and settings are in range and its length is right; otherwise grid sides, the length of `grids`,
+// number 8 and presences are not checked. The length of `grids` is checked only if all presences are 0 or 1. The
+// number of bands is checked only if `preserve_outside` and the band height are in range. Example: a table of the
+// wrong length with a present grid 2,000 wide gets 7, not 4.
+// An accepted call fills `sigmas` and leaves `first` and `second` unchanged. A refused call returns a record of zeros
+// and leaves every slice unchanged.
 RestorationRunAnswer restoration_start(
     RestorationSetup setup,
     RestorationFrame frame,
@@ -426,16 +453,18 @@ RestorationRunAnswer restoration_start(
     const float *second, size_t second_len,
     float *sigmas, size_t sigmas_len);
 
-// Runs band `k` of the run's next pass: reads the set that the pass reads (the first in the first pass, exchanged by
-// each advance) and writes the band's rows of the result in the other set, filtered inside the filter region and
-// copied outside it. It answers the record with the band marked done.
-// Numbers, the lowest that applies: 0; 7 where a set or the block sigmas have a wrong length for the record's setup,
-// unless what the length is computed from is out of range (Specification 12.12); 9 where start would refuse the
-// record's setup under 4, 5, 6 or 9, or where no accepted calls lead to its `pass` and `done` flags (Specification
-// 12.8): a pass past the last, a flag over 1, or over 0 from the band count on or once the run is finished; 10 where
-// `k` is not below the band count, the band is done or the run is finished.
-// Accepted, the set that is read, the block sigmas and the rest of the other set are as they were. Refused, the
-// record is the one handed in and every slice is as it was.
+// Runs the next pass over the rows of band `k` and returns the record with that band marked done.
+// The first pass reads the set `first` and writes `second`; each advance exchanges the sets. In the band's rows of
+// the result region, the written set gets filtered samples inside the filter region and copies outside it.
+// Numbers: 0; 7 if the length of a set or of `sigmas` is wrong for the record's setup, unless that length depends on
+// a value that is out of range (Specification 12.12); 9 if the record is not valid (Specification 12.8); 10 if `k` is
+// not below the number of bands, the band is done already or the run is finished. If several apply, the lowest is
+// returned.
+// A record is not valid if `restoration_start` would refuse its setup with 4, 5, 6 or 9, or if no accepted calls lead
+// to its `pass` and `done`: the pass is past the last, a flag is over 1, or a flag is not 0 at or past the number of
+// bands or in a finished run.
+// An accepted call leaves the set that is read, `sigmas` and the rest of the written set unchanged. A refused call
+// returns the record that it was given and leaves every slice unchanged.
 RestorationRunAnswer restoration_band(
     RestorationRun run,
     const float *sigmas, size_t sigmas_len,
@@ -443,19 +472,19 @@ RestorationRunAnswer restoration_band(
     float *second, size_t second_len,
     uint32_t k);
 
-// Goes on to the next pass once every band of this one is done: the sets are exchanged and no band is done. After the
-// last pass the run is finished.
-// Numbers, the lowest that applies: 0; 9 for the record, as `restoration_band` has it; 11 where a band is missing or
-// the run is finished.
-// Refused, the record is the one handed in.
+// Advances a run to its next pass when every band of the current pass is done. The two sets exchange their roles and
+// no band is done. After the last pass the run is finished.
+// Numbers: 0; 9 if the record is not valid (see `restoration_band`); 11 if a band is not done or the run is finished.
+// If several apply, the lowest is returned. A refused call returns the record that it was given.
 RestorationRunAnswer restoration_advance(RestorationRun run);
 
-// Copies the result of a finished run into `out`, plane after plane, from the set that a next pass would read: the
-// image region where `preserve_outside` is 1, the filter region's part where it is 0. It answers the number.
-// Numbers, the lowest that applies: 0; 7 where a set or `out` has a wrong length for the record's setup, unless what
-// the length is computed from is out of range (Specification 12.12); 9 for the record, as `restoration_band` has
-// it; 11 where the run is not finished.
-// Both sets are as they were. Refused, `out` is as it was too.
+// Copies the result of a finished run to `out`, plane by plane and row by row. It is the result region of the set
+// that the last pass wrote, or of `first` if there are no passes: the image region if `preserve_outside` is 1, the
+// filter region if it is 0.
+// Numbers: 0; 7 if the length of a set or of `out` is wrong for the record's setup, unless that length depends on a
+// value that is out of range (Specification 12.12); 9 if the record is not valid (see `restoration_band`); 11 if the
+// run is not finished. If several apply, the lowest is returned.
+// Both sets stay unchanged. A refused call leaves `out` unchanged too.
 uint32_t restoration_result(
     RestorationRun run,
     const float *first, size_t first_len,

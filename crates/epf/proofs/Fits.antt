@@ -1,4 +1,5 @@
--- The tests in turn, and what an accepted step leaves. Assumes nothing.
+-- The code's tests, one after another, give the number of the definition, and an accepted step leaves what the definition says. Assumes
+-- nothing.
 use mathlib.Core.Path.{_≡_, refl, sym, _∙_}
 use mathlib.Core.Bool.{Bool, true, false, cond, _&&_, not, and-false}
 use mathlib.Core.List.{List}
@@ -31,7 +32,7 @@ use Rattle.epf.specs.declared.EpfStep.{EpfStep}
 use Rattle.region_placement.specs.Blocks.{ahead, onBlocks}
 use Rattle.epf.specs.Outcome.{epfOver, stepChecks, epfChecks, epfOutcome}
 
--- ---- the tests of a placed filter region
+-- ---- the tests of a filter region inside the image region
 
 module _ (n : ℕ) (l : Layout) (filter : Region) (full step from to sigmas src dst : ℕ) where
   abbrev size : ℕ
@@ -76,7 +77,7 @@ module _ (n : ℕ) (l : Layout) (filter : Region) (full step from to sigmas src 
           unfolding stepChecks
           all-held r = rw (a, eq-eqb src size s, eq-eqb dst size t, eq-eqb sigmas (blockRows l * blockColumns l) u, le-ltb 2 step h, f, r)
 
--- what the number 0 says
+-- what follows from number 0
 zero-is : (a b c d f : Bool) → cond (true && not a) notOnBlocks (cond (true && not b) wrongLength (cond (true && c) outOfRange (cond (true && not f) outOfRange (cond (f && not d) outOfRange 0)))) ≡ 0
     → (a ≡ true) × (b ≡ true) × (c ≡ false) × (d ≡ true)
 zero-is true true false true true e = (refl, refl, refl, refl)
@@ -115,7 +116,7 @@ step-fits n l filter full step from to sigmas src dst e =
 pub band-fits : (n : ℕ) (l : Layout) (step from to sigmas : ℕ) (src dst : List Float) → n ≤ 3 → LayoutFits l → StepFits n l step from to sigmas (length src) (length dst) → BandFits l n from to src dst
 band-fits n l step from to sigmas src dst few f s = record { layout = f; planes = few; source = s .source; target = s .target; order = s .order; rows = s .rows }
 
--- numbers of the machine
+-- bounds in machine integers
 pub record SizeRoom (l : Layout) : Type 0 where
   pub lines : 3 * l .image .height ≤ 49152
   pub samples : 3 * l .image .height * l .image .width ≤ 805306368
@@ -133,7 +134,7 @@ pub band-passed : (l : Layout) (n from to f t : ℕ) (p : Picture) (src dst a b 
     → b ≡ passed n l from to p src dst
 band-passed l n from to f t p src dst a b fits e u v h = passed-over l n from to src dst fits p b (h ∙ rw (e, fits-copied l n from to src dst fits, u, v))
 
--- ---- the whole table; a is the answer of `layout_of`
+-- ---- all checks; a is the answer of `layout_of`
 module _ (image filter : Region) (full : ℕ) (s : EpfStep) (sigmas : List Float) (from to : ℕ) (src dst : List Float) (a : LayoutAnswer) (e : a ≡ layoutOutcome image filter (flagSet full)) where
   abbrev Outcome : ℕ → List Float → Type 0
   Outcome k d = _≡_ {A = PassOutcome} (record { number = k; target = d }) (epfOutcome image filter full s sigmas from to src dst)

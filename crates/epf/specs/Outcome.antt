@@ -1,4 +1,5 @@
--- The outcome of an edge-preserving step over rows of its result, for every input: three planes, numbers of Specification 9.4. Definitions only; Fits.antt has their laws.
+-- The outcome of one step of the edge-preserving filter on rows of the result region, for every input: three planes, numbers of
+-- Specification 9.4. Definitions only; proofs/Fits.antt has their laws.
 use mathlib.Core.Bool.{_&&_, not}
 use mathlib.Core.List.{List, [], _∷_, _++_}
 use Prim.Native.Nat.{ℕ, _*_}
@@ -19,16 +20,16 @@ use Rattle.epf_tiles.specs.Blocks.{blockColumns, sigmaOf, blockRows}
 use Rattle.epf.specs.declared.EpfStep.{EpfStep}
 use Rattle.region_placement.specs.Blocks.{ahead, onBlocks}
 
--- the settings that a step reads: n planes, and the copying limit (Specification 11.4)
+-- the settings that a step reads, for n planes, with the copying limit (Specification 11.4)
 abbrev pub settingsOf : ℕ → EpfStep → EpfPass
 settingsOf n s = record { step = s .step; limit = standardLimit; scales = scaled n (s .«channel_scale»); multiplier = s .multiplier; borderMul = s .«border_sad_mul» }
 
--- The step over the filter region. Row 0 of it is row `top` of the image, counted as left and top are; sigmas stand row of blocks after row of blocks.
+-- The step over the filter region. Its row 0 is at y = `top`; sigmas are stored row of blocks by row of blocks.
 abbrev pub epfOver : ℕ → Layout → EpfStep → ℕ → List Float → List Float → Picture
 epfOver n l s top sigmas src = epfPass (settingsOf n s) (l .width) (l .height) top (sigmaOf (blockColumns l) sigmas) (inner l src)
 
--- Which number a placed filter region gives (Specification 9.4): 6 for its corner, 7 for the two sets and the sigmas, 9 for the step, for the flag that says
--- whether the result is the full planes, and for the rows, which need it.
+-- The checks of a filter region inside the image region (Specification 9.4): 6 for its corner, 7 for the two sets and the sigmas, 9 for the
+-- step, for the flag `preserve_outside`, and for the rows, which are checked only if the flag is in range.
 unfoldable pub stepChecks : ℕ → Layout → Region → ℕ → ℕ → ℕ → ℕ → ℕ → ℕ → ℕ → List Check
 stepChecks n l filter full step from to sigmas src dst =
     always notOnBlocks (not (onBlocks filter))
@@ -37,12 +38,13 @@ stepChecks n l filter full step from to sigmas src dst =
     ∷ always outOfRange (not (flagFits full))
     ∷ given (flagFits full) outOfRange (not (rowsFit l from to)) ∷ []
 
--- 4 and 5, then those
+-- all checks: 4 and 5, then those above
 unfoldable pub epfChecks : Region → Region → ℕ → EpfStep → List Float → ℕ → ℕ → List Float → List Float → List Check
 epfChecks image filter full s sigmas from to src dst =
     placedChecks image filter ++ stepChecks 3 (layoutOf image filter (flagSet full)) filter full (s .step) from to (length sigmas) (length src) (length dst)
 
--- a refused step leaves dst; an accepted one leaves its samples in the rows from `from` up to `to` of the result, and what it read outside the filter region
+-- A refused step leaves dst unchanged. An accepted step writes rows `from` up to `to` of the result region: its samples inside the filter
+-- region, copies outside it.
 unfoldable pub epfOutcome : Region → Region → ℕ → EpfStep → List Float → ℕ → ℕ → List Float → List Float → PassOutcome
 epfOutcome image filter full s sigmas from to src dst =
     passOutcome (firstOf (epfChecks image filter full s sigmas from to src dst))

@@ -1,4 +1,5 @@
-// One edge-preserving step over rows of a filter region that lies anywhere in an image region.
+// One step of the edge-preserving filter over rows of the result region; the filter region lies anywhere inside the
+// image region.
 use epf_step::LAST_STEP;
 use epf_tiles::Step;
 use epf_tiles::strips::filter_region;
@@ -30,10 +31,11 @@ ghost use Rattle.epf_tiles.specs.Tile.{stepOver};
 ghost use Rattle.epf_tiles.specs.Region.{RegionFits};
 ghost use Rattle.epf.specs.Outcome.{stepChecks, epfOutcome};
 
-// 0.3 (Specification 11.4): sigma under this copies the sample. Bits 3E99999A.
+// 0.3 (Specification 11.4): a sigma below this copies the sample. Bits 3E99999A.
 const COPYING_LIMIT: f32 = 0.3;
 
-// The settings of a step that it reads besides samples and sigmas: `multiplier` is the step's scale.
+// The settings of one step of the edge-preserving filter. `multiplier` is the step's scale: `pass0_sigma_scale`, 1 or
+// `pass2_sigma_scale` for steps 0, 1 or 2. `border_sad_mul` multiplies it at the borders of blocks.
 #[repr(C)]
 pub struct EpfStep {
     pub step: u32,
@@ -42,7 +44,7 @@ pub struct EpfStep {
     pub border_sad_mul: f32,
 }
 
-// Which number the corner, the lengths, the step, the flag and the rows give.
+// The number for the filter region's corner, the lengths, the step, the flag and the rows: 6, 7, 9 or 0.
 fn judged(
     l: Layout,
     filter: Region,
@@ -101,7 +103,8 @@ fn step_of(s: EpfStep) -> Step
     }
 }
 
-// Rows `from` up to `to` of the result: copied outside the filter region, then filtered inside it.
+// Writes rows `from` up to `to` of the result region: copies outside the filter region, then filtered samples inside
+// it.
 fn epf_band(
     src: &[f32],
     dst: &mut [f32],
@@ -124,9 +127,9 @@ fn epf_band(
     filter_region(dst, src, l, n, s, sigmas, top, first, last);
 }
 
-// Rows `from` up to `to` of the result, which is the full planes (`preserve_outside` 1) or the filter region alone
-// (0): reads `src` and writes `dst`, sets of three planes. There is a sigma for each block of the filter region, row
-// of blocks after row of blocks; any floats are taken.
+// Applies a step to rows `from` up to `to` of the result region: the image region if `preserve_outside` is 1, the
+// filter region if it is 0. Reads the set `src` and writes the set `dst`, each of three planes. `sigmas` has one
+// sigma per block of the filter region, row of blocks by row of blocks. Floats may have any value.
 pub fn epf_pass(
     image: Region,
     filter: Region,

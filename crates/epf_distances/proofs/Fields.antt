@@ -1,4 +1,4 @@
--- Fields of distances hold every neighbour's distances, and what the loops over them keep. Assumes nothing.
+-- The fields hold the distances of every neighbour, and the invariants of the loops that fill them. Assumes nothing.
 use mathlib.Core.Path.{_≡_, refl, sym, ap, _∙_}
 use mathlib.Core.Bool.{and-false}
 use mathlib.Core.List.{List, [], _∷_, _++_}
@@ -45,7 +45,7 @@ unfolding scaledFrom
 scaled-last c zero ss = let z : c + 0 ≡ c = omega arith in rw z
 scaled-last c (suc n) ss = let z : c + suc n ≡ suc c + n = omega arith in rw z (ap (λ (l : List Scaled). (c, getD ss c nan) ∷ l) (scaled-last (suc c) n ss))
 
--- one channel more
+-- one more channel
 pub along-channel : {B : Type 0} (f : B → Scaled → B) (b : B) (n : ℕ) (ss : List Float) → f (along f b (scaled n ss)) (n, getD ss n nan) ≡ along f b (scaled (n + 1) ss)
 along-channel f b n ss =
     let z : 0 + n ≡ n = omega arith in
@@ -105,18 +105,18 @@ module _ (step : ℕ) (scales win : List Float) (by : ℕ) where
   unfolding distAt along scaledFrom
   none-yet j = refl
 
-  -- one channel more
+  -- one more channel
   one-more : (c j : ℕ) → channelsAt step scales win by c j ⊕ getD scales c nan ⊗ nearby step (apartBy win c by) j ≡ channelsAt step scales win by (c + 1) j
   unfolding distAt
   one-more c j = along-channel (λ (d : Float) (k : Scaled). d ⊕ k .1 ⊗ nearby step (apartBy win (k .0) by) j) b0 c scales
 
-  -- a turn of the loop over channels
+  -- an iteration of the loop over channels
   pub channel-turn : (d a b : List Float) (at from n c : ℕ) → a ≡ fill d at n (λ i. channelsAt step scales win by c (from + i))
       → b ≡ fill a at n (λ i. getD a (at + i) nan ⊕ getD scales c nan ⊗ nearby step (apartBy win c by) (from + i))
       → b ≡ fill d at n (λ i. channelsAt step scales win by (c + 1) (from + i))
   channel-turn d a b at from n c ea eb = run-anew d a b at n _ _ _ ea eb (λ i l e. rw e (one-more c (from + i)))
 
-  -- before it the distances are 0, and after it they are those of all channels
+  -- before the loop the distances are 0, after it they are those of all channels
   pub channel-none : (d a : List Float) (at from n : ℕ) → a ≡ fill d at n (λ i. b0) → a ≡ fill a at n (λ i. channelsAt step scales win by 0 (from + i))
   channel-none d a at from n e =
       run-same a at n _ (λ i l r. sym (rw e (run-at d at n (λ i. b0) i (omega (arith, ap length e, length-fill d at n (λ i. b0))) l) ∙ none-yet (from + i)))
@@ -125,7 +125,7 @@ module _ (step : ℕ) (scales win : List Float) (by : ℕ) where
       → a ≡ fill d at n (λ i. channelsAt step scales win by m (from + i))
   channel-end d z a at from n c m ez ea p q = let k : c ≡ m = omega arith in rw (← k) (run-anew d z a at n _ _ _ ez ea (λ i l e. refl))
 
--- one field more
+-- one more field
 pub field-turn : (step : ℕ) (cs : List Scaled) (win : List Float) (rows : ℕ) (e a b : List Float) (h k : ℕ) → a ≡ fieldsFill step cs win rows e h → k ≡ shift step h
     → b ≡ fill a (h * 896 + (196 - k)) (rows * 64 + 188 - (196 - k)) (λ i. distAt step cs win k (196 - k + i)) → b ≡ fieldsFill step cs win rows e (h + 1)
 unfolding fieldsFill
@@ -134,7 +134,7 @@ field-turn step cs win rows e a b h k p q s = rw (add-one h) (s ∙ rw (p, q))
 pub field-end : (step : ℕ) (cs : List Scaled) (win : List Float) (rows : ℕ) (e a : List Float) (h k : ℕ) → a ≡ fieldsFill step cs win rows e h → h ≤ k → k ≤ h → a ≡ fieldsFill step cs win rows e k
 field-end step cs win rows e a h k p q r = let z : h ≡ k = omega arith in rw (← z) p
 
--- ---- the tests
+-- ---- the code's tests
 module _ (step n : ℕ) (scales win : List Float) (rows : ℕ) (e : List Float) where
   pub many-planes : 3 < n → e ≡ distancesOf step n scales win rows e
   unfolding distancesOf

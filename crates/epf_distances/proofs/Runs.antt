@@ -1,4 +1,4 @@
--- Runs of a list that are written anew from what they held. Assumes nothing.
+-- Runs of a list whose elements are overwritten by values that depend on the old ones. Assumes nothing.
 use mathlib.Core.Path.{_≡_, sym, _∙_}
 use mathlib.Core.List.{List}
 use Prim.Native.Nat.{ℕ, zero, suc, _+_, _-_, _<_, _≤_}
@@ -11,7 +11,7 @@ use Rattle.planes.specs.Fill.{fill}
 use Rattle.planes.proofs.Fill.{length-fill, fill-before, fill-after}
 use Rattle.planes.proofs.Loop.{Written, written-more}
 
--- an index of the run that the list has
+-- an index of the run that is inside the list
 pub run-at : (d : List Float) (at n : ℕ) (f : ℕ → Float) (i : ℕ) → at + i < length d → i < n → getD (fill d at n f) (at + i) nan ≡ f i
 unfolding fill
 run-at d at zero f i h l = absurd (omega arith)
@@ -23,7 +23,7 @@ run-at d at (suc n) f i h l = go (decLt i n) (run-at d at n f i h)
         let z : i ≡ n = omega arith in
         rw z (getD-set-same (fill d at n f) (at + n) (f n) nan (omega (arith, length-fill d at n f)))
 
--- the run written twice: what it held before the second time may count for that
+-- a run written twice: the second values may depend on the first
 pub run-anew : (d a b : List Float) (at n : ℕ) (f g k : ℕ → Float) → a ≡ fill d at n f → b ≡ fill a at n g
     → ((i : ℕ) → i < n → getD a (at + i) nan ≡ f i → g i ≡ k i) → b ≡ fill d at n k
 run-anew d a b at n f g k ea eb h = ext-getD nan b (fill d at n k) (len ∙ sym (length-fill d at n k)) each
@@ -49,7 +49,7 @@ run-anew d a b at n f g k ea eb h = ext-getD nan b (fill d at n k) (len ∙ sym 
             let first : getD a (at + j) nan ≡ f j = rw ea (run-at d at n f j (omega (arith, len)) s) in
             rw (e, eb) (run-at a at n g j (omega (arith, held, len)) s ∙ h j s first ∙ sym (run-at d at n k j (omega (arith, len)) s))
 
--- what is there already changes nothing
+-- writing the values that are there already changes nothing
 pub run-same : (d : List Float) (at n : ℕ) (f : ℕ → Float) → ((i : ℕ) → i < n → at + i < length d → f i ≡ getD d (at + i) nan) → d ≡ fill d at n f
 run-same d at n f h = ext-getD nan d (fill d at n f) (sym (length-fill d at n f)) each
   where
@@ -65,7 +65,7 @@ run-same d at n f h = ext-getD nan d (fill d at n f) (sym (length-fill d at n f)
             let s : i < n = omega arith in
             rw e (sym (run-at d at n f i (omega arith) s ∙ h i s (omega arith)))
 
--- a loop's turn that writes each element from what it was
+-- a loop iteration that computes each element from its old value
 pub run-more : {d dst : List Float} {at n i : ℕ} {v : Float} (g : Float → ℕ → Float) → Written d at n (λ (j : ℕ). g (getD d (at + j) nan) j) dst i → i < n
     → v ≡ g (getD dst (at + i) nan) i → Written d at n (λ (j : ℕ). g (getD d (at + j) nan) j) (set dst (at + i) v) (i + 1)
 run-more {d = d} {dst = dst} {at = at} {i = i} g w l e =

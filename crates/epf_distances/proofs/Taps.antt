@@ -1,4 +1,4 @@
--- The field and the place of each neighbour's distances are the right ones. Assumes nothing.
+-- The tap of each neighbour names its samples and its distances. Assumes nothing.
 use mathlib.Core.Path.{_≡_, refl, _∙_}
 use mathlib.Core.Bool.{true, false}
 use mathlib.Core.Logic.{_⊎_, inl, inr}
@@ -27,7 +27,7 @@ shift-far zero (suc (suc (suc (suc (suc h))))) = (lit≤ tt, lit≤ tt)
 shift-far (suc s) zero = (lit≤ tt, lit≤ tt)
 shift-far (suc s) (suc h) = (lit≤ tt, lit≤ tt)
 
--- what is known of a tap: its place is the neighbour's, and its distances are those of field h at position `back` before the centre
+-- a tap names the samples of its neighbour, and the distances of field h that start `back` before the centre
 pub record TapIs (step q : ℕ) (t : Tap) : Type 0 where
   pub field : ℕ
   pub among : field < half step
@@ -62,7 +62,7 @@ tap-is (suc s) (suc (suc zero)) h = record { field = 0; among = lit≤ tt; offse
 tap-is (suc s) (suc (suc (suc zero))) h = record { field = 0; among = lit≤ tt; offset = refl; inner = inner-of 197 tt tt; low = lit≤ tt; high = lit≤ tt; far = lit≤ tt; side = inl (refl, refl) }
 tap-is (suc s) (suc (suc (suc (suc q)))) h = absurd (omega arith)
 
--- ---- the steps told apart
+-- ---- one case per step
 
 pub half-other : (s : ℕ) → (s ≡ 0 → ⊥) → 2 ≡ half s
 half-other zero h = absurd (h refl)
@@ -150,7 +150,7 @@ module _ (s q h : ℕ) (t : Tap) (e : h ≡ fieldOf s q) where
       go zero n = absurd (n refl)
       go (suc s) n = ne-eqb (q % 2) 1 l
 
--- ---- in numbers of the machine
+-- ---- in machine integers
 
 pub kernel-few : (s : ℕ) → (length (kernel s) ≤ 12) × (length (kernel s) % 4 ≡ 0)
 unfolding kernel

@@ -1,4 +1,4 @@
--- Fields of distances: for each of a step's shifts the distances at the positions of a tile. Definitions only.
+-- Fields of distances: for each shift of a step, the distances at the indices of a tile. Definitions only.
 use mathlib.Core.Bool.{cond, _&&_}
 use mathlib.Core.List.{List}
 use Prim.Native.Nat.{ℕ, zero, suc, _+_, _-_, _*_}
@@ -13,23 +13,23 @@ use Rattle.epf_sizes.specs.Sizes.{windowPlane, windowCentre}
 
 -- ---- a field
 
--- the distance at a position, between places that lie `by` apart
+-- the distance at index j between samples that lie `by` apart
 unfoldable pub distAt : ℕ → List Scaled → List Float → ℕ → ℕ → Float
 distAt step cs win by j = along (λ (d : Float) (c : Scaled). d ⊕ c .1 ⊗ nearby step (apartBy win (c .0) by) j) b0 cs
 
--- where field h starts among its plane's positions, and how many it has in a tile of so many rows
+-- where field h starts in its plane, and its length for a tile with this number of rows
 abbrev pub fieldFrom : ℕ → ℕ → ℕ
 fieldFrom step h = windowCentre - shift step h
 
 abbrev pub fieldLen : ℕ → ℕ → ℕ → ℕ
 fieldLen step rows h = rows * 64 + 188 - fieldFrom step h
 
--- the first k fields, each in a plane of 896 positions
+-- the first k fields, each in a plane of 896 indices
 unfoldable pub fieldsFill : ℕ → List Scaled → List Float → ℕ → List Float → ℕ → List Float
 fieldsFill step cs win rows e zero = e
 fieldsFill step cs win rows e (suc h) =
     fill (fieldsFill step cs win rows e h) (h * windowPlane + fieldFrom step h) (fieldLen step rows h) (λ i. distAt step cs win (shift step h) (fieldFrom step h + i))
 
--- the distances of a tile of 1 to 8 rows, from windows of at most three planes; nothing for other numbers
+-- the distances of a tile of 1 to 8 rows, from windows of at most three planes; unchanged if a count is out of range
 unfoldable pub distancesOf : ℕ → ℕ → List Float → List Float → ℕ → List Float → List Float
 distancesOf step n scales win rows e = cond (leb n 3 && (leb 1 rows && leb rows 8)) (fieldsFill step (scaled n scales) win rows e (half step)) e

@@ -1,4 +1,4 @@
--- The differences that a distance sums, as places of a window. Definitions only.
+-- The differences that a distance sums, by indices of a window. Definitions only.
 use mathlib.Core.List.{List}
 use Prim.Native.Nat.{ℕ, zero, suc, _+_, _-_, _*_}
 use lib.ListN.{getD}
@@ -7,17 +7,17 @@ use Rattle.rounding.specs.Magnitude.{magnitude}
 use Rattle.planes.specs.Samples.{_⊕_, _⊖_, b0}
 use Rattle.epf_sizes.specs.Sizes.{windowPlane}
 
--- |difference| of two places of channel c's window
+-- |difference| of two samples of channel c's window
 abbrev pub gap : List Float → ℕ → ℕ → ℕ → Float
 gap win c a b = magnitude (getD win (c * windowPlane + a) nan ⊖ getD win (c * windowPlane + b) nan)
 
--- ---- the differences that step's distance sums at a position, in its order
+-- ---- the sum of the differences that a step's distance has at an index, in that step's order
 
 unfoldable pub nearby : ℕ → (ℕ → Float) → ℕ → Float
 nearby zero d j = b0 ⊕ d (j - 64) ⊕ d (j + 1) ⊕ d j ⊕ d (j - 1) ⊕ d (j + 64)
 nearby (suc zero) d j = b0 ⊕ d (j - 64) ⊕ d j ⊕ d (j + 64) ⊕ d (j - 1) ⊕ d (j + 1)
 nearby (suc (suc s)) d j = b0 ⊕ d j
 
--- |differences| between places that lie `shift` apart
+-- |differences| between samples that lie `shift` apart
 unfoldable pub apartBy : List Float → ℕ → ℕ → ℕ → Float
 apartBy win c shift p = gap win c (p + shift) p

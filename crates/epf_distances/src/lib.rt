@@ -1,5 +1,6 @@
 // Distances between the samples of a tile and their neighbours, from one window of 14 rows of 64 columns per plane.
-// A neighbour's distances are those of the opposite neighbour that far before, so a step has a field for each pair.
+// Two opposite neighbours share a field of distances: the distances of one are those of the other, read from an
+// earlier index. So a step has one field per pair of opposite neighbours.
 use epf_sizes::CENTRE;
 use epf_sizes::FIELDS;
 use epf_sizes::STRIDE;
@@ -20,26 +21,26 @@ ghost use Rattle.epf_distances.specs.Seen.{nearby as nearbyOf, apartBy};
 ghost use Rattle.epf_distances.specs.Taps.{half as halfOf, shift as shiftOf, fieldOf, tapOf};
 ghost use Rattle.epf_distances.specs.Fields.{distAt, fieldsFill, distancesOf};
 
-// Past the last of 56 lanes of a tile of no rows: CENTRE + 56 - STRIDE.
+// CENTRE + 56 - STRIDE: the index past the last lane of a tile is rows * STRIDE + PAST.
 const PAST: usize = 188;
 
-// The most fields of a step, one per pair of opposite neighbours.
+// The largest number of fields of a step, one per pair of opposite neighbours.
 const PAIRS: usize = 6;
 
-// A neighbour's place in the window of a sample, and where its distances start among the fields.
+// Where a neighbour's samples start in a window's plane, and where its distances start among the fields.
 pub struct Tap {
     pub place: usize,
     pub start: usize,
 }
 
-// How many fields a step has.
+// The number of fields of a step.
 fn half(step: usize) -> usize
     ensures { λ r. ⌜ r ≡ halfOf step ⌝ }
 {
     if step == 0 { PAIRS } else { 2 }
 }
 
-// How far apart the places are that field h of step 0 compares.
+// How far apart in the window the two samples are that field h of step 0 compares.
 fn shift_of_first(h: usize) -> usize
     ensures { λ r. ⌜ r ≡ shiftOf 0 h ⌝ }
 {
@@ -58,7 +59,7 @@ fn shift_of_first(h: usize) -> usize
     if h == 4 { 65 } else { 128 }
 }
 
-// The same of every step.
+// The same for every step.
 fn shift(step: usize, h: usize) -> usize
     ensures { λ r. ⌜ r ≡ shiftOf step h ⌝ }
 {
@@ -92,7 +93,7 @@ fn behind(step: usize, h: usize) -> Tap
     }
 }
 
-// The field of neighbour q.
+// The field that has the distances of neighbour q.
 fn field_of(step: usize, q: usize) -> usize
     ensures { λ r. ⌜ r ≡ fieldOf step q ⌝ }
 {
@@ -108,7 +109,7 @@ fn field_of(step: usize, q: usize) -> usize
     if q < 2 { 1 } else { 0 }
 }
 
-// Neighbour q, counted in the order of the kernel offsets.
+// The tap of neighbour q, in the order of the kernel offsets.
 pub fn neighbour(step: usize, q: usize) -> Tap
     ensures { λ r. ⌜ r ≡ tapOf step q ⌝ }
 {
@@ -125,7 +126,7 @@ pub fn neighbour(step: usize, q: usize) -> Tap
     behind(step, h)
 }
 
-// |differences| between the places from position `from` on and those k after them, in plane c.
+// Absolute differences in plane c between the samples from index `from` on and those k after them.
 fn differences(
     d: &mut [f32; WINDOW_PLANE],
     win: &[f32; WINDOWS],
@@ -147,7 +148,7 @@ fn differences(
     }
 }
 
-// The differences that a distance of step 0 or 1 sums at position j, in its order.
+// The sum of the differences that a distance of step 0 or 1 has at index j, in that step's order.
 fn nearby(step: usize, d: &[f32; WINDOW_PLANE], j: usize) -> f32
     requires { ⌜ (step < 2) × (64 ≤ j) × (j + 64 < windowPlane) ⌝ }
     ensures { λ r. ⌜ r ≡ nearbyOf step (λ (p : ℕ). getD (now (d .entry)) p nan) j ⌝ }
@@ -158,7 +159,7 @@ fn nearby(step: usize, d: &[f32; WINDOW_PLANE], j: usize) -> f32
     0.0 + d[j - STRIDE] + d[j] + d[j + STRIDE] + d[j - 1] + d[j + 1]
 }
 
-// Adds a channel's scaled sums of differences to n distances.
+// Adds one channel's scaled sums of differences to n distances.
 fn add_nearby(
     fields: &mut [f32; FIELDS],
     at: usize,
@@ -180,7 +181,7 @@ fn add_nearby(
     }
 }
 
-// The same of step 2, which compares single samples.
+// The same for step 2, which compares single samples.
 fn add_single(
     fields: &mut [f32; FIELDS],
     at: usize,
@@ -244,7 +245,7 @@ fn clear(fields: &mut [f32; FIELDS], at: usize, n: usize)
     }
 }
 
-// n distances from position `from` on, between places that lie k apart.
+// Computes n distances from index `from` on, between samples that lie k apart.
 fn field(
     fields: &mut [f32; FIELDS],
     at: usize,
@@ -305,7 +306,8 @@ fn fill_fields(
     }
 }
 
-// The fields of a tile of one to eight rows, from windows of at most three planes; nothing for other numbers.
+// Computes the fields of a tile of 1 to 8 rows from windows of at most 3 planes. Does nothing if a count is out of
+// range.
 pub fn distances(
     fields: &mut [f32; FIELDS],
     win: &[f32; WINDOWS],

@@ -1,4 +1,4 @@
--- The divisor of a sample lies in 1 to 5, as specs/Divisor.antt states. Assumes nothing.
+-- The divisor of a sample is from 1 to 5, as specs/Divisor.antt states. Assumes nothing.
 use mathlib.Core.Path.{_≡_, refl, ap}
 use mathlib.Core.List.{List}
 use Prim.Native.Nat.{ℕ, zero, suc, _+_, _*_}
@@ -19,7 +19,7 @@ use Rattle.epf_interior.specs.Divisor.{ThreeScalesBounded}
 
 -- ---- the distance between two samples is a distance of step 2
 
--- g in the middle, f beside it
+-- g at the centre, f beside it
 pair : (ℕ → Float) → (ℕ → Float) → Around
 pair f g c (pos zero) dy = g c
 pair f g c (pos (suc n)) dy = f c

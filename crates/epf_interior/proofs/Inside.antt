@@ -1,4 +1,4 @@
--- Step 2 from a set itself is the step over the filter region where nothing is mirrored, and what the loops keep. Assumes nothing.
+-- Step 2 computed from a set directly equals the step over the filter region where nothing is mirrored; loop invariants. Assumes nothing.
 use mathlib.Core.Path.{_≡_, refl, sym, ap, _∙_}
 use mathlib.Core.Bool.{true, false, _&&_, and-false}
 use mathlib.Core.List.{List}
@@ -35,7 +35,7 @@ use Rattle.epf_interior.specs.Inside.{farAt, weightsOf, mixOf, laneIn, t
 
 -- ---- a sample and its neighbours, each a function of the channel
 
--- the samples at place p, which is counted in the first plane
+-- the samples at index p of the first plane, one per channel
 unfoldable pub channel : List Float → ℕ → ℕ → ℕ → Float
 channel src plane p = λ c. getD src (p + c * plane) nan
 
@@ -58,7 +58,7 @@ pub three-none : (d : List Float) (o plane : ℕ) (f : ℕ → ℕ → Float) �
 unfolding threeFill fill
 three-none d o plane f = refl
 
--- a sample more in each
+-- one more sample in each
 pub three-turn : (d a : List Float) (o plane n : ℕ) (f : ℕ → ℕ → Float) (x y z : Float) → n < plane → a ≡ threeFill d o plane n f → x ≡ f 0 n → y ≡ f 1 n → z ≡ f 2 n
     → set (set (set a (o + n) x) (o + plane + n) y) (o + 2 * plane + n) z ≡ threeFill d o plane (n + 1) f
 unfolding threeFill fill
@@ -99,13 +99,13 @@ three-planes w h left n top o plane v d b eo ep e =
     none : d ≡ planesFill w h left n top 1 (λ c i j. v c i) d 0
     none = unfold planesFill in refl
 
--- ---- what the code reads is what the definition sees
+-- ---- the code reads the samples of the definition
 
--- what a sample sees from its corner k
+-- what the sample with corner k sees
 unfoldable pub beside : List Float → ℕ → ℕ → ℕ → Around
 beside src stride plane k = λ c dx dy. getD src (k + natAbs (pos 1 +ℤ dy) * stride + natAbs (pos 1 +ℤ dx) + c * plane) nan
 
--- the code's places, as the definition names them
+-- the code's indices, as the definition names them
 module _ (scales : List Float) (sigma m : Float) (v : Around) (o u d l r : ℕ → Float)
     (eo : (c : ℕ) → o c ≡ v c (pos 0) (pos 0)) (eu : (c : ℕ) → u c ≡ v c (pos 0) (negsuc 0)) (ed : (c : ℕ) → d c ≡ v c (pos 0) (pos 1)) (el : (c : ℕ) → l c ≡ v c (negsuc 0) (pos 0)) (er : (c : ℕ) → r c ≡ v c (pos 1) (pos 0)) where
   abbrev by : (ℕ → Float) → Float
@@ -142,7 +142,7 @@ module _ (src : List Float) (stride plane : ℕ) (scales slopes : List Float) (f
       (crossed scales sigma m (beside src stride plane p) (channel src plane (p + stride + 1)) (channel src plane (p + 1)) (channel src plane (p + 2 * stride + 1)) (channel src plane (p + stride)) (channel src plane (p + stride + 2))
       (λ b. ap (λ (q : ℕ). getD src q nan) (omega arith)) (λ b. ap (λ (q : ℕ). getD src q nan) (omega arith)) (λ b. ap (λ (q : ℕ). getD src q nan) (omega arith)) (λ b. ap (λ (q : ℕ). getD src q nan) (omega arith)) (λ b. ap (λ (q : ℕ). getD src q nan) (omega arith)) c)
 
--- row r of it, in numbers of the machine
+-- row r of the rectangle, in machine integers
 pub record RowRoom (l : Layout) (q : Rect) (r len : ℕ) : Type 0 where
   pub some : 0 < l .image .width
   pub size : l .image .height * l .image .width ≤ 268435456
@@ -171,7 +171,7 @@ row-room l q r len f g R =
       room = omega (arith, all, three, wide, g .set, mul-assoc 3 h w);
     }
 
--- an offset of at most 1, from the corner's side
+-- an offset of at most 1, counted from the corner
 step-in : (z : ℕ) (d : ℤ) → 1 ≤ z → natAbs d ≤ 1 → (pos z +ℤ d ≡ pos (z - 1 + natAbs (pos 1 +ℤ d))) × (natAbs (pos 1 +ℤ d) ≤ 2)
 step-in z (pos a) h l = (ap pos (omega arith), omega arith)
 step-in z (negsuc b) h l = rw (le-ltb z (suc b) (omega arith), le-ltb 1 (suc b) (omega arith)) (ap pos (omega arith), omega arith)
@@ -205,7 +205,7 @@ pub rows-none : (w h left n top : ℕ) (v : Picture) (d : List Float) → d ≡ 
 unfolding planesFill rowsFill
 rows-none w h left n top v d = refl
 
--- a turn
+-- one iteration
 pub row-next : (l : Layout) (src scales slopes : List Float) (top : ℕ) (q : Rect) (r first : ℕ) (d a b : List Float) → Inside l q → RectFits l 3 q (length d) → r < q .rows → first ≡ firstSlope (top % 8 + r)
     → a ≡ rowsTo l q r (insideOf l src scales slopes top q) d
     → b ≡ threeFill a (cornerOf l q r + l .image .width + 1) (l .image .height * l .image .width) (q .cols) (laneIn src (l .image .width) (l .image .height * l .image .width) scales slopes first (cornerOf l q r))
@@ -217,7 +217,7 @@ row-next l src scales slopes top q r first d a b f g R ek ea eb =
     (three-planes (l .image .width) (l .image .height) (l .left + q .x) (q .cols) (l .top + q .y + r) _ _ (λ c i. v c i r) a b (row-room l q r (length d) f g R .place) refl (rw (first-same first top r ek) at eb))
     (λ c i j p s h. refl) (λ c i j p s h. let z : r + j ≡ r = omega arith in rw z)
 
--- ---- the tests
+-- ---- the code's tests
 module _ (l : Layout) (q : Rect) where
   pub at-left : q .x < 1 → false ≡ liesInside l q
   at-left h = rw (lt-leb 1 (q .x) h)

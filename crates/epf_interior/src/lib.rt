@@ -1,6 +1,5 @@
-// Step 2 on a rectangle with samples of the filter region on every side: from the planes themselves, since nothing is
-// mirrored there.
-// The corner of a sample is the place one column left of it and one row above it.
+// Step 2 on a rectangle whose samples all have neighbours inside the filter region. Nothing is mirrored there, so it
+// reads the planes directly. The corner of a sample is the index one column left of it and one row above it.
 use epf_rects::Rect;
 use epf_rects::rect_fits;
 use epf_slopes::SLOPES;
@@ -18,10 +17,10 @@ ghost use Rattle.epf_interior.specs.Inside.{farAt, weightsOf, mixOf, lan
 ghost use Rattle.epf_interior.specs.Inside.{insideOf, insideFilled};
 ghost use Rattle.epf_interior.specs.Divisor.{ThreeScalesBounded};
 
-// Columns that have slopes.
+// The number of columns that have slopes.
 const COLUMNS: usize = 64;
 
-// The weights of a sample's neighbours, and the divisor: 1 plus the weights.
+// The weights of a sample's neighbours, and the divisor: 1 plus their sum.
 struct Weights {
     up: f32,
     down: f32,
@@ -30,7 +29,7 @@ struct Weights {
     sum: f32,
 }
 
-// The distance between places p and q, over three planes.
+// The distance between the samples at indices p and q, over three planes.
 fn distance(src: &[f32], plane: usize, scales: &[f32; PLANES], p: usize, q: usize) -> f32
     requires { ⌜ (p + 2 * plane < length (now src)) × (q + 2 * plane < length (now src)) ⌝ }
     ensures { λ r. ⌜ r ≡ farAt (now (src .entry)) plane (now (scales .entry)) p q ⌝ }
@@ -41,7 +40,7 @@ fn distance(src: &[f32], plane: usize, scales: &[f32; PLANES], p: usize, q: usiz
     0.0 + scales[0] * d0 + scales[1] * d1 + scales[2] * d2
 }
 
-// The weights of the sample with this corner; their divisor with its bounds.
+// The weights and the divisor of the sample with this corner; the contract bounds the divisor (Specification 11.9).
 fn weights_at(
     src: &[f32],
     stride: usize,
@@ -72,7 +71,7 @@ fn weights_at(
     }
 }
 
-// The sample with this corner and its weighted neighbours, divided by 1 plus the weights.
+// The sample with this corner plus its weighted neighbours, over the divisor.
 fn mix(src: &[f32], stride: usize, corner: usize, w: Weights) -> f32
     requires { ⌜ (0 < stride) × (corner + 2 * stride + 1 < length (now src)) ⌝ }
     ensures { λ r. ⌜ r ≡ mixOf (now (src .entry)) stride corner w ⌝ }
@@ -84,7 +83,7 @@ fn mix(src: &[f32], stride: usize, corner: usize, w: Weights) -> f32
     all / w.sum
 }
 
-// A row of n samples in each plane, with corners from `corner` on and slopes from `first` on.
+// Filters a row of n samples in each plane. Its corners start at `corner`, its slopes at index `first`.
 fn row(
     dst: &mut [f32],
     src: &[f32],
@@ -116,7 +115,7 @@ fn row(
     }
 }
 
-// The rows of a rectangle; row 0 is row `top` of the image.
+// Filters the rows of a rectangle; its row 0 is at y = `top`.
 fn rows_of(
     dst: &mut [f32],
     src: &[f32],
@@ -155,7 +154,7 @@ fn rows_of(
     }
 }
 
-// Whether a rectangle has samples of the filter region on every side.
+// Whether all samples of a rectangle have neighbours inside the filter region on every side.
 pub fn lies_inside(l: Layout, rect: Rect) -> bool
     ensures { λ r. ⌜ r ≡ liesInside l rect ⌝ }
 {
@@ -180,9 +179,8 @@ pub fn lies_inside(l: Layout, rect: Rect) -> bool
     true
 }
 
-// The samples of such a rectangle in three planes, with the slopes of its columns; row 0 of it is row `top` of the
-// image.
-// Nothing where the rectangle, the sets or the slopes do not fit.
+// Filters such a rectangle in three planes with the slopes of its columns; its row 0 is at y = `top`. Does nothing if
+// the rectangle, the sets or the slopes do not fit.
 pub fn filter_inside(
     dst: &mut [f32],
     src: &[f32],

@@ -1,4 +1,4 @@
--- The divisors of a row of lanes lie in 1 to 5 or 13, as specs/Divisors.antt states. Assumes nothing.
+-- The divisors of a row of lanes are from 1 to 5 or 13, as specs/Divisors.antt states. Assumes nothing.
 use mathlib.Core.Path.{_≡_}
 use mathlib.Core.List.{List}
 use Prim.Native.Nat.{ℕ, zero, suc, _+_, _^_, _≤_, _<_}

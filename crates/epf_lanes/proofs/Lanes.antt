@@ -1,4 +1,4 @@
--- What the loops over a tile's lanes keep. Assumes nothing.
+-- Invariants of the loops over a tile's lanes. Assumes nothing.
 use mathlib.Core.Path.{_≡_, refl, sym, ap, _∙_}
 use mathlib.Core.Bool.{and-false}
 use mathlib.Core.List.{List}
@@ -44,7 +44,7 @@ weighed-none f t s sum lt ls e = record {
   total = λ i h. run-at0 s sum 56 _ i (omega arith) h e;
 }
 
--- one neighbour more
+-- one more neighbour
 pub weighed-more : (f : ℕ → ℕ → Float) (t t' s s' : List Float) (q : ℕ) → q < 12 → Weighed f t s q → t' ≡ fill t (q * 64) 56 (λ i. f i q) → s' ≡ fill s 0 56 (λ i. getD s (0 + i) nan ⊕ f i q)
     → Weighed f t' s' (q + 1)
 unfolding weightsTo
@@ -78,7 +78,7 @@ module _ (f s : ℕ → ℕ → Float) (x : ℕ → Float) (at : ℕ) where
   unfolding samplesTo
   added-none d a e = run-same a at 56 _ (λ i l r. sym (rw e (run-at d at 56 x i (omega (arith, ap length e, length-fill d at 56 x)) l)))
 
-  -- four neighbours more
+  -- four more neighbours
   pub added-four : (d a b : List Float) (q : ℕ) → a ≡ fill d at 56 (λ i. samplesTo (f i) (s i) (x i) q)
       → b ≡ fill a at 56 (λ i. getD a (at + i) nan ⊕ f i q ⊗ s i q ⊕ f i (q + 1) ⊗ s i (q + 1) ⊕ f i (q + 2) ⊗ s i (q + 2) ⊕ f i (q + 3) ⊗ s i (q + 3))
       → b ≡ fill d at 56 (λ i. samplesTo (f i) (s i) (x i) (q + 4))
@@ -88,7 +88,7 @@ module _ (f s : ℕ → ℕ → Float) (x : ℕ → Float) (at : ℕ) where
       → a ≡ fill d at 56 (λ i. samplesTo (f i) (s i) (x i) n)
   added-end d z a q n ez ea h = rw (← h) (run-anew d z a at 56 _ _ _ ez ea (λ i l e. refl))
 
-  -- divided
+  -- divided by the divisors
   pub divided : (d a b : List Float) (y : ℕ → Float) (n : ℕ) → a ≡ fill d at 56 (λ i. samplesTo (f i) (s i) (x i) n) → b ≡ fill a at 56 (λ i. getD a (at + i) nan ⊘ y i)
       → b ≡ fill d at 56 (λ i. samplesTo (f i) (s i) (x i) n ⊘ y i)
   divided d a b y n ea eb = run-anew d a b at 56 _ _ _ ea eb (λ i l e. rw e)
@@ -98,7 +98,7 @@ module _ (step : ℕ) (t win : List Float) (c r at : ℕ) where
   unfolding storedTo
   stored-none d a e = added-none (λ i p. getD t (p * 64 + i) nan) (neighbourOf step win c r) (sampleOf win c r 196) at d a e
 
-  -- what adding four neighbours leaves; k0 to k3 are where their samples start
+  -- the row after adding four neighbours; their samples start at k0 to k3
   pub stored-four : (d a b : List Float) (q k0 k1 k2 k3 : ℕ) → a ≡ fill d at 56 (storedTo step t win c r q)
       → k0 ≡ c * 896 + r * 64 + tapOf step q .place → k1 ≡ c * 896 + r * 64 + tapOf step (q + 1) .place → k2 ≡ c * 896 + r * 64 + tapOf step (q + 2) .place → k3 ≡ c * 896 + r * 64 + tapOf step (q + 3) .place
       → b ≡ fill a at 56 (λ i. getD a (at + i) nan ⊕ getD t (q * 64 + i) nan ⊗ getD win (k0 + i) nan ⊕ getD t (q * 64 + i + 64) nan ⊗ getD win (k1 + i) nan
@@ -115,7 +115,7 @@ module _ (step : ℕ) (t win : List Float) (c r at : ℕ) where
   unfolding storedTo
   stored-end d z a q n = added-end (λ i p. getD t (p * 64 + i) nan) (neighbourOf step win c r) (sampleOf win c r 196) at d z a q n
 
-  -- divided by the sums of the weights
+  -- divided by the divisors
   pub stored-divided : (d a b y : List Float) (n : ℕ) → a ≡ fill d at 56 (storedTo step t win c r n) → b ≡ fill a at 56 (λ i. getD a (at + i) nan ⊘ getD y i nan)
       → b ≡ fill d at 56 (λ i. storedTo step t win c r n i ⊘ getD y i nan)
   unfolding storedTo
@@ -126,7 +126,7 @@ unfolding samplesTo
 samples-same f g s x zero h = refl
 samples-same f g s x (suc n) h = rw (samples-same f g s x n (λ q l. h q (omega arith)), h n (omega arith))
 
--- with the weights of a row: its lanes
+-- with the weights of a row, these are its lanes
 pub stored-lane : (step : ℕ) (e slopes win t sum : List Float) (first c r i : ℕ) → Weighed (λ i q. weightOf step e slopes first r i q) t sum (length (kernel step)) → i < 56
     → storedTo step t win c r (length (kernel step)) i ⊘ getD sum i nan ≡ laneOf step e slopes win first c i r
 unfolding storedTo laneOf
@@ -140,27 +140,27 @@ pub one-row : (d b : List Float) (at n : ℕ) (f : ℕ → Float) → b ≡ fill
 unfolding rowsFill
 one-row d b at n f e = let z : at + 0 * 64 ≡ at = omega arith in e ∙ rw z
 
--- a turn of the loop over planes
+-- an iteration of the loop over planes
 pub plane-next : (r : ℕ) (v : ℕ → ℕ → Float) (d a b : List Float) (k at : ℕ) → a ≡ planesFill 64 8 0 56 r 1 (λ c i j. v c i) d k → at ≡ k * 512 + r * 64
     → b ≡ fill a at 56 (v k) → b ≡ planesFill 64 8 0 56 r 1 (λ c i j. v c i) d (k + 1)
 plane-next r v d a b k at p e q =
     let z : at ≡ (k * 8 + r) * 64 + 0 = omega arith in
     planes-turn 64 8 0 56 r 1 (λ c i j. v c i) d a b k p (rw z at (one-row a b at 56 (v k) q))
 
--- the lanes of row r, of all planes
+-- the lanes of row r in all planes
 pub row-lanes : (step : ℕ) (e slopes win t sum d b : List Float) (first r k : ℕ) → Weighed (λ i q. weightOf step e slopes first r i q) t sum (length (kernel step))
     → b ≡ planesFill 64 8 0 56 r 1 (λ c i j. storedTo step t win c r (length (kernel step)) i ⊘ getD sum i nan) d k
     → b ≡ planesFill 64 8 0 56 r 1 (λ c i j. laneOf step e slopes win first c i r) d k
 row-lanes step e slopes win t sum d b first r k w p = p ∙ planes-cong 64 8 0 56 r 1 _ _ d k (λ c i j a l h. stored-lane step e slopes win t sum first c r i w l)
 
--- a turn of the loop over rows
+-- an iteration of the loop over rows
 pub row-next : (v : ℕ → ℕ → ℕ → Float) (d a b : List Float) (k r : ℕ) → k ≤ 3 → r < 8 → length d ≡ 1536 → a ≡ planesFill 64 8 0 56 0 r v d k
     → b ≡ planesFill 64 8 0 56 r 1 (λ c i j. v c i r) a k → b ≡ planesFill 64 8 0 56 0 (r + 1) v d k
 row-next v d a b k r few h len ea eb =
     rect-below 3 64 8 k few 0 56 0 r 1 v (λ c i j. v c i r) v d a b len (omega arith) (omega arith) ea (let z : 0 + r ≡ r = omega arith in rw z eb)
     (λ c x i p q s. refl) (λ c x i p q s. let z : r + i ≡ r = omega arith in rw z)
 
--- no rows, and the end of the loop
+-- before the loop, and after it
 pub rows-done : (v : Picture) (d : List Float) (k : ℕ) → d ≡ planesFill 64 8 0 56 0 0 v d k
 unfolding planesFill rowsFill
 rows-done v d zero = refl
@@ -169,7 +169,7 @@ rows-done v d (suc k) = rows-done v d k
 pub rows-end : (v : Picture) (d a : List Float) (k r m : ℕ) → a ≡ planesFill 64 8 0 56 0 r v d k → r ≤ m → m ≤ r → a ≡ planesFill 64 8 0 56 0 m v d k
 rows-end v d a k r m e p q = let z : r ≡ m = omega arith in rw (← z) e
 
--- ---- the tests
+-- ---- the code's tests
 module _ (step : ℕ) (e slopes win : List Float) (planes top rows : ℕ) (out : List Float) where
   pub no-tile : (length out ≡ 1536 → ⊥) → out ≡ lanesOf step e slopes win planes top rows out
   unfolding lanesOf

@@ -1,4 +1,4 @@
--- A lane is what the definition of a step says of what it sees in the window. Assumes nothing.
+-- A lane equals the definition of a step, applied to what the lane sees in the window. Assumes nothing.
 use mathlib.Core.Path.{_≡_, refl, sym, ap}
 use mathlib.Core.List.{List}
 use Prim.Native.Nat.{ℕ, zero, suc, _+_, _-_, _*_, _<_, _≤_}

@@ -1,4 +1,4 @@
--- What is said of the divisors of a row of lanes (Specification 11.9: in 1 to 5 in steps 1 and 2, in 1 to 13 in step 0).
+-- The bounds of the divisors of a row of lanes (Specification 11.9: from 1 to 5 in steps 1 and 2, from 1 to 13 in step 0).
 -- proofs/Divisors.antt proves these statements.
 use mathlib.Core.Path.{_≡_}
 use mathlib.Core.Bool.{false}
@@ -14,15 +14,15 @@ use Rattle.epf_step.specs.Steps.{Scaled, kernel, dists, distance, falloff, copi
 use Rattle.epf_step.specs.Bounds.{notNegative, ScalesNotNegative, Between, most, DivisorBounded}
 use Rattle.epf_distances.specs.Taps.{tapOf, neighbour}
 
--- the distance of lane i of row r to neighbour q
+-- the distance between lane i of row r and its neighbour q
 abbrev pub distanceOf : ℕ → List Float → ℕ → ℕ → ℕ → Float
 distanceOf step e r i q = getD e (tapOf step q .start + r * 64 + i) nan
 
--- for contracts: the divisors of row r, each by its lane's distances and slope
+-- for contracts: the divisors of row r are bounded, each if its lane's distances and slope are those of Specification 11.9
 abbrev pub DivisorsBounded : ℕ → List Float → List Float → ℕ → ℕ → List Float → Type 0
 DivisorsBounded step e slopes first r sum = (i : ℕ) → i < 56 → DivisorBounded step (distanceOf step e r i) (getD slopes (first + i) nan) (getD sum i nan)
 
--- so, with scales and M not negative, where the distances and the slope of a lane are those of a sample that is not copied
+-- If no scale is negative and M is not, the divisor of a lane is bounded: its distances and slope are those of a sample that is not copied.
 abbrev pub LaneDivisorBounds : Type 0
 LaneDivisorBounds = (step : ℕ) (cs : List Scaled) (e slopes sum : List Float) (first r i : ℕ) (limit sigma m : Float) (v : Around)
     → i < 56 → ((q : ℕ) → q < length (kernel step) → distanceOf step e r i q ≡ distance cs (dists step) v (neighbour step q)) → getD slopes (first + i) nan ≡ falloff ⊘ sigma ⊗ m

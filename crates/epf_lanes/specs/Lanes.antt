@@ -15,23 +15,23 @@ use Rattle.epf_sizes.specs.Sizes.{windowPlane, windowCentre, weightsLength, til
 
 -- ---- sums over the first q neighbours
 
--- f has a weight for each neighbour
+-- f gives the weight of each neighbour
 unfoldable pub weightsTo : (ℕ → Float) → ℕ → Float
 weightsTo f zero = b1
 weightsTo f (suc q) = weightsTo f q ⊕ f q
 
--- s has a sample for each neighbour, and x is the sample itself
+-- s gives the sample of each neighbour, x is the sample itself
 unfoldable pub samplesTo : (ℕ → Float) → (ℕ → Float) → Float → ℕ → Float
 samplesTo f s x zero = x
 samplesTo f s x (suc q) = samplesTo f s x q ⊕ f q ⊗ s q
 
--- ---- a lane: column i of row r; slopes start at index `first`
+-- ---- a lane: column i of row r; its slopes start at index `first`
 
 -- the weight of neighbour q
 unfoldable pub weightOf : ℕ → List Float → List Float → ℕ → ℕ → ℕ → ℕ → Float
 weightOf step e slopes first r i q = weightBy (getD slopes (first + i) nan) (getD e (tapOf step q .start + r * 64 + i) nan)
 
--- the sample at place k of channel c
+-- the sample of lane i at index k of channel c's window
 abbrev pub sampleOf : List Float → ℕ → ℕ → ℕ → ℕ → Float
 sampleOf win c r k i = getD win (c * windowPlane + r * 64 + k + i) nan
 
@@ -39,18 +39,18 @@ sampleOf win c r k i = getD win (c * windowPlane + r * 64 + k + i) nan
 unfoldable pub neighbourOf : ℕ → List Float → ℕ → ℕ → ℕ → ℕ → Float
 neighbourOf step win c r i q = sampleOf win c r (tapOf step q .place) i
 
--- the sample and its weighted neighbours, divided by 1 plus the weights
+-- the sample plus its weighted neighbours, over the divisor: 1 plus the sum of the weights
 unfoldable pub laneOf : ℕ → List Float → List Float → List Float → ℕ → ℕ → ℕ → ℕ → Float
 laneOf step e slopes win first c i r =
     samplesTo (weightOf step e slopes first r i) (neighbourOf step win c r i) (sampleOf win c r windowCentre i) (length (kernel step))
     ⊘ weightsTo (weightOf step e slopes first r i) (length (kernel step))
 
--- what a tile's lanes leave: 56 columns of each row of each plane. Row 0 is row `top` of the image.
+-- a tile after its lanes are computed: 56 columns of each row of each plane. Its row 0 is at y = `top`.
 unfoldable pub lanesOf : ℕ → List Float → List Float → List Float → ℕ → ℕ → ℕ → List Float → List Float
 lanesOf step e slopes win planes top rows out =
     cond (eqb (length out) tileLength && (leb planes 3 && leb rows 8)) (planesFill 64 8 0 56 0 rows (λ c i r. laneOf step e slopes win (firstSlope (top + r)) c i r) out planes) out
 
--- ---- weights: q neighbours are weighed
+-- ---- the weights of the first q neighbours are stored and summed
 
 pub record Weighed (f : ℕ → ℕ → Float) (t sum : List Float) (q : ℕ) : Type 0 where
   pub long : length t ≡ weightsLength
@@ -58,6 +58,6 @@ pub record Weighed (f : ℕ → ℕ → Float) (t sum : List Float) (q : ℕ) : 
   pub each : (p i : ℕ) → p < q → i < 56 → getD t (p * 64 + i) nan ≡ f i p
   pub total : (i : ℕ) → i < 56 → getD sum i nan ≡ weightsTo (f i) q
 
--- a lane's sum over stored weights
+-- a lane's sum, from stored weights
 unfoldable pub storedTo : ℕ → List Float → List Float → ℕ → ℕ → ℕ → ℕ → Float
 storedTo step t win c r q i = samplesTo (λ p. getD t (p * 64 + i) nan) (neighbourOf step win c r i) (sampleOf win c r windowCentre i) q

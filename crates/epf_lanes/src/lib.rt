@@ -1,7 +1,6 @@
-// Weighted sums of a tile of an edge-preserving step, 56 lanes of a row at a time: from fields of distances, slopes
-// and windows.
-// A tile has at most three planes of eight rows of 64 columns. Each loop goes along a row, so that it becomes vector
-// code.
+// Weighted sums of a tile of a step of the edge-preserving filter, from fields of distances, slopes and windows. A
+// tile has at most three planes of eight rows of 64 columns, of which 56 are computed: the lanes. Each loop runs
+// along a row, so that the compiler can vectorize it.
 use epf_distances::neighbour;
 use epf_sizes::CENTRE;
 use epf_sizes::FIELDS;
@@ -43,7 +42,7 @@ fn ones(sum: &mut [f32; STRIDE])
     }
 }
 
-// The weights of one neighbour, and their sums.
+// Stores the weights of one neighbour and adds them to the sums.
 fn weigh(
     stored: &mut [f32; WEIGHTS],
     at: usize,
@@ -68,7 +67,8 @@ fn weigh(
     }
 }
 
-// The weights of all neighbours of row r, and the divisors: 1 plus the weights, with their bounds.
+// Computes the weights of all neighbours of row r and the divisors, 1 plus the sum of the weights; the contract
+// bounds the divisors (Specification 11.9).
 fn weigh_all(
     stored: &mut [f32; WEIGHTS],
     sum: &mut [f32; STRIDE],
@@ -101,7 +101,7 @@ fn weigh_all(
     }
 }
 
-// The samples themselves.
+// Copies the samples themselves: each sum starts from its sample.
 fn centre(out: &mut [f32], at: usize, win: &[f32; WINDOWS], from: usize)
     requires { ⌜ (at + 56 ≤ length (now out)) × (from + 56 ≤ windowsLength) ⌝ }
     ensures { λ _. ⌜ now (out .exit) ≡ fill (now (out .entry)) at 56
@@ -114,7 +114,7 @@ fn centre(out: &mut [f32], at: usize, win: &[f32; WINDOWS], from: usize)
     }
 }
 
-// A lane's sum with four weighted neighbours more: weights from index a on, samples at four places.
+// A lane's sum plus four weighted neighbours: weights from index a on, and four samples.
 fn with_four(
     x: f32,
     stored: &[f32; WEIGHTS],
@@ -136,7 +136,7 @@ fn with_four(
     half + stored[a + 2 * STRIDE] * win[k2] + stored[a + 3 * STRIDE] * win[k3]
 }
 
-// Adds four neighbours to 56 lanes.
+// Adds four weighted neighbours to each of 56 lanes.
 fn add_four(
     out: &mut [f32],
     at: usize,
@@ -192,7 +192,7 @@ fn samples_at(base: usize, step: usize, q: usize) -> usize
     base + neighbour(step, q).place
 }
 
-// Row r of plane c: the samples and their weighted neighbours.
+// Sums row r of plane c: the samples plus their weighted neighbours.
 fn blend(
     out: &mut [f32],
     at: usize,
@@ -220,7 +220,7 @@ fn blend(
     }
 }
 
-// Row r of each plane, divided by the sums of the weights.
+// Computes row r of each plane: the sums over the divisors.
 fn blend_planes(
     out: &mut [f32],
     stored: &[f32; WEIGHTS],
@@ -244,7 +244,7 @@ fn blend_planes(
     }
 }
 
-// The lanes of row r, whose slopes start at `first`.
+// Filters the lanes of row r; its slopes start at index `first`.
 fn filter_row(
     out: &mut [f32],
     stored: &mut [f32; WEIGHTS],
@@ -268,7 +268,7 @@ fn filter_row(
     blend_planes(out, stored, sum, win, step, planes, r);
 }
 
-// The rows of a tile; row 0 is row `top` of the image.
+// Filters the rows of a tile; its row 0 is at y = `top`.
 fn filter_rows(
     out: &mut [f32],
     fields: &[f32; FIELDS],
@@ -306,7 +306,8 @@ fn filter_rows(
     }
 }
 
-// The lanes of a tile of at most three planes and eight rows; nothing for more, or where `out` is no tile.
+// Filters the lanes of a tile of at most three planes and eight rows. Does nothing if there are more, or if `out`
+// does not have the length of a tile.
 pub fn filter_tile(
     out: &mut [f32],
     fields: &[f32; FIELDS],

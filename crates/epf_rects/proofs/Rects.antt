@@ -1,4 +1,4 @@
--- When a rectangle fits, and what the loops that store one keep. Assumes nothing.
+-- When a rectangle fits, and the invariants of the loops that copy it. Assumes nothing.
 use mathlib.Core.Path.{_≡_, refl, _∙_}
 use mathlib.Core.Bool.{true, false, _&&_, and-false}
 use mathlib.Core.List.{List}
@@ -27,7 +27,7 @@ rect-long e f = rw e f
 abbrev pub rectStart : Layout → ℕ → ℕ → ℕ → ℕ
 rectStart l c x y = (c * l .image .height + (l .top + y)) * l .image .width + (l .left + x)
 
--- plane c of it, in numbers of the machine
+-- plane c of the rectangle, in machine integers
 pub record PlaneRoom (l : Layout) (c : ℕ) (q : Rect) (len : ℕ) : Type 0 where
   pub lines : c * l .image .height ≤ 49152
   pub start : (c * l .image .height + (l .top + q .y)) * l .image .width ≤ 65536 * 16384
@@ -48,7 +48,7 @@ plane-room l n c q len f p =
           omega (arith, f .set, g .across, f .across, add-mul (c * l .image .height + (l .top + y)) r (l .image .width), add-mul (c * l .image .height + (l .top + y) + r) 1 (l .image .width), mul-le-mul-right (l .image .width) t);
     }
 
--- a turn of the loop over planes
+-- an iteration of the loop over planes
 pub plane-next : (l : Layout) (src d a b : List Float) (at step plane : ℕ) (q : Rect) (k o p : ℕ)
     → a ≡ rectFilled l k q (taken src at step plane) d → o ≡ rectStart l k (q .x) (q .y) → p ≡ at + k * plane
     → b ≡ rowsFill a o (l .image .width) (q .cols) (q .rows) (λ r i. getD src (p + r * step + i) nan) → b ≡ rectFilled l (k + 1) q (taken src at step plane) d
@@ -57,7 +57,7 @@ plane-next l src d a b at step plane q k o p ea eo ep eb =
 
 -- ---- a rectangle of a set as a picture over the filter region
 
--- a place of plane c, by planes
+-- an index of plane c, split into plane and index in it
 start-plane : (l : Layout) (x y at plane c : ℕ) → at ≡ (l .top + y) * l .image .width + (l .left + x) → plane ≡ l .image .height * l .image .width → at + c * plane ≡ rectStart l c x y
 start-plane l x y at plane c p q =
     rw (p, q) (omega (arith, mul-assoc c (l .image .height) (l .image .width), add-mul (c * l .image .height) (l .top + y) (l .image .width)))
@@ -90,7 +90,7 @@ source-room l n q len f =
       lies = λ c r C R. rw (start-plane l (q .x) (q .y) _ _ c refl refl) (plane-room l n c q len f C .rooms r R);
     }
 
--- ---- the tests
+-- ---- the code's tests
 module _ (l : Layout) (n : ℕ) (q : Rect) (len : ℕ) where
   pub no-set : setFits l n len ≡ false → false ≡ rectFits l n q len
   no-set e = rw e
@@ -142,7 +142,7 @@ module _ (l : Layout) (n : ℕ) (q : Rect) (src d : List Float) where
   unfolding copiedRect
   rect-copied f e = rw (rect-true l n q (length d) f, eq-eqb (length src) (length d) e)
 
-  -- what the loop over planes leaves
+  -- the set after the loop over planes
   pub copied-as : (a : List Float) → a ≡ rectFilled l n q (taken src (firstAt l q) (l .image .width) (l .image .height * l .image .width)) d → a ≡ rectFilled l n q (λ c i r. inner l src c (q .x + i) (q .y + r)) d
   copied-as a h = h ∙ planes-cong _ _ _ _ _ _ _ _ d n (λ c i r _ _ _. taken-inner l src (q .x) (q .y) _ _ c i r refl refl)
 
@@ -167,6 +167,6 @@ module _ (l : Layout) (n : ℕ) (q : Rect) (tile d : List Float) where
   unfolding storedTile
   tile-stored f e h k = rw (rect-true l n q (length d) f, eq-eqb (length tile) 1536 e, le-leb (q .rows) 8 h, le-leb (q .cols) 64 k)
 
-  -- its rows lie in it
+  -- the rectangle's rows lie inside the list
   pub tile-lies : n ≤ 3 → length tile ≡ 1536 → q .rows ≤ 8 → q .cols ≤ 64 → Lies 0 64 512 n (q .rows) (q .cols) (length tile)
   tile-lies f e h k c r C R = omega arith

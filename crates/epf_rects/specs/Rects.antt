@@ -1,4 +1,4 @@
--- Rectangles of a filter region in a set, stored from another list (this project's own term): what is asked, and what is left. Definitions only.
+-- Rectangles of a filter region in a set, copied from another list: when the arguments fit, and the set after the copy. Definitions only.
 use mathlib.Core.Path.{_≡_}
 use mathlib.Core.Bool.{Bool, cond, _&&_}
 use mathlib.Core.List.{List}
@@ -20,26 +20,26 @@ use Rattle.epf_sizes.specs.Sizes.{tileLength, tilePlane}
 abbrev pub taken : List Float → ℕ → ℕ → ℕ → Picture
 taken src at step plane = λ c i r. getD src (at + c * plane + r * step + i) nan
 
--- the rectangle of a set of n planes with that picture in it, counted from the rectangle's corner
+-- a set of n planes with picture v in the rectangle, counted from the rectangle's corner
 abbrev pub rectFilled : Layout → ℕ → Rect → Picture → List Float → List Float
 rectFilled l n q v d = planesFill (l .image .width) (l .image .height) (l .left + q .x) (q .cols) (l .top + q .y) (q .rows) v d n
 
--- a rectangle with some rows inside the filter region, and a set of n planes of that length
+-- the rectangle lies in the filter region and has at least one row, and `len` is the length of a set of n planes
 abbrev pub rectFits : Layout → ℕ → Rect → ℕ → Bool
 rectFits l n q len = setFits l n len && (leb (q .x + q .cols) (l .width) && (leb (q .y + q .rows) (l .height) && leb 1 (q .rows)))
 
--- what copying a rectangle leaves, and nothing where it or the sets do not fit
+-- the set after copying a rectangle; unchanged if the rectangle or the sets do not fit
 unfoldable pub copiedRect : Layout → ℕ → Rect → List Float → List Float → List Float
 copiedRect l n q src d = cond (rectFits l n q (length d) && eqb (length src) (length d)) (rectFilled l n q (λ c i r. inner l src c (q .x + i) (q .y + r)) d) d
 
--- what storing a tile of three planes of 8 rows of 64 columns leaves, and nothing where it, the rectangle or the set do not fit
+-- the set after storing a tile of three planes of 8 rows of 64 columns; unchanged if the tile, the rectangle or the set do not fit
 unfoldable pub storedTile : Layout → ℕ → Rect → List Float → List Float → List Float
 storedTile l n q tile d =
     cond (rectFits l n q (length d) && (eqb (length tile) tileLength && (leb (q .rows) 8 && leb (q .cols) 64))) (rectFilled l n q (taken tile 0 64 tilePlane) d) d
 
--- ---- what the loops ask
+-- ---- what the loops require
 
--- each row lies in the list
+-- each row lies inside the list
 abbrev pub Lies : ℕ → ℕ → ℕ → ℕ → ℕ → ℕ → ℕ → Type 0
 Lies at step plane planes rows cols len = (c r : ℕ) → c < planes → r < rows → at + c * plane + r * step + cols ≤ len
 

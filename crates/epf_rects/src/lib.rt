@@ -1,4 +1,4 @@
-// Rectangles of a filter region, stored from another list. These functions know no formula.
+// Copies rectangles of a filter region from another list. These functions only move data.
 use epf_sizes::STRIDE;
 use epf_sizes::TILE;
 use epf_sizes::TILE_PLANE;
@@ -14,7 +14,7 @@ ghost use lib.Ieee.{nan};
 ghost use Rattle.planes.specs.Rect.{rowsFill};
 ghost use Rattle.epf_rects.specs.Rects.{taken, Lies, rectFilled, rectFits, RectFits, copiedRect, storedTile};
 
-// Columns x to x + cols and rows y to y + rows of the filter region.
+// Columns x up to x + cols and rows y up to y + rows of the filter region.
 pub struct Rect {
     pub x: usize,
     pub y: usize,
@@ -22,7 +22,7 @@ pub struct Rect {
     pub cols: usize,
 }
 
-// Rows of n samples: a stride apart in dst, a step apart in the list they come from.
+// Copies rows of n samples that lie `stride` apart in `dst` and `step` apart in `src`.
 fn store_rows(
     dst: &mut [f32],
     at: usize,
@@ -44,7 +44,7 @@ fn store_rows(
     }
 }
 
-// A rectangle in each of n planes, from planes that lie so far apart.
+// Copies a rectangle to each of n planes. In `src` the planes lie `plane` apart and the rows `step` apart.
 fn store_planes(
     dst: &mut [f32],
     l: Layout,
@@ -73,7 +73,7 @@ fn store_planes(
     }
 }
 
-// Whether a rectangle with some rows lies in the filter region, and a slice of that length is a set of n planes.
+// Whether a rectangle of at least one row lies in the filter region, and `len` is the length of a set of n planes.
 pub fn rect_fits(l: Layout, n: usize, rect: Rect, len: usize) -> bool
     ensures { λ r. ⌜ r ≡ rectFits l n rect len ⌝ }
 {
@@ -95,7 +95,8 @@ pub fn rect_fits(l: Layout, n: usize, rect: Rect, len: usize) -> bool
     0 < rect.rows
 }
 
-// A rectangle of one set to the same place of another. Nothing where the rectangle or the sets do not fit.
+// Copies a rectangle of one set to the same positions of another. Does nothing if the rectangle or the sets do not
+// fit.
 pub fn copy_rect(dst: &mut [f32], src: &[f32], l: Layout, n: usize, rect: Rect)
     ensures { λ _. ⌜ now (dst .exit) ≡ copiedRect l n rect (now (src .entry)) (now (dst .entry)) ⌝ }
 {
@@ -110,8 +111,8 @@ pub fn copy_rect(dst: &mut [f32], src: &[f32], l: Layout, n: usize, rect: Rect)
     store_planes(dst, l, n, rect, src, from, stride, l.image.height * stride);
 }
 
-// The first rows and columns of a tile to a rectangle of a set. Nothing where the rectangle, the set or the tile do
-// not fit.
+// Copies the first rows and columns of a tile to a rectangle of a set. Does nothing if the rectangle, the set or the
+// tile do not fit.
 pub fn store_tile(dst: &mut [f32], tile: &[f32], l: Layout, n: usize, rect: Rect)
     ensures { λ _. ⌜ now (dst .exit) ≡ storedTile l n rect (now (tile .entry)) (now (dst .entry)) ⌝ }
 {

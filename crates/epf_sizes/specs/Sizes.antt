@@ -1,4 +1,4 @@
--- Sizes of a tile and of what is computed for it. Rows lie 64 samples apart, in a tile and in a window.
+-- Sizes of a tile and of the arrays computed for it. Rows lie 64 samples apart, in a tile and in a window.
 use Prim.Native.Nat.{ℕ}
 
 -- a tile's plane: 8 rows
@@ -13,11 +13,11 @@ tileLength = 1536
 abbrev pub windowPlane : ℕ
 windowPlane = 896
 
--- three planes' windows
+-- the windows of three planes
 abbrev pub windowsLength : ℕ
 windowsLength = 2688
 
--- where a tile's first sample is in its window: 3 rows down, 4 columns in
+-- index of a tile's first sample in its window: 3 rows down, 4 columns in
 abbrev pub windowCentre : ℕ
 windowCentre = 196
 

@@ -1,4 +1,4 @@
--- The slopes that the loops store are the definition's, and what the loops keep. Assumes nothing.
+-- The slopes that the loops store are those of the definition; loop invariants. Assumes nothing.
 use mathlib.Core.Path.{_≡_, refl, sym, ap, _∙_}
 use mathlib.Core.Bool.{Bool, true, false, cond, and-false}
 use mathlib.Core.List.{List}
@@ -15,12 +15,12 @@ use Rattle.epf_slopes.specs.Slopes.{slopeAt, firstSlope, slopesOf, Slope
 
 -- ---- the loops
 
--- of row and column only the remainders by 8 count
+-- only row and column modulo 8 matter
 pub multiplier-same : (m b : Float) (row row' col col' : ℕ) → border row ≡ border row' → col % 8 ≡ col' % 8 → multiplier m b row col ≡ multiplier m b row' col'
 unfolding multiplier border
 multiplier-same m b row row' col col' p q = rw (p, q)
 
--- one block more
+-- one more block
 pub block-next : (sigmas d a b : List Float) (first at k : ℕ) (scale edge s : Float) (row : ℕ) → a ≡ fill d at (k * 8) (slopeAt sigmas first scale edge row) → s ≡ falloff ⊘ getD sigmas (first + k) nan
     → b ≡ fill a (at + k * 8) 8 (λ i. s ⊗ multiplier scale edge row i) → b ≡ fill d at ((k + 1) * 8) (slopeAt sigmas first scale edge row)
 unfolding slopeAt
@@ -34,7 +34,7 @@ pub blocks-end : (sigmas d a : List Float) (first at k n : ℕ) (scale edge : Fl
     → a ≡ fill d at (n * 8) (slopeAt sigmas first scale edge row)
 blocks-end sigmas d a first at k n scale edge row e p q = let z : k ≡ n = omega arith in rw (← z) e
 
--- ---- the tests
+-- ---- the code's tests
 module _ (sigmas : List Float) (first blocks : ℕ) (scale edge : Float) (d : List Float) where
   pub many-blocks : 7 < blocks → d ≡ slopesOf sigmas first blocks scale edge d
   unfolding slopesOf
@@ -69,7 +69,7 @@ border-1 : border 1 ≡ false
 unfolding border
 border-1 = refl
 
--- the slope of a column, by its image row
+-- the slope of a column, by its row y
 pub slope-of : (sigmas slopes : List Float) (first blocks : ℕ) (scale edge : Float) (row i : ℕ) → Sloped sigmas first blocks scale edge slopes → i < blocks * 8
     → getD slopes (firstSlope row + i) nan ≡ falloff ⊘ getD sigmas (first + i / 8) nan ⊗ multiplier scale edge row i
 unfolding slopeAt
@@ -79,7 +79,7 @@ slope-of sigmas slopes first blocks scale edge row i s h = go (border row) refl
     go true e = s .outer i h ∙ rw (multiplier-same scale edge 0 row i i (border-0 ∙ sym e) refl)
     go false e = s .inner i h ∙ rw (multiplier-same scale edge 1 row i i (border-1 ∙ sym e) refl)
 
--- the image row's remainder counts
+-- only the row modulo 8 matters
 pub first-same : (k top r : ℕ) → k ≡ firstSlope (top % 8 + r) → k ≡ firstSlope (top + r)
 unfolding border
 first-same k top r e = let z : (top % 8 + r) % 8 ≡ (top + r) % 8 = omega arith in e ∙ rw z

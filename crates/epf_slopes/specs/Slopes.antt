@@ -1,5 +1,5 @@
--- The slopes of a tile's columns (Specification 11.5, 11.7): (6.6 × (s − 1)) / sigma × M, for rows that lie at no block's border and for those that do.
--- Definitions only.
+-- The slopes of a tile's columns (Specification 11.5, 11.7): (6.6 × (s − 1)) / sigma × M, for rows inside a block and for rows at a block's
+-- border. Definitions only.
 use mathlib.Core.Path.{_≡_}
 use mathlib.Core.Bool.{cond, _&&_}
 use mathlib.Core.List.{List}
@@ -13,20 +13,20 @@ use Rattle.epf_step.specs.Steps.{falloff, border, multiplier}
 
 -- ---- the definitions
 
--- the slope of column i; block 0 has the sigma at index `first`, and `row` says whether the row lies at a border
+-- the slope of column i; the sigma of block 0 is at index `first`, and `row` decides whether the row is at a border
 unfoldable pub slopeAt : List Float → ℕ → Float → Float → ℕ → ℕ → Float
 slopeAt sigmas first scale edge row i = falloff ⊘ getD sigmas (first + i / 8) nan ⊗ multiplier scale edge row i
 
--- slopes of rows at a block's border stand after those of the others
+-- the slopes of rows at a block's border come after those of the other rows
 abbrev pub firstSlope : ℕ → ℕ
 firstSlope row = cond (border row) 64 0
 
--- what is left of a list: both kinds of rows, of which image row 1 stands for those at no border and row 0 for those at one
+-- the list after both kinds of slopes are stored; row 1 represents the rows inside a block, row 0 those at a border
 unfoldable pub slopesOf : List Float → ℕ → ℕ → Float → Float → List Float → List Float
 slopesOf sigmas first blocks scale edge d =
     cond (leb blocks 7 && leb (first + blocks) (length sigmas)) (fill (fill d 0 (blocks * 8) (slopeAt sigmas first scale edge 1)) 64 (blocks * 8) (slopeAt sigmas first scale edge 0)) d
 
--- ---- what a caller reads
+-- ---- what callers use
 
 pub record Sloped (sigmas : List Float) (first blocks : ℕ) (scale edge : Float) (slopes : List Float) : Type 0 where
   pub long : length slopes ≡ 128

@@ -1,5 +1,5 @@
-// The slopes of a tile's columns, from the sigmas of its blocks: those of rows at no block's border, then those of
-// rows that lie at one.
+// The slopes of a tile's columns, from the sigmas of its blocks: first for rows inside a block, then for rows at a
+// block's border.
 use epf_step::at_border;
 use epf_step::multiplier;
 use epf_step::slope;
@@ -12,20 +12,20 @@ ghost use Rattle.planes.specs.Fill.{fill};
 ghost use Rattle.epf_step.specs.Steps.{multiplier as multiplierOf};
 ghost use Rattle.epf_slopes.specs.Slopes.{slopeAt, firstSlope, slopesOf};
 
-// The most blocks of a tile.
+// The largest number of blocks in a tile.
 const BLOCKS: usize = 7;
 
-// Where the slopes of border rows start, and how many slopes there are.
+// Where the slopes of border rows start, and the number of slopes.
 const BORDER: usize = 64;
 
 pub const SLOPES: usize = 128;
 
-// Image rows that stand for those at no border and for those at one.
+// A row that is not at a block's border, and one that is; they represent all others.
 const INNER_ROW: usize = 1;
 
 const BORDER_ROW: usize = 0;
 
-// Where the slopes of a row of the image start.
+// Where the slopes of the row at y = `row` start.
 pub fn first_slope(row: usize) -> usize
     ensures { λ r. ⌜ r ≡ firstSlope row ⌝ }
 {
@@ -35,7 +35,7 @@ pub fn first_slope(row: usize) -> usize
     0
 }
 
-// Eight columns of a block.
+// Computes the slopes of the eight columns of a block.
 fn block_slopes(
     slopes: &mut [f32; SLOPES],
     at: usize,
@@ -55,7 +55,7 @@ fn block_slopes(
     }
 }
 
-// The columns of some blocks, of rows like this one.
+// Computes the slopes of all columns of the blocks, for rows like `row`.
 fn row_slopes(
     slopes: &mut [f32; SLOPES],
     at: usize,
@@ -78,8 +78,8 @@ fn row_slopes(
     }
 }
 
-// The slopes of at most seven blocks, whose sigmas start at `first`, with `border_sad_mul` as `edge`. Nothing for
-// more blocks or where sigmas are missing.
+// Computes the slopes of at most seven blocks, whose sigmas start at index `first`; `edge` is `border_sad_mul`. Does
+// nothing if there are more blocks or sigmas are missing.
 pub fn tile_slopes(
     slopes: &mut [f32; SLOPES],
     sigmas: &[f32],

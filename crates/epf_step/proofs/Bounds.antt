@@ -1,4 +1,4 @@
--- The bounds that specs/Bounds.antt states: weights in 0 to 1, divisors in 1 to 5 or 13. Assumes nothing.
+-- The bounds of specs/Bounds.antt: weights from 0 to 1, divisors from 1 to 5 or 13. Assumes nothing.
 use mathlib.Core.Path.{_≡_, refl, ap}
 use mathlib.Core.Logic.{_⊎_, inl, inr}
 use mathlib.Core.Bool.{Bool, true, false, not, _||_, false≢true, true≢false}
@@ -48,7 +48,7 @@ falloff-side = inl refl
 zero-side : Side false b0
 zero-side = rw zero-is (inl refl)
 
--- ---- the tests
+-- ---- the tests of floats
 
 side-of : (x : Float) → T (notNegative x) → Side false x
 side-of x h = not-negative x (rw zero-is at h)
@@ -84,7 +84,7 @@ reached : (sigma limit : Float) → copied sigma limit ≡ false → T (not (lt 
 unfolding copied
 reached sigma limit e = rw e tt
 
--- ---- the distances are not below zero
+-- ---- distances are not below zero
 
 magnitude-side : (x : Float) → Side false (magnitude x)
 unfolding magnitude
@@ -109,9 +109,9 @@ module _ (v : Around) (k : Offset) where
       go d [] h p = h
       go d (c ∷ cs) h p = go _ cs (add-side binary32 false d _ h (mul-side binary32 false false (c .1) _ (side-of (c .1) (p .0)) (apart-side ds (c .0)))) (p .1)
 
--- ---- 1 plus what is not above zero, cut off at 0
+-- ---- 1 plus a number that is not above zero, with negatives replaced by 0
 
--- it is in 0 to 1, or not above zero
+-- the sum is from 0 to 1, or not above zero
 abbrev Low : Float → Type 0
 Low x = Within 0 1 x ⊎ Side true x
 
@@ -163,11 +163,11 @@ pub one-within : Within 1 1 b1
 unfolding ofBits
 one-within = (refl, lit≤ tt, lit≤ tt)
 
--- and weights added to it
+-- adding weights to it
 pub sum-within : (s w : Float) (b : ℕ) → b + 1 ≤ 2 ^ 24 → Within 1 b s → Within 0 1 w → Within 1 (b + 1) (s ⊕ w)
 sum-within s w b h = add-within binary32 s w 1 b 0 1 h
 
--- as many as the step has neighbours
+-- as many weights as the step has neighbours
 pub most-within : (step : ℕ) (s : Float) → Within 1 (1 + length (kernel step)) s → Between b1 (most step) s
 most-within step s = within-le b1 (most step) s 1 (1 + length (kernel step)) one-value (most-value step)
 
@@ -182,7 +182,7 @@ module _ (cs : List Scaled) (ks ds : List Offset) (limit sigma m : Float) (v : A
   unfolding weightAt
   at-within k = weight-within (distance cs ds v k) (falloff ⊘ sigma ⊗ m) (distance-not-negative cs ds v k scales) (slope-not-positive limit sigma m over uncopied gain)
 
-  -- the sum so far is at most b, and there are so many weights to come
+  -- the sum so far is at most b, and this many weights remain
   more : (s : Float) (b : ℕ) (l : List Offset) → b + length l ≤ 2 ^ 24 → Within 1 b s → Within 1 (b + length l) (along (λ (x : Float) (k : Offset). x ⊕ weightAt cs ks ds sigma m v k) s l)
   unfolding along
   more s b [] h w = rw add-zero w

@@ -1,4 +1,5 @@
--- A step's sample depends on what its reader shows within the step's reach, in the channels that it compares and its own. Assumes nothing.
+-- A step's sample depends only on samples within the step's reach, in its own channel and the channels that a distance compares. Assumes
+-- nothing.
 use mathlib.Core.Path.{_≡_, refl}
 use mathlib.Core.Bool.{Bool, _&&_}
 use mathlib.Core.List.{List, [], _∷_}
@@ -12,19 +13,19 @@ use Rattle.planes.specs.Picture.{Around}
 use Rattle.epf_step.specs.Steps.{Offset, Scaled, kernel, dists, reach, along, scaledFrom, scaled, apart, distance, weightAt, blend, divisor, epf}
 use Rattle.epf_step.specs.Channels.{all, channelsBelow}
 
--- two readers show the same in channels below n and offsets of at most r
+-- two readers agree in channels below n at offsets of at most r
 abbrev pub Alike : ℕ → ℕ → Around → Around → Type 0
 Alike n r u v = (c : ℕ) (dx dy : ℤ) → c < n → natAbs dx ≤ r → natAbs dy ≤ r → u c dx dy ≡ v c dx dy
 
 unfoldable pub near : ℕ → Offset → Bool
 near r o = leb (natAbs (o .0)) r && leb (natAbs (o .1)) r
 
--- where a distance to k reads
+-- the offsets that a distance to k reads
 unfoldable pub distsNear : ℕ → List Offset → Offset → Bool
 unfolding near all
 distsNear r ds k = all (λ (i : Offset). near r (k .0 +ℤ i .0, k .1 +ℤ i .1) && near r i) ds
 
--- where a step reads
+-- the offsets that a step reads
 unfoldable pub stepNear : ℕ → List Offset → List Offset → Bool
 unfolding near all distsNear
 stepNear r ks ds = all (λ (k : Offset). near r k && distsNear r ds k) ks
@@ -86,7 +87,7 @@ module _ (n r : ℕ) (u v : Around) (same : Alike n r u v) where
     divisor-same = along-cong (λ (k : Offset). near r k && distsNear r ds k) _ _
         (λ b k p. rw (weightAt-same k (and-r (near r k) (distsNear r ds k) p))) ks t _
 
-    -- readers that are alike within the step's reach give one sample
+    -- readers that agree within the step's reach give the same sample
     pub epf-same : (limit : Float) (c : ℕ) → c < n → epf cs ks ds sigma m limit u c ≡ epf cs ks ds sigma m limit v c
     unfolding epf
     epf-same limit c h = rw (centre c h, blend-same c h, divisor-same)

@@ -1,4 +1,5 @@
--- The lists of offsets are those of the rule, each offset once: computed for the 25 offsets of at most 2 each way; no list has one of another size. Assumes nothing.
+-- The lists have exactly the offsets of the rule, each once. Computed for the 25 offsets of at most 2 in each direction; no list has any
+-- other. Assumes nothing.
 use mathlib.Core.Path.{_≡_, refl, ap}
 use mathlib.Core.Bool.{Bool, true, false, cond, _&&_}
 use mathlib.Core.List.{List, [], _∷_}
@@ -12,7 +13,7 @@ use lib.IntN.{ℤ, pos, negsuc, natAbs}
 use Rattle.epf_step.specs.Steps.{Offset, kernel, dists}
 use Rattle.epf_step.specs.Offsets.{taxicab, isNeighbour, isCompared, sameNumber, occurrences, KernelOffsets, DistanceOffsets}
 
--- ---- offsets of at most 2 each way
+-- ---- offsets of at most 2 in each direction
 
 abbrev Five : (ℤ → Type 0) → Type 0
 Five P = P (negsuc 1) × P (negsuc 0) × P (pos 0) × P (pos 1) × P (pos 2)
@@ -26,7 +27,7 @@ five P t (negsuc zero) h = t .1
 five P t (negsuc (suc zero)) h = t .0
 five P t (negsuc (suc (suc n))) h = absurd (omega arith)
 
--- as often as the rule says, at each of the 25
+-- each of the 25 occurs as often as the rule says
 abbrev Square : List Offset → (Offset → Bool) → Type 0
 Square l p = Five (λ dx. Five (λ dy. occurrences (dx, dy) l ≡ cond (p (dx, dy)) 1 0))
 
@@ -36,7 +37,7 @@ square l p t o h =
     (five (λ dx. Five (λ dy. occurrences (dx, dy) l ≡ cond (p (dx, dy)) 1 0)) t (o .0) (omega arith))
     (o .1) (omega arith)
 
--- ---- others stand in no list
+-- ---- no list has any other
 
 allNear : List Offset → Bool
 allNear [] = true

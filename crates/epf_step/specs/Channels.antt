@@ -5,7 +5,7 @@ use Prim.Native.Nat.{ℕ}
 use lib.Dec.{ltb}
 use Rattle.epf_step.specs.Steps.{Scaled}
 
--- ---- what is within r
+-- ---- all elements of a list
 
 unfoldable pub all : {A : Type 0} → (A → Bool) → List A → Bool
 all p [] = true

@@ -1,5 +1,5 @@
--- The rule behind the lists of offsets (ISO/IEC 18181-1, edge-preserving filter; Specification 11.10): which offsets a step has, each exactly once.
--- The lists, `kernel` and `dists`, have them in the original's order. proofs/Offsets.antt proves the statements.
+-- The rule behind the lists of offsets (ISO/IEC 18181-1, edge-preserving filter; Specification 11.10): which offsets a step has, each
+-- exactly once. The lists `kernel` and `dists` have them in the original's order. proofs/Offsets.antt proves the statements.
 use mathlib.Core.Path.{_≡_}
 use mathlib.Core.Bool.{Bool, false, cond, _&&_}
 use mathlib.Core.List.{List, [], _∷_}
@@ -29,17 +29,17 @@ sameNumber (pos m) (negsuc n) = false
 sameNumber (negsuc m) (pos n) = false
 sameNumber (negsuc m) (negsuc n) = eqb m n
 
--- how often an offset stands in a list
+-- how often an offset occurs in a list
 unfoldable pub occurrences : Offset → List Offset → ℕ
 occurrences o [] = 0
 occurrences o (k ∷ ks) = cond (sameNumber (o .0) (k .0) && sameNumber (o .1) (k .1)) 1 0 + occurrences o ks
 
 -- ---- the statements
 
--- every offset, of any size, stands once in the list if it is a neighbour, and else never
+-- every offset, of any size, occurs once in the list if it is a neighbour, and never otherwise
 abbrev pub KernelOffsets : Type 0
 KernelOffsets = (step : ℕ) (o : Offset) → occurrences o (kernel step) ≡ cond (isNeighbour step o) 1 0
 
--- so for the places that a distance compares
+-- the same for the offsets at which a distance compares samples
 abbrev pub DistanceOffsets : Type 0
 DistanceOffsets = (step : ℕ) (o : Offset) → occurrences o (dists step) ≡ cond (isCompared step o) 1 0

@@ -1,5 +1,5 @@
--- One sample of an edge-preserving step (Specification 11; ISO/IEC 18181-1, the edge-preserving filter), and a step over a picture.
--- Everything is over the step, a reader of samples, the channels with their scales and the copying limit. Each operation is rounded once. Definitions only.
+-- One sample of a step of the edge-preserving filter (Specification 11; ISO/IEC 18181-1), and a step over a picture. The parameters are the
+-- step, a reader of samples, the channels with their scales, and the copying limit. Each operation is rounded once. Definitions only.
 use mathlib.Core.Bool.{Bool, cond, _||_}
 use mathlib.Core.List.{List, [], _∷_}
 use Prim.Native.Nat.{ℕ, zero, suc, _+_, _-_, _/_, _%_}
@@ -11,7 +11,7 @@ use Rattle.rounding.specs.Magnitude.{magnitude}
 use Rattle.planes.specs.Samples.{_⊕_, _⊖_, _⊗_, _⊘_, bits, b0, b1}
 use Rattle.planes.specs.Picture.{Picture, Around, around}
 
--- so many columns to the right and so many rows down
+-- columns to the right and rows down
 abbrev pub Offset : Type 0
 Offset = ℤ × ℤ
 
@@ -23,7 +23,7 @@ kernel zero =
     ∷ (negsuc 0, pos 1) ∷ (pos 0, pos 1) ∷ (pos 1, pos 1) ∷ (pos 0, pos 2) ∷ []
 kernel (suc s) = (pos 0, negsuc 0) ∷ (pos 0, pos 1) ∷ (negsuc 0, pos 0) ∷ (pos 1, pos 0) ∷ []
 
--- `epf_dist_offsets`: where a distance compares samples. Steps 0 and 1 take the same five in different orders.
+-- `epf_dist_offsets`: the offsets at which a distance compares samples. Steps 0 and 1 have the same five in different orders.
 unfoldable pub dists : ℕ → List Offset
 dists zero = (pos 0, negsuc 0) ∷ (pos 1, pos 0) ∷ (pos 0, pos 0) ∷ (negsuc 0, pos 0) ∷ (pos 0, pos 1) ∷ []
 dists (suc zero) = (pos 0, negsuc 0) ∷ (pos 0, pos 0) ∷ (pos 0, pos 1) ∷ (negsuc 0, pos 0) ∷ (pos 1, pos 0) ∷ []
@@ -33,7 +33,7 @@ dists (suc (suc s)) = (pos 0, pos 0) ∷ []
 abbrev pub reach : ℕ → ℕ
 reach step = 3 - step
 
--- a list folded from its first element on
+-- a fold from the first element on
 unfoldable pub along : {A B : Type 0} → (B → A → B) → B → List A → B
 along f b [] = b
 along f b (a ∷ l) = along f (f b a) l
@@ -53,15 +53,15 @@ scaledFrom c (suc n) ss = (c, getD ss c nan) ∷ scaledFrom (suc c) n ss
 abbrev pub scaled : ℕ → List Float → List Scaled
 scaled n ss = scaledFrom 0 n ss
 
--- channel c: the sum of |differences| between the sample's surroundings and those of its neighbour at k
+-- channel c: the sum of |differences| between the samples around the neighbour at k and those around the centre
 unfoldable pub apart : List Offset → Around → ℕ → Offset → Float
 apart ds v c k = along (λ (a : Float) (i : Offset). a ⊕ magnitude (v c (k .0 +ℤ i .0) (k .1 +ℤ i .1) ⊖ v c (i .0) (i .1))) b0 ds
 
--- the scaled sums of the channels in order
+-- the sum of the channels' scaled sums, in order
 unfoldable pub distance : List Scaled → List Offset → Around → Offset → Float
 distance cs ds v k = along (λ (d : Float) (c : Scaled). d ⊕ c .1 ⊗ apart ds v (c .0) k) b0 cs
 
--- ---- its weight
+-- ---- the weight of a neighbour
 
 -- NaN and negatives become 0
 unfoldable pub positive : Float → Float
@@ -81,7 +81,7 @@ weight sigma m d = weightBy (falloff ⊘ sigma ⊗ m) d
 
 -- ---- the sample
 
--- Sigma under the limit copies the sample. NaN is under no limit.
+-- A sigma below the limit copies the sample. NaN is not below the limit.
 unfoldable pub copied : Float → Float → Bool
 copied sigma limit = lt sigma limit
 
@@ -98,7 +98,7 @@ module _ (cs : List Scaled) (ks ds : List Offset) (sigma m : Float) where
   unfoldable pub blend : Around → ℕ → Float
   blend v c = along (λ (s : Float) (k : Offset). s ⊕ weightAt v k ⊗ v c (k .0) (k .1)) (v c (pos 0) (pos 0)) ks
 
-  -- 1 plus the weights
+  -- 1 plus the sum of the weights
   unfoldable pub divisor : Around → Float
   divisor v = along (λ (s : Float) (k : Offset). s ⊕ weightAt v k) b1 ks
 
@@ -108,15 +108,15 @@ module _ (cs : List Scaled) (ks ds : List Offset) (sigma m : Float) where
 
 -- ---- a step over a picture
 
--- a row or a column at the border of an 8 × 8 block
+-- whether a row or a column is at the border of an 8 × 8 block
 unfoldable pub border : ℕ → Bool
 border p = eqb (p % 8) 0 || eqb (p % 8) 7
 
--- M: the step's scale, times the border multiplier where the row or the column lies at a block's border, once only
+-- M: the step's scale, times the border multiplier if the row or the column is at a block's border; once, also if both are
 unfoldable pub multiplier : Float → Float → ℕ → ℕ → Float
 multiplier m b row col = cond (border row || border col) (m ⊗ b) m
 
--- all that a step reads besides samples and sigmas: `multiplier` is the step's scale, `borderMul` the border multiplier
+-- everything that a step reads besides samples and sigmas: `multiplier` is the step's scale, `borderMul` the border multiplier
 pub record EpfPass : Type 0 where
   pub step : ℕ
   pub limit : Float
@@ -124,7 +124,7 @@ pub record EpfPass : Type 0 where
   pub multiplier : Float
   pub borderMul : Float
 
--- The step over a filter region of w columns and h rows. Row y of it is row top + y of the image, counted as left and top are; sigma is by a block's column and row.
+-- The step over a filter region of w columns and h rows. Its row r is at y = top + r; `sigma` takes a block's column and row.
 unfoldable pub epfPass : EpfPass → ℕ → ℕ → ℕ → (ℕ → ℕ → Float) → Picture → Picture
 epfPass e w h top sigma g = λ c x y.
     epf (e .scales) (kernel (e .step)) (dists (e .step)) (sigma (x / 8) (y / 8)) (multiplier (e .multiplier) (e .borderMul) (top + y) x) (e .limit) (around w h g x y) c

@@ -1,4 +1,4 @@
--- Tiles beside each other make a strip, strips below each other rows of the filter region. Assumes nothing.
+-- Tiles side by side make a strip; strips make rows of the filter region. Assumes nothing.
 use mathlib.Core.Path.{_≡_, refl, sym, _∙_}
 use mathlib.Core.Bool.{true, false, and-false}
 use mathlib.Core.List.{List}
@@ -70,7 +70,7 @@ module _ (l : Layout) (n : ℕ) (s : Step) (top len count y rows x cols : ℕ) (
   pub tile-sigmas : x < l .width → x % 8 ≡ 0 → cols ≡ min (l .width - x) 56 → sigmaStart l x y + blocksAlong cols ≤ count
   tile-sigmas h m e = omega (arith, strip-sigmas .0)
 
--- one tile more
+-- one more tile
 module _ (l : Layout) (n : ℕ) (p : Picture) (top len : ℕ) (d a b : List Float) (y rows x cols : ℕ) (long : length d ≡ n * l .image .height * l .image .width) (lay : LayoutFits l) (deep : y + rows ≤ l .height) where
   pub tile-beside : x + cols ≤ l .width
       → a ≡ planesFill (l .image .width) (l .image .height) (l .left) x (l .top + y) rows (λ c i r. p c i (y + r)) d n
@@ -80,7 +80,7 @@ module _ (l : Layout) (n : ℕ) (p : Picture) (top len : ℕ) (d a b : List Floa
       rect-beside n (l .image .width) (l .image .height) n (omega arith) (l .left) x cols (l .top + y) rows _ _ (λ c i r. p c i (y + r)) d a b long (omega (arith, lay .across)) (omega (arith, lay .down)) ea eb
       (λ c i r _ _ _. refl) (λ c i r _ _ _. refl)
 
--- one strip more
+-- one more strip
 pub strip-below : (l : Layout) (n : ℕ) (p : Picture) (d a b : List Float) (from y rows : ℕ) → length d ≡ n * l .image .height * l .image .width → LayoutFits l → from ≤ y → y + rows ≤ l .height
     → a ≡ planesFill (l .image .width) (l .image .height) (l .left) (l .width) (l .top + from) (y - from) (λ c i r. p c i (from + r)) d n
     → b ≡ planesFill (l .image .width) (l .image .height) (l .left) (l .width) (l .top + y) rows (λ c i r. p c i (y + r)) a n
@@ -148,7 +148,7 @@ module _ (n : ℕ) (l : Layout) (s : Step) (top from to : ℕ) (sigmas src dst :
         le-leb to (l .height) q,
       )
 
--- the blocks of a filter region, in numbers of the machine
+-- the blocks of a filter region, in machine integers
 pub record BlocksRoom (l : Layout) : Type 0 where
   pub high : l .height ≤ 16384
   pub wide : l .width ≤ 16384

@@ -1,4 +1,4 @@
--- A tile of a step: what is computed from its windows, and copied where the sigma says so, is the step over the filter region. Assumes nothing.
+-- A tile computed from its windows, with the copied blocks restored, equals the step over the filter region. Assumes nothing.
 use mathlib.Core.Path.{_≡_, refl, sym, ap, _∙_}
 use mathlib.Core.Bool.{Bool, true, false, cond}
 use mathlib.Core.List.{List}
@@ -43,9 +43,9 @@ use Rattle.epf_tiles.specs.declared.Step.{Step}
 use Rattle.epf_tiles.specs.Blocks.{blockColumns, sigmaOf}
 use Rattle.epf_tiles.specs.Tile.{stepOver, TileFits, sigmaStart, sigmaFirst, sigmaIn, mixed, Scratch, Filtered, FilteredBy, Restored}
 
--- ---- what a lane sees is what the definition sees
+-- ---- a lane sees the samples of the definition
 
--- an offset of at most r, from the window's side
+-- an offset of at most r, counted from the window's corner
 shifted : (z m r : ℕ) (d : ℤ) → r ≤ m → natAbs d ≤ r → (pos z +ℤ d ≡ subℕ (z + natAbs (pos m +ℤ d)) m) × (m ≤ natAbs (pos m +ℤ d) + r) × (natAbs (pos m +ℤ d) ≤ m + r)
 shifted z m r (pos a) h l = (rw (le-ltb (z + (m + a)) m (omega arith)) (ap pos (omega arith)), omega arith, omega arith)
 shifted z m r (negsuc b) h l =
@@ -100,7 +100,7 @@ module _ (l : Layout) (n : ℕ) (s : Step) (top : ℕ) (sigmas src : List Float)
       let f : copied (sigmaOf (blockColumns l) sigmas ((x + i) / 8) ((y + r) / 8)) (s .limit) ≡ true = rw (sigma-is r i R I) at e in
       rw f (sym (around-inside (l .width) (l .height) (inner l src) (x + i) (y + r) c (pos 0) (pos 0) (x + i) (y + r) (ap pos (omega arith)) (ap pos (omega arith)) (omega (arith, fits .across)) (omega (arith, fits .down))))
 
-  -- a filtered one, through a reader that shows what the definition sees
+  -- a filtered sample, through a reader that agrees with the definition's
   pub reader-is : (v : Around) (c r i : ℕ) → s .step < 3 → c < n → r < q .rows → i < q .cols → copied (sigmaIn l q sigmas i) (s .limit) ≡ false
       → Alike n (reach (s .step)) v (around (l .width) (l .height) (inner l src) (x + i) (y + r))
       → blend (scaled n (s .scales)) (kernel (s .step)) (dists (s .step)) (sigmaIn l q sigmas i) (factor r i) v c ⊘ divisor (scaled n (s .scales)) (kernel (s .step)) (dists (s .step)) (sigmaIn l q sigmas i) (factor r i) v
@@ -134,7 +134,7 @@ module _ (l : Layout) (n : ℕ) (s : Step) (top : ℕ) (sigmas src : List Float)
         (slope-of sigmas slopes (sigmaFirst l q) (blocksAlong (q .cols)) (s .scale) (s .edge) (top + y + r) i steep (omega arith))
         ∙ reader-is (seen win (r * 64 + i)) c r i low C R I uncopied (windows-alike l src win w₀ n st x y (q .rows) (q .cols) (fits .few) low small (fits .wide) lw ew r i R I)
 
-    -- the same from the planes, where the tile has samples on every side
+    -- the same from the planes, if the tile has samples on every side
     pub inside-is : n ≡ 3 → s .step ≡ 2 → Inside l q → (c r i : ℕ) → c < n → r < q .rows → i < q .cols → copied (sigmaIn l q sigmas i) (s .limit) ≡ false
         → insideOf l src (s .scales) slopes (top + y) q c i r ≡ stepOver n l s top sigmas src c (x + i) (y + r)
     unfolding insideOf
@@ -142,7 +142,7 @@ module _ (l : Layout) (n : ℕ) (s : Step) (top : ℕ) (sigmas src : List Float)
         inside-means src (l .image .width) (l .image .height * l .image .width) (s .scales) slopes (firstSlope (top + y + r)) (cornerOf l q r) n (s .step) _ _ c i three two (slope-of sigmas slopes (sigmaFirst l q) (blocksAlong (q .cols)) (s .scale) (s .edge) (top + y + r) i steep (omega arith))
         ∙ reader-is (beside src (l .image .width) (l .image .height * l .image .width) (cornerOf l q r + i)) c r i (omega arith) C R I uncopied (rw (three, two) (beside-alike l src q f r i R I))
 
--- ---- copied columns over filtered ones
+-- ---- copied columns in place of filtered ones
 module _ (l : Layout) (n : ℕ) (limit : Float) (sigmas src : List Float) (first : ℕ) (q : Rect) (o : Picture) where
   pub mixed-none : (d a : List Float) → a ≡ rectFilled l n q o d → a ≡ rectFilled l n q (mixed l n limit sigmas src first q o 0) d
   unfolding mixed
@@ -160,7 +160,7 @@ module _ (l : Layout) (n : ℕ) (limit : Float) (sigmas src : List Float) (first
           rw (le-ltb i (b * 8) (omega arith), lt-ltb i ((b + 1) * 8) k, z, u)
       go c i r (no p) (no k) = rw (le-ltb i (b * 8) (omega arith), le-ltb i ((b + 1) * 8) (omega arith))
 
-  -- one that is: m columns of it
+  -- a block that is copied: m columns of it
   pub mixed-copied : (d a f : List Float) (b m : ℕ) → RectFits l n q (length d) → b * 8 < q .cols → m ≡ min (q .cols - b * 8) 8 → copied (getD sigmas (first + b) nan) limit ≡ true → a ≡ rectFilled l n q (mixed l n limit sigmas src first q o b) d
       → f ≡ rectFilled l n (record { x = q .x + b * 8; y = q .y; rows = q .rows; cols = m }) (λ c i r. inner l src c (q .x + b * 8 + i) (q .y + r)) a → f ≡ rectFilled l n q (mixed l n limit sigmas src first q o (b + 1)) d
   unfolding mixed
@@ -189,7 +189,7 @@ module _ (l : Layout) (n : ℕ) (limit : Float) (sigmas src : List Float) (first
   pub restored-none : (d : List Float) → Restored l n limit sigmas src first q 0 d d
   restored-none d o e len p = mixed-none l n limit sigmas src first q o e d p
 
-  -- one block more
+  -- one more block
   pub restored-next : (d a f : List Float) (b m : ℕ) → b * 8 < q .cols → m ≡ min (q .cols - b * 8) 8 → Restored l n limit sigmas src first q b d a
       → f ≡ cond (copied (getD sigmas (first + b) nan) limit) (rectFilled l n (record { x = q .x + b * 8; y = q .y; rows = q .rows; cols = m }) (λ c i r. inner l src c (q .x + b * 8 + i) (q .y + r)) a) a
       → Restored l n limit sigmas src first q (b + 1) d f
@@ -205,14 +205,14 @@ module _ (l : Layout) (n : ℕ) (limit : Float) (sigmas src : List Float) (first
   pub restored-end : (d a : List Float) (b k : ℕ) → b ≡ k → Restored l n limit sigmas src first q b d a → Restored l n limit sigmas src first q k d a
   restored-end d a b k e h = rw (← e) h
 
--- a block as it is where it is copied
+-- a block that is copied keeps the samples of `src`
 pub block-kept : (k r : Bool) (p d : List Float) → r ≡ k → r ≡ false → d ≡ cond k p d
 block-kept k r p d e f = let z : k ≡ false = sym e ∙ f in rw z
 
 pub block-copied : (k r : Bool) (p d a : List Float) → r ≡ k → r ≡ true → a ≡ p → a ≡ cond k p d
 block-copied k r p d a e f g = let z : k ≡ true = sym e ∙ f in rw z g
 
--- ---- a tile is computed
+-- ---- how a tile is computed
 module _ (l : Layout) (n : ℕ) (s : Step) (top : ℕ) (src : List Float) (q : Rect) (fits : TileFits l n q) (d : List Float) (room : RectFits l n q (length d)) (same : length src ≡ length d) where
   pub window-fits : s .step < 3 → WindowFits l n (length src) (q .x) (q .y) (s .step) (q .rows + 6 - 2 * s .step) (q .cols + 8)
   window-fits low = record {
@@ -279,14 +279,14 @@ module _ (l : Layout) (n : ℕ) (s : Step) (top : ℕ) (src : List Float) (q : R
         → Sloped sigmas (sigmaFirst l q) (blocksAlong (q .cols)) (s .scale) (s .edge) slopes
     tile-sloped e slopes h k p = sloped sigmas e slopes (sigmaFirst l q) (blocksAlong (q .cols)) (s .scale) (s .edge) (omega (arith, fits .wide)) h k p
 
-    -- with its copied blocks restored it is the step
+    -- with its copied blocks restored it equals the step
     pub tile-done : (a b : List Float) → Filtered l n s top sigmas src q d a → Restored l n (s .limit) sigmas src (sigmaFirst l q) q (blocksAlong (q .cols)) a b
         → b ≡ rectFilled l n q (λ c i r. stepOver n l s top sigmas src c (q .x + i) (q .y + r)) d
     tile-done a b f g =
         mixed-end l n (s .limit) sigmas src (sigmaFirst l q) q (f .lanes) d b (blocksAlong (q .cols)) (λ c i r. stepOver n l s top sigmas src c (q .x + i) (q .y + r)) (omega arith)
         (g (f .lanes) d room (f .stored)) (λ c r i C R I u. copied-is l n s top sigmas src q fits c r i R I u) (f .right)
 
-    -- and so is the rectangle as it was, where all its blocks are copied
+    -- and so does the copied rectangle, if all its blocks are copied
     pub tile-copied : (a : List Float) → ((b : ℕ) → b < blocksAlong (q .cols) → copied (getD sigmas (sigmaFirst l q + b) nan) (s .limit) ≡ true) → a ≡ copiedRect l n q src d
         → a ≡ rectFilled l n q (λ c i r. stepOver n l s top sigmas src c (q .x + i) (q .y + r)) d
     tile-copied a h e = e ∙ rect-copied l n q src d room same ∙ planes-cong _ _ _ _ _ _ _ _ d n (λ c i r C I R. copied-is l n s top sigmas src q fits c r i R I (h (i / 8) (omega arith)))

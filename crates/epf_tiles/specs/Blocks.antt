@@ -1,4 +1,4 @@
--- The blocks of a filter region (Specification 2.3, 7.8): how many lie beside and below each other, and the sigma of each. Definitions only.
+-- The blocks of a filter region (Specification 2.3, 7.8): how many there are across and down, and the sigma of each. Definitions only.
 use mathlib.Core.List.{List}
 use Prim.Native.Nat.{ℕ, _+_, _*_}
 use lib.ListN.{getD}
@@ -10,10 +10,10 @@ use Rattle.planes.specs.declared.Layout.{Layout}
 abbrev pub blockColumns : Layout → ℕ
 blockColumns l = blocksAlong (l .width)
 
--- sigmas row of blocks after row of blocks
+-- sigmas are stored row of blocks by row of blocks
 abbrev pub sigmaOf : ℕ → List Float → ℕ → ℕ → Float
 sigmaOf n sigmas = λ bx by. getD sigmas (by * n + bx) nan
 
--- blocks below each other in the filter region
+-- blocks down the filter region
 abbrev pub blockRows : Layout → ℕ
 blockRows l = blocksAlong (l .height)

@@ -1,4 +1,4 @@
--- A step over rows of a filter region: when its arguments fit, and what it leaves. Definitions only.
+-- A step over rows of a filter region: when its arguments fit, and the set after it. Definitions only.
 use mathlib.Core.Path.{_≡_}
 use mathlib.Core.Bool.{Bool, cond, _&&_}
 use mathlib.Core.List.{List}
@@ -14,7 +14,7 @@ use Rattle.epf_tiles.specs.declared.Step.{Step}
 use Rattle.epf_tiles.specs.Tile.{stepOver}
 use Rattle.epf_tiles.specs.Blocks.{blockColumns, blockRows}
 
--- rows of the filter region in a set of n planes: `len` and `count` are the numbers of its samples and of its sigmas
+-- the arguments fit a set of n planes: `len` is the number of its samples, `count` the number of sigmas
 pub record RegionFits (l : Layout) (n : ℕ) (s : Step) (top len count : ℕ) : Type 0 where
   pub layout : LayoutFits l
   pub planes : n ≤ 3
@@ -31,12 +31,12 @@ pub record StripFits (l : Layout) (y rows : ℕ) : Type 0 where
 
 -- ---- rows of the filter region, for every input
 
--- n planes in sets of those lengths, a sigma for each block, a step, and rows of the filter region
+-- n planes in sets of these lengths, one sigma per block, a valid step, and rows of the filter region
 abbrev pub regionFits : Layout → ℕ → Step → ℕ → ℕ → ℕ → ℕ → ℕ → ℕ → Bool
 regionFits l n s top from to src dst count =
     setFits l n src && (setFits l n dst && (eqb count (blockRows l * blockColumns l) && (ltb (s .step) 3 && (leb top 4294967296 && (leb from to && leb to (l .height))))))
 
--- what filtering them leaves: the step's samples in those rows, and nothing where these do not fit
+-- the set after filtering: the step's samples in those rows; unchanged if the arguments do not fit
 unfoldable pub regionOf : ℕ → Layout → Step → ℕ → ℕ → ℕ → List Float → List Float → List Float → List Float
 regionOf n l s top from to sigmas src dst =
     cond (regionFits l n s top from to (length src) (length dst) (length sigmas))

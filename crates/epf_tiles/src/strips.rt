@@ -1,4 +1,4 @@
-// Rows of the filter region, by strips that lie within one row of blocks.
+// Rows of the filter region in strips, each within one row of blocks.
 use crate::Step;
 use crate::tile::blocks_of;
 use crate::tile::tile;
@@ -20,10 +20,10 @@ ghost use Rattle.planes.specs.Rect.{planesFill};
 ghost use Rattle.epf_tiles.specs.Tile.{Scratch, stepOver};
 ghost use Rattle.epf_tiles.specs.Region.{RegionFits, StripFits, regionOf};
 
-// A top of a region, which is an i32, is less; below it rows are counted without a carry.
+// The top of a region, an i32, is below this, so row positions do not overflow.
 const MAX_TOP: usize = 4_294_967_296;
 
-// A strip of rows, tile after tile.
+// Filters a strip of rows, tile by tile.
 fn strip(
     dst: &mut [f32],
     src: &[f32],
@@ -68,7 +68,7 @@ fn strip(
     }
 }
 
-// Rows `from` up to `to`, strip after strip, with the local memory of a tile.
+// Filters rows `from` up to `to`, strip by strip; it has the arrays that a tile is computed in.
 fn strips(
     dst: &mut [f32],
     src: &[f32],
@@ -112,9 +112,8 @@ fn strips(
     }
 }
 
-// Rows `from` up to `to` of the filter region, in n planes; row 0 of it is row `top` of the image. Sigmas stand row
-// of blocks after row of blocks.
-// Nothing where sets, sigmas, step or rows do not fit.
+// Filters rows `from` up to `to` of the filter region in n planes. Its row 0 is at y = `top`. `sigmas` has one sigma
+// per block, row of blocks by row of blocks. Does nothing if the sets, sigmas, step or rows do not fit.
 pub fn filter_region(
     dst: &mut [f32],
     src: &[f32],

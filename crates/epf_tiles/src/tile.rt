@@ -1,4 +1,4 @@
-// One tile: its lanes where a block is filtered, its samples where one is copied.
+// One tile: filtered, with the samples of copied blocks restored.
 use crate::Step;
 use epf_distances::distances;
 use epf_interior::filter_inside;
@@ -29,7 +29,7 @@ ghost use Rattle.frame.specs.Sizes.{blocksAlong};
 ghost use Rattle.epf_step.specs.Steps.{copied as copiedOf};
 ghost use Rattle.epf_tiles.specs.Tile.{sigmaStart, TileFits, Scratch, Filtered, FilteredBy, Restored, stepOver};
 
-// How many blocks begin in so many columns or rows.
+// The number of blocks in n columns or rows; the last may be partial.
 pub(crate) fn blocks_of(n: usize) -> usize
     requires { ⌜ n ≤ 16384 ⌝ }
     ensures { λ r. ⌜ r ≡ blocksAlong n ⌝ }
@@ -37,7 +37,7 @@ pub(crate) fn blocks_of(n: usize) -> usize
     (n + (BLOCK - 1)) / BLOCK
 }
 
-// The sigma of the block in which a tile starts.
+// Index of the sigma of a tile's first block.
 fn first_sigma(l: Layout, rect: Rect) -> usize
     requires { ⌜ (l .width ≤ 16384) × (rect .x ≤ 16384) × (rect .y ≤ 16384) ⌝ }
     ensures { λ r. ⌜ r ≡ sigmaStart l (rect .x) (rect .y) ⌝ }
@@ -47,7 +47,7 @@ fn first_sigma(l: Layout, rect: Rect) -> usize
     row * across + rect.x / BLOCK
 }
 
-// A block, if it is copied.
+// Copies a block from `src` if its sigma says so.
 fn restore_block(
     dst: &mut [f32],
     src: &[f32],
@@ -68,7 +68,7 @@ fn restore_block(
     copy_rect(dst, src, l, n, rect)
 }
 
-// The copied blocks of a tile whose rectangle is filtered.
+// Restores the copied blocks of a tile after its rectangle is filtered.
 fn restore(
     dst: &mut [f32],
     src: &[f32],
@@ -99,7 +99,7 @@ fn restore(
     }
 }
 
-// Whether all blocks are copied.
+// Whether all blocks of a tile are copied.
 fn all_copied(sigmas: &[f32], first: usize, blocks: usize, limit: f32) -> bool
     requires { ⌜ first + blocks ≤ length (now sigmas) ⌝ }
     ensures { λ r. ⌜ (r ≡ true → (b : ℕ) → b < blocks → copiedOf (getD (now (sigmas .entry)) (first + b) nan) limit
@@ -115,7 +115,7 @@ fn all_copied(sigmas: &[f32], first: usize, blocks: usize, limit: f32) -> bool
     true
 }
 
-// A tile from its windows, all its blocks filtered.
+// Filters all blocks of a tile, from its windows.
 fn filter_window(
     dst: &mut [f32],
     src: &[f32],
@@ -154,7 +154,7 @@ fn filter_window(
     store_tile(dst, lanes, l, n, rect);
 }
 
-// A tile, all its blocks filtered; `first` is the sigma of its first.
+// Filters all blocks of a tile; `first` is the index of its first block's sigma.
 fn filter(
     dst: &mut [f32],
     src: &[f32],
@@ -180,7 +180,7 @@ fn filter(
 {
     tile_slopes(slopes, sigmas, first, blocks_of(rect.cols), s.scale, s.edge);
     let scales = s.scales;
-    // Inside the filter region the last step needs no window.
+    // Away from the filter region's edges step 2 needs no window.
     if s.step == LAST_STEP {
         if n == PLANES {
             if lies_inside(l, rect) {
@@ -192,7 +192,7 @@ fn filter(
     filter_window(dst, src, l, n, s, top, rect, win, fields, slopes, lanes)
 }
 
-// One tile: its samples copied where all its blocks are, else filtered with the copied blocks restored.
+// Computes one tile: copies it if all its blocks are copied, otherwise filters it and restores the copied blocks.
 pub(crate) fn tile(
     dst: &mut [f32],
     src: &[f32],

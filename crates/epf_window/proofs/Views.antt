@@ -1,4 +1,4 @@
--- The types of a window and of a view, for the two walks by hand. Assumes nothing.
+-- The types of a window and of an input row, for the two proofs written by hand. Assumes nothing.
 use contract.Lifetimes.{Lfts}
 use denote.Builtin.{f32, Array, ArrayOf}
 use denote.RattleType.{RattleType}
@@ -14,7 +14,7 @@ Win = Array f32 tt 2688
 abbrev pub win : Slot 2
 win = ArrayOf (plain (λ _. f32)) (λ _. tt) 2688
 
--- a view at the second of two lifetimes
+-- an input row with the second of two lifetimes
 abbrev pub D : Lfts 2 → Declared
 D κs = T.the-type (namedLft 2 1 tt κs)
 

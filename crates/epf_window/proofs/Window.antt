@@ -1,4 +1,4 @@
--- When a window fits, and what the loops that load one keep. Assumes nothing.
+-- When a window fits, and the invariants of the loops that load it. Assumes nothing.
 use mathlib.Core.Path.{_≡_, refl, ap, _∙_}
 use mathlib.Core.Bool.{true, false, and-false}
 use mathlib.Core.List.{List}
@@ -21,7 +21,7 @@ use Rattle.planes.specs.Band.{inner, setFits}
 use Rattle.planes.proofs.Room.{set-facts, set-true, regionStart, region-index, plane-room}
 use Rattle.epf_window.specs.Window.{rowSample, planeSample, windowSample, windowFits, loaded, WindowFits, PlaneFits}
 
--- ---- a row: mirrored left of the region, as it stands inside it, mirrored right of it
+-- ---- a row: mirrored left of the region, copied inside it, mirrored right of it
 module _ (src : List Float) (row x w : ℕ) where
   sample-later : (m j : ℕ) → rowSample src row (x + m) w j ≡ rowSample src row x w (m + j)
   unfolding rowSample
@@ -33,7 +33,7 @@ module _ (src : List Float) (row x w : ℕ) where
       let z : from + j ≡ row + (x + (m + j) - 4) = omega arith in
       rw (le-ltb (x + (m + j)) 4 (omega arith), mirror-in w (x + (m + j) - 4) (omega arith), z)
 
-  -- what the three loops leave
+  -- the row after the three loops
   pub row-loaded : (win a b d : List Float) (at low high cols from : ℕ) → low ≤ high → high ≤ cols → 4 ≤ x + low → x + high ≤ w + 4 → from ≡ row + (x + low - 4)
       → a ≡ fill win at low (rowSample src row x w) → b ≡ fill a (at + low) (high - low) (λ j. getD src (from + j) nan)
       → d ≡ fill b (at + high) (cols - high) (rowSample src row (x + high) w) → d ≡ fill win at cols (rowSample src row x w)
@@ -46,7 +46,7 @@ module _ (src : List Float) (row x w : ℕ) where
 
 -- ---- a plane
 
--- the row at a mirrored place lies in the list
+-- the row at a mirrored index lies inside the list
 pub row-room : (start stride w h len k : ℕ) → start + (h - 1) * stride + w ≤ len → k < h → start + k * stride + w ≤ len
 row-room start stride w h len k r l = let m : k * stride ≤ (h - 1) * stride = mul-le-mul-right stride (omega arith) in omega arith
 
@@ -55,7 +55,7 @@ module _ (l : Layout) (src : List Float) (x y c : ℕ) where
   unfolding planeSample rowSample windowSample inner of
   plane-sample i j = ap (λ (k : ℕ). getD src k nan) (region-index l c (mirror (subℕ (x + j) 4) (l .width)) (mirror (subℕ (y + i) 3) (l .height)))
 
--- a turn of the loop over planes
+-- an iteration of the loop over planes
 pub plane-next : (l : Layout) (src win a b : List Float) (x y top rows cols k at start : ℕ)
     → a ≡ planesFill 64 14 0 cols top rows (λ c j i. windowSample l src x y c j (top + i)) win k → at ≡ (k * 14 + top) * 64 → start ≡ regionStart l k
     → b ≡ rowsFill a at 64 cols rows (λ i j. planeSample src start (l .image .width) (l .width) (l .height) x y (top + i) j)
@@ -65,7 +65,7 @@ plane-next l src win a b x y top rows cols k at start p e f q =
     planes-turn 64 14 0 cols top rows (λ c j i. windowSample l src x y c j (top + i)) win a b k p
     (q ∙ rw (← z, f) (rows-cong a at 64 cols rows _ _ (λ i j r s. plane-sample l src x y k (top + i) j)))
 
--- what plane c's loop asks
+-- what plane c's loop requires
 pub plane-fits : (l : Layout) (n c len x y top rows cols : ℕ) → WindowFits l n len x y top rows cols → c < n
     → PlaneFits ((c * 14 + top) * 64) (regionStart l c) (l .image .width) (l .width) (l .height) x y rows cols len
 plane-fits l n c len x y top rows cols f p =
@@ -84,7 +84,7 @@ plane-fits l n c len x y top rows cols f p =
       most = f .most;
     }
 
--- ---- the tests
+-- ---- the code's tests
 module _ (l : Layout) (n : ℕ) (src : List Float) (x y top rows cols : ℕ) (win : List Float) where
   abbrev Kept : Type 0
   Kept = win ≡ loaded l n src x y top rows cols win
@@ -114,7 +114,7 @@ module _ (l : Layout) (n : ℕ) (src : List Float) (x y top rows cols : ℕ) (wi
   pub many-columns : 64 < cols → Kept
   many-columns h = kept (simp (lt-leb cols 64 h, and-false))
 
-  -- a set's length and a window's place
+  -- a set's length and a window's position
   pub window-fits : setFits l n (length src) ≡ true → x < l .width → y < l .height → top ≤ 14 → rows ≤ 14 - top → 4 ≤ cols → cols ≤ 64 → WindowFits l n (length src) x y top rows cols
   window-fits e a b t r u v =
       let s = set-facts l n (length src) e in
@@ -129,7 +129,7 @@ module _ (l : Layout) (n : ℕ) (src : List Float) (x y top rows cols : ℕ) (wi
         most = v;
       }
 
-  -- so all is loaded
+  -- so the whole window is loaded
   pub window-loaded : WindowFits l n (length src) x y top rows cols → loaded l n src x y top rows cols win ≡ planesFill 64 14 0 cols top rows (λ c j i. windowSample l src x y c j (top + i)) win n
   unfolding loaded
   window-loaded f =

@@ -1,4 +1,4 @@
--- What a window holds: samples of a filter region, mirrored at its edges. Definitions only.
+-- The samples of a window: those of a filter region, mirrored at its edges. Definitions only.
 use mathlib.Core.Path.{_≡_}
 use mathlib.Core.Bool.{Bool, cond, _&&_}
 use mathlib.Core.List.{List}
@@ -21,7 +21,8 @@ use Rattle.epf_sizes.specs.Sizes.{windowsLength}
 unfoldable pub rowSample : List Float → ℕ → ℕ → ℕ → ℕ → Float
 rowSample src row x w j = getD src (row + mirror (subℕ (x + j) 4) w) nan
 
--- row i of a window that starts three rows above y, in a region of w columns and h rows whose first row starts at index `at`, each next one a stride later
+-- row i of a window that starts three rows above y, in a region of w columns and h rows; row 0 starts at index `at`, and rows lie `stride`
+-- apart
 unfoldable pub planeSample : List Float → ℕ → ℕ → ℕ → ℕ → ℕ → ℕ → ℕ → ℕ → Float
 planeSample src at stride w h x y i j = rowSample src (at + mirror (subℕ (y + i) 3) h * stride) x w j
 
@@ -29,17 +30,17 @@ planeSample src at stride w h x y i j = rowSample src (at + mirror (subℕ (y + 
 unfoldable pub windowSample : Layout → List Float → ℕ → ℕ → Picture
 windowSample l src x y = λ c j i. inner l src c (mirror (subℕ (x + j) 4) (l .width)) (mirror (subℕ (y + i) 3) (l .height))
 
--- n planes of a set of that length, a place in the filter region, and rows and columns of a window of 14 rows and 64 columns
+-- a set of n planes, a position in the filter region, and rows and columns of a window of 14 rows and 64 columns
 abbrev pub windowFits : Layout → ℕ → ℕ → ℕ → ℕ → ℕ → ℕ → ℕ → Bool
 windowFits l n len x y top rows cols =
     setFits l n len && (ltb x (l .width) && (ltb y (l .height) && (leb top 14 && (leb rows (14 - top) && (leb 4 cols && leb cols 64)))))
 
--- what loading leaves: `rows` rows from row `top` on and `cols` columns of each of n planes, and nothing where they do not fit
+-- the window after loading `rows` rows from row `top` on and `cols` columns of each of n planes; unchanged if the arguments do not fit
 unfoldable pub loaded : Layout → ℕ → List Float → ℕ → ℕ → ℕ → ℕ → ℕ → List Float → List Float
 loaded l n src x y top rows cols win =
     cond (windowFits l n (length src) x y top rows cols) (planesFill 64 14 0 cols top rows (λ c j i. windowSample l src x y c j (top + i)) win n) win
 
--- ---- what the functions ask
+-- ---- what the functions require
 
 pub record WindowFits (l : Layout) (n len x y top rows cols : ℕ) : Type 0 where
   pub layout : LayoutFits l
@@ -51,7 +52,7 @@ pub record WindowFits (l : Layout) (n len x y top rows cols : ℕ) : Type 0 wher
   pub least : 4 ≤ cols
   pub most : cols ≤ 64
 
--- a row of w samples in a list, and a window's row
+-- a row of w samples inside a list, and a window's row
 pub record RowFits (at row x w cols len : ℕ) : Type 0 where
   pub room : row + w ≤ len
   pub wide : w ≤ 16384
@@ -59,7 +60,7 @@ pub record RowFits (at row x w cols len : ℕ) : Type 0 where
   pub target : at + cols ≤ windowsLength
   pub least : 4 ≤ cols
 
--- a region in a list, and rows of a window's plane
+-- a region inside a list, and rows of a window's plane
 pub record PlaneFits (at start stride w h x y rows cols len : ℕ) : Type 0 where
   pub ends : start + (h - 1) * stride + w ≤ len
   pub wide : w ≤ 16384

@@ -1,7 +1,6 @@
-// A window on a filter region: rows and columns around a place in each plane, mirrored at the filter region's edges,
-// as planes of 14 rows of 64 columns.
-// This is the one place where a step mirrors: what needs no mirror, step 2 away from the region's edges, reads the
-// planes themselves.
+// A window on a filter region: the rows and columns around a position in each plane, mirrored at the filter region's
+// edges, as planes of 14 rows of 64 columns. A step mirrors only here. Step 2 away from the edges needs no mirror and
+// reads the planes directly.
 mod row;
 
 use crate::row::load_row;
@@ -17,12 +16,13 @@ ghost use lib.ListN.{length};
 ghost use Rattle.planes.specs.Rect.{rowsFill, planesFill};
 ghost use Rattle.epf_window.specs.Window.{planeSample, windowSample, loaded, WindowFits, PlaneFits};
 
-// A window starts so many columns left of its place, and so many rows above it.
+// How many columns left of its position and how many rows above it a window starts.
 const LEFT: usize = 4;
 
 const ABOVE: usize = 3;
 
-// Rows `top` to top + rows of a window's plane, from a region of w columns and h rows that starts at `start`.
+// Loads rows `top` up to top + rows of a window's plane, from a region of w columns and h rows that starts at index
+// `start`.
 fn load_plane(
     win: &mut [f32; WINDOWS],
     at: usize,
@@ -49,7 +49,7 @@ fn load_plane(
     }
 }
 
-// The first n planes.
+// Loads the first n planes.
 fn load_planes(
     win: &mut [f32; WINDOWS],
     src: &[f32],
@@ -87,9 +87,8 @@ fn load_planes(
     }
 }
 
-// Rows `top` to top + rows and the first `cols` columns of a window on column x and row y of the filter region, in n
-// planes.
-// Nothing where these do not fit.
+// Loads rows `top` up to top + rows and the first `cols` columns of a window on column x and row y of the filter
+// region, in n planes. Does nothing if the arguments do not fit.
 pub fn load(
     win: &mut [f32; WINDOWS],
     src: &[f32],

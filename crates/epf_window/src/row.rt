@@ -1,4 +1,4 @@
-// A row of a window, from the row of a plane that it shows.
+// Loads a row of a window from a row of a plane.
 use crate::LEFT;
 use epf_sizes::WINDOWS;
 use mirror::mirrored;
@@ -12,14 +12,14 @@ ghost use Rattle.planes.specs.Fill.{fill};
 ghost use Rattle.epf_sizes.specs.Sizes.{windowsLength};
 ghost use Rattle.epf_window.specs.Window.{rowSample, RowFits};
 
-// A row that a step reads: the plane, where the row starts in it, and how many samples it has.
+// A row that a step reads: the plane, the index where the row starts, and its number of samples.
 pub(crate) struct EpfInputRow<'a> {
     plane: &'a [f32],
     place: usize,
     width: usize,
 }
 
-// How much x lacks of k.
+// k - x, or 0 if x is larger.
 fn short_of(x: usize, k: usize) -> usize
     ensures { λ r. ⌜ r ≡ k - x ⌝ }
 {
@@ -29,7 +29,7 @@ fn short_of(x: usize, k: usize) -> usize
     0
 }
 
-// n samples from four columns left of x on, mirrored in the row of w samples that starts at `row`.
+// Copies n samples from four columns left of x on, mirrored in the row of w samples that starts at index `row`.
 fn copy_mirrored(
     win: &mut [f32; WINDOWS],
     at: usize,
@@ -50,7 +50,7 @@ fn copy_mirrored(
     }
 }
 
-// The same, without a mirror where the row has the samples.
+// The same, with a plain copy where no mirror is needed.
 fn copy_row(
     win: &mut [f32; WINDOWS],
     at: usize,
@@ -70,7 +70,7 @@ fn copy_row(
     copy_mirrored(win, at + high, src, row, x + high, w, cols - high);
 }
 
-// The same from a view.
+// The same from an input row.
 fn load_view<'w, 'a>(
     win: &'w mut [f32; WINDOWS],
     at: usize,
@@ -84,7 +84,7 @@ fn load_view<'w, 'a>(
     copy_row(win, at, r.plane, r.place, x, r.width, cols)
 }
 
-// The view is made here, and every other caller passes plain parameters.
+// Makes the input row, so that callers pass plain parameters.
 pub(crate) fn load_row(
     win: &mut [f32; WINDOWS],
     at: usize,

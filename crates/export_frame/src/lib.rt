@@ -1,4 +1,4 @@
-// The C boundary of frames and block sigmas: each function passes on what it is handed.
+// The C boundary of frames and block sigmas: each function passes its arguments on to one function of the library.
 use frame::Frame;
 use frame::FrameAnswer;
 use frame::SplitAnswer;
@@ -7,12 +7,13 @@ ghost use mathlib.Core.Path.{_≡_};
 ghost use Rattle.frame.specs.Outcome.{frameOutcome, splitOutcome};
 ghost use Rattle.sigma.specs.Outcome.{SigmasOutcome, sigmasOutcome};
 
-// The sample sides of a frame (its sides divided by the upsampling and then by 8 to the power of the LF level, each
-// rounded up), its group dimension (128 shifted left by the group size shift) and group shift, and its groups per
-// row, per column and in all.
-// Numbers: 0; 4 for a frame side outside 1 to 16,384; 9 for an upsampling that is none of 1, 2, 4 and 8, an LF level
-// over 4 or a group size shift over 3.
-// The lowest that applies is given. A refusal has 0 in every other field.
+// Computes the sizes of a frame: its sample sides and the LF groups that cover them.
+// A sample side is the frame's side divided by `upsampling` and then by 8 to the power of `lf_level`, each division
+// rounded up. The group dimension is 128 shifted left by `group_size_shift`, in blocks; the group shift is its number
+// of trailing zero bits. The groups are counted per row, per column and in total.
+// Numbers: 0; 4 if a frame side is outside 1 to 16,384; 9 if `upsampling` is not 1, 2, 4 or 8, `lf_level` is over 4
+// or `group_size_shift` is over 3. If several apply, the lowest is returned. A refused call returns 0 in every other
+// field.
 #[no_mangle]
 pub extern "C" fn restoration_group_sizes(f: Frame) -> FrameAnswer
     ensures { λ a. ⌜ a ≡ frameOutcome f ⌝ }
@@ -20,8 +21,8 @@ pub extern "C" fn restoration_group_sizes(f: Frame) -> FrameAnswer
     frame::group_sizes(f)
 }
 
-// The group that a block's column or row lies in, and its cell in that group.
-// Numbers: 0; 9 for a group size shift over 3. A refusal has 0 in every other field.
+// Splits a column or row of blocks into its column or row of groups, `group`, and its cell in that group, `inner`.
+// Numbers: 0; 9 if `group_size_shift` is over 3. A refused call returns 0 in every other field.
 #[no_mangle]
 pub extern "C" fn restoration_split_block(block: u32, group_size_shift: u32) -> SplitAnswer
     ensures { λ a. ⌜ a ≡ splitOutcome block «group_size_shift» ⌝ }
@@ -29,20 +30,25 @@ pub extern "C" fn restoration_split_block(block: u32, group_size_shift: u32) -> 
     frame::split_block(block, group_size_shift)
 }
 
-// With the edge-preserving filter on (`on` 1), fills `sigmas` with the sigma of each block of 8 by 8 samples of a
-// filter region, row of blocks after row: the cell of its group's grid or, where that grid is missing, the sigma of
-// the block above, the top block row starting from `sigma_for_modular`. With it off (`on` 0) `sigmas` has length 0.
-// `blocks` is the filter region, its left and top in blocks. `table` has three numbers for each group of the frame
-// (whether its grid is present, grid width, grid height); `grids` has the present grids one after another.
-// Numbers: 0; 4 for a side of the frame, for `blocks` with a side outside 1 to 16,384, an area over 16,777,216 or a
-// left or top over 131,072, or for a present grid's side outside 1 to 1,024; 7 for a table, grids or sigmas of another
-// length; 8, with the filter on, for a block whose group is not in the frame or whose present grid does not hold it;
-// 9 for the frame's settings, a presence that is neither 0 nor 1, or `on` neither 0 nor 1.
-// The lowest that applies is given, and a check that needs a faulty value does not apply (Specification 7.9, 12.6):
-// the table's length needs the frame's settings; no entry of the table is read unless the frame's sides and settings
-// are in range and the table's length is right, which the grids' sides and length, 8 and the presences need; the
-// grids' length needs the presences too; the sigmas' length and 8 need `on`. So a table of wrong length that has a
-// present grid 2,000 wide answers 7, not 4. A refusal leaves `sigmas` as they were. `table` and `grids` are only read.
+// Fills `sigmas` with one sigma per block (8 x 8 samples) of a filter region, row of blocks by row of blocks, if the
+// edge-preserving filter is on (`on` is 1).
+// A block's sigma is its cell in its group's grid. If that grid is missing, it is the sigma of the block above, and
+// in the top row of blocks it is `sigma_for_modular`. If the filter is off (`on` is 0), `sigmas` must have length 0.
+// `blocks` is the filter region, its left and top in blocks, its width and height in samples. `table` has three
+// numbers per group of the frame: presence (1 if the group has a grid, else 0), grid width and grid height. `grids`
+// has the cells of the present grids, one grid after another.
+// Numbers: 0; 4 if a frame side is outside 1 to 16,384, if `blocks` has a side outside 1 to 16,384, an area over
+// 16,777,216 or a left or top over 131,072, or if a present grid has a side outside 1 to 1,024; 7 if the length of
+// `table`, `grids` or `sigmas` is wrong; 8 if the filter is on and a block's group is not in the frame, or its grid
+// is present but lacks the block; 9 if a setting of the frame is out of range (see `restoration_group_sizes`), or a
+// presence or `on` is neither 0 nor 1.
+// If several apply, the lowest is returned. A check is passed over if it needs a value that is itself out of range
+// (Specification 7.9, 12.6). The length of `table` is checked only if the frame's settings are in range. `table` is
+// read only if the frame's sides and settings are in range and its length is right; otherwise grid sides, the length
+// of `grids`, number 8 and presences are not checked. The length of `grids` is checked only if all presences are 0 or
+// 1. The length of `sigmas` and number 8 are checked only if `on` is 0 or 1. Example: a table of the wrong length
+// with a present grid 2,000 wide gets 7, not 4.
+// A refused call leaves `sigmas` unchanged. `table` and `grids` are never changed.
 #[no_mangle]
 pub extern "C" fn restoration_block_sigmas(
     on: u32,

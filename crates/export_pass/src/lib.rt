@@ -1,4 +1,5 @@
-// The C boundary of the mirror and of single passes: each function passes on what it is handed.
+// The C boundary of the mirror and of single passes: each function passes its arguments on to one function of the
+// library.
 use epf::EpfStep;
 use mirror::MirrorAnswer;
 use region::Region;
@@ -9,9 +10,11 @@ ghost use Rattle.gabor.specs.Outcome.{gaborOutcome};
 ghost use Rattle.planes_layout.specs.Outcome.{PassOutcome};
 ghost use Rattle.mirror.specs.Outcome.{mirrorOutcome};
 
-// The place in a row of `len` samples that a filter reads for an offset beyond an edge: with m the offset modulo
-// 2 * len, not negative, it is m if m < len and else 2 * len - 1 - m.
-// Numbers: 0; 9 for a length outside 1 to 16,384 or an offset outside -1,048,576 to 1,048,576. A refusal has place 0.
+// Computes the mirrored index, `place`, of `offset` in a row of `len` samples: the sample that a filter reads there,
+// also beyond an edge. With m = offset mod (2 * len), 0 <= m < 2 * len, the index is m if m < len and
+// 2 * len - 1 - m otherwise, so the edge sample is repeated.
+// Numbers: 0; 9 if `len` is outside 1 to 16,384 or `offset` is outside -1,048,576 to 1,048,576. A refused call
+// returns place 0.
 #[no_mangle]
 pub extern "C" fn restoration_mirror(offset: isize, len: usize) -> MirrorAnswer
     ensures { λ a. ⌜ a ≡ mirrorOutcome offset len ⌝ }
@@ -19,14 +22,17 @@ pub extern "C" fn restoration_mirror(offset: isize, len: usize) -> MirrorAnswer
     mirror::mirror(offset, len)
 }
 
-// The Gabor-like filter over rows `from` up to `to` of its result, which is the full planes (`preserve_outside` 1) or
-// the filter region alone (0). Reads `src` and writes `dst`, sets of three planes one after another, each row after
-// row without gaps: filtered in the filter region, copied outside it; samples of `dst` that are not in these rows of
-// the result stay. The settings' weights are any floats; `enabled` is ignored.
-// Numbers: 0; 4 for a region out of measure (sides 1 to 16,384, area to 16,777,216, left and top -1,048,576 to
-// 1,048,576); 5 for a filter region that is not inside the image region; 7 for a set whose length is not
-// 3 * width * height of the image region; 9 for `preserve_outside` neither 0 nor 1, `from` after `to`, or `to` past the
-// last row of the result. The lowest that applies is given. A refusal leaves `dst` as it was. `src` is only read.
+// Applies the Gabor-like filter to rows `from` up to, not including, `to` of the result region. The result region is
+// the image region if `preserve_outside` is 1 and the filter region if it is 0.
+// Reads the set `src` and writes the set `dst`. A set is three planes of the image region one after another, each row
+// by row without gaps. In these rows of the result region, `dst` gets filtered samples inside the filter region and
+// copies of `src` outside it. All other samples of `dst` stay. The weights may be any floats; `settings.enabled` is
+// ignored.
+// Numbers: 0; 4 if a region is outside the limits (sides 1 to 16,384, area at most 16,777,216, left and top
+// -1,048,576 to 1,048,576); 5 if the filter region is not inside the image region; 7 if the length of a set is not 3
+// * width * height of the image region; 9 if `preserve_outside` is neither 0 nor 1, `from` is over `to`, or `to` is
+// over the number of rows of the result region. If several apply, the lowest is returned. A refused call leaves `dst`
+// unchanged. `src` is never changed.
 #[no_mangle]
 pub extern "C" fn restoration_gabor_pass(
     image: Region,
@@ -46,14 +52,15 @@ pub extern "C" fn restoration_gabor_pass(
     gabor::gabor_pass(image, filter, preserve_outside, weights, from, to, src, dst)
 }
 
-// Step 0, 1 or 2 of the edge-preserving filter over rows `from` up to `to` of its result, which is the full planes
-// (`preserve_outside` 1) or the filter region alone (0). Reads `src` and writes `dst` as `restoration_gabor_pass`
-// does. `sigmas` has one sigma for each block of 8 by 8 samples of the filter region, row of blocks after row;
-// sigmas, scales and multipliers are any floats.
-// Numbers: 0; 4 for a region out of measure; 5 for a filter region that is not inside the image region; 6 for a left
-// or top of the filter region that is negative or no multiple of 8; 7 for a set or sigmas of another length; 9 for a
-// step over 2, `preserve_outside` neither 0 nor 1, `from` after `to`, or `to` past the last row of the result. The
-// lowest that applies is given. A refusal leaves `dst` as it was. `src` and `sigmas` are only read.
+// Applies step 0, 1 or 2 of the edge-preserving filter to rows `from` up to, not including, `to` of the result
+// region. The result region is the image region if `preserve_outside` is 1 and the filter region if it is 0.
+// Reads `src` and writes `dst` as `restoration_gabor_pass` does. `sigmas` has one sigma per block (8 x 8 samples) of
+// the filter region, row of blocks by row of blocks. Sigmas, scales and multipliers may be any floats.
+// Numbers: 0; 4 if a region is outside the limits (see `restoration_gabor_pass`); 5 if the filter region is not
+// inside the image region; 6 if its left or top is negative or not a multiple of 8; 7 if the length of a set or of
+// `sigmas` is wrong; 9 if the step is over 2, `preserve_outside` is neither 0 nor 1, `from` is over `to`, or `to` is
+// over the number of rows of the result region. If several apply, the lowest is returned. A refused call leaves `dst`
+// unchanged. `src` and `sigmas` are never changed.
 #[no_mangle]
 pub extern "C" fn restoration_epf_pass(
     image: Region,

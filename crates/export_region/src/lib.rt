@@ -1,4 +1,4 @@
-// The C boundary of regions: each function passes on what it is handed. Names begin with `restoration_`.
+// The C boundary of regions: each function passes its arguments on to one function of the library.
 use region::BoolAnswer;
 use region::EdgeAnswer;
 use region::Region;
@@ -8,9 +8,9 @@ ghost use Rattle.region.specs.Answers.{isEmptyOutcome, rightOutcome, bottomOutc
 ghost use Rattle.region_arithmetic.specs.Answers.{translateOutcome, intersectionOutcome, padOutcome, downsampleOutcome};
 ghost use Rattle.region_arithmetic.specs.Answers.{alignedOutcome};
 
-// Whether a region has a side of 0.
-// Numbers: 0; 4 for a region out of measure: a side over 16,384, or left or top outside -1,048,576 to 1,048,576. A
-// refusal answers false.
+// Returns whether a region is empty: its width or height is 0.
+// Numbers: 0; 4 if the region is outside the limits: a side over 16,384, or left or top outside -1,048,576 to
+// 1,048,576. A refused call returns false.
 #[no_mangle]
 pub extern "C" fn restoration_region_is_empty(r: Region) -> BoolAnswer
     ensures { λ a. ⌜ a ≡ isEmptyOutcome r ⌝ }
@@ -18,8 +18,9 @@ pub extern "C" fn restoration_region_is_empty(r: Region) -> BoolAnswer
     r.is_empty()
 }
 
-// The column past a region's last: left + width.
-// Numbers: 0; 4 for a region out of measure. A refusal has edge 0.
+// Returns the first column right of a region: left + width.
+// Numbers: 0; 4 if the region is outside the limits (see `restoration_region_is_empty`). A refused call returns edge
+// 0.
 #[no_mangle]
 pub extern "C" fn restoration_region_right(r: Region) -> EdgeAnswer
     ensures { λ a. ⌜ a ≡ rightOutcome r ⌝ }
@@ -27,8 +28,9 @@ pub extern "C" fn restoration_region_right(r: Region) -> EdgeAnswer
     r.right()
 }
 
-// The row past a region's last: top + height.
-// Numbers: 0; 4 for a region out of measure. A refusal has edge 0.
+// Returns the first row below a region: top + height.
+// Numbers: 0; 4 if the region is outside the limits (see `restoration_region_is_empty`). A refused call returns edge
+// 0.
 #[no_mangle]
 pub extern "C" fn restoration_region_bottom(r: Region) -> EdgeAnswer
     ensures { λ a. ⌜ a ≡ bottomOutcome r ⌝ }
@@ -36,8 +38,9 @@ pub extern "C" fn restoration_region_bottom(r: Region) -> EdgeAnswer
     r.bottom()
 }
 
-// Whether the first region contains the second, `target`. An empty target is contained.
-// Numbers: 0; 4 where either region is out of measure. A refusal answers false.
+// Returns whether region `r` contains region `target`. An empty target is always contained.
+// Numbers: 0; 4 if either region is outside the limits (see `restoration_region_is_empty`). A refused call returns
+// false.
 #[no_mangle]
 pub extern "C" fn restoration_region_contains(r: Region, target: Region) -> BoolAnswer
     ensures { λ a. ⌜ a ≡ containsOutcome r target ⌝ }
@@ -45,8 +48,9 @@ pub extern "C" fn restoration_region_contains(r: Region, target: Region) -> Bool
     r.contains(target)
 }
 
-// The region moved by `x` columns and `y` rows.
-// Numbers: 0; 4 where the region or the moved one is out of measure. A refusal has the region 0, 0, 0, 0.
+// Moves a region by `x` columns and `y` rows.
+// Numbers: 0; 4 if the region or the moved region is outside the limits (see `restoration_region_is_empty`). A
+// refused call returns the region 0, 0, 0, 0.
 #[no_mangle]
 pub extern "C" fn restoration_region_translate(r: Region, x: i32, y: i32) -> RegionAnswer
     ensures { λ a. ⌜ a ≡ translateOutcome r x y ⌝ }
@@ -54,8 +58,9 @@ pub extern "C" fn restoration_region_translate(r: Region, x: i32, y: i32) -> Reg
     region_arithmetic::translate(r, x, y)
 }
 
-// What two regions have in common; regions that only touch, or are apart, meet in the region 0, 0, 0, 0.
-// Numbers: 0; 4 where either region is out of measure. A refusal has the region 0, 0, 0, 0.
+// Returns the intersection of two regions. If they only touch or are apart, it is the region 0, 0, 0, 0.
+// Numbers: 0; 4 if either region is outside the limits (see `restoration_region_is_empty`). A refused call returns
+// the region 0, 0, 0, 0.
 #[no_mangle]
 pub extern "C" fn restoration_region_intersection(a: Region, b: Region) -> RegionAnswer
     ensures { λ c. ⌜ c ≡ intersectionOutcome a b ⌝ }
@@ -63,8 +68,9 @@ pub extern "C" fn restoration_region_intersection(a: Region, b: Region) -> Regio
     region_arithmetic::intersection(a, b)
 }
 
-// The region with `size` samples more on each of its four sides.
-// Numbers: 0; 4 where the region or the padded one is out of measure. A refusal has the region 0, 0, 0, 0.
+// Extends a region by `size` samples on each of its four sides.
+// Numbers: 0; 4 if the region or the padded region is outside the limits (see `restoration_region_is_empty`). A
+// refused call returns the region 0, 0, 0, 0.
 #[no_mangle]
 pub extern "C" fn restoration_region_pad(r: Region, size: u32) -> RegionAnswer
     ensures { λ a. ⌜ a ≡ padOutcome r size ⌝ }
@@ -72,10 +78,11 @@ pub extern "C" fn restoration_region_pad(r: Region, size: u32) -> RegionAnswer
     region_arithmetic::pad(r, size)
 }
 
-// The cells of 2^factor by 2^factor samples that a region touches, as a region; the shift of a negative left or top
-// rounds toward minus infinity.
-// Numbers: 0; 4 where the region, or with a factor in range the result, is out of measure; 9 for a factor over 16.
-// The lowest that applies is given. A refusal has the region 0, 0, 0, 0.
+// Downsamples a region by 2^factor: left and top are divided by 2^factor and rounded toward minus infinity, right and
+// bottom are divided and rounded toward plus infinity.
+// Numbers: 0; 4 if the region is outside the limits (see `restoration_region_is_empty`), or if the factor is in range
+// and the result is outside them; 9 if the factor is over 16. If several apply, the lowest is returned. A refused
+// call returns the region 0, 0, 0, 0.
 #[no_mangle]
 pub extern "C" fn restoration_region_downsample(r: Region, factor: u32) -> RegionAnswer
     ensures { λ a. ⌜ a ≡ downsampleOutcome r factor ⌝ }
@@ -83,9 +90,10 @@ pub extern "C" fn restoration_region_downsample(r: Region, factor: u32) -> Regio
     region_arithmetic::downsample(r, factor)
 }
 
-// The smallest region that contains this one and has its edges at multiples of `grid_dim`.
-// Numbers: 0; 4 where the region, or with an alignment in range the result, is out of measure; 9 for an alignment
-// that is no power of two from 1 to 8,192. The lowest that applies is given. A refusal has the region 0, 0, 0, 0.
+// Extends a region to the smallest one around it whose left, top, right and bottom are multiples of `grid_dim`.
+// Numbers: 0; 4 if the region is outside the limits (see `restoration_region_is_empty`), or if `grid_dim` is in range
+// and the result is outside them; 9 if `grid_dim` is not a power of two from 1 to 8,192. If several apply, the lowest
+// is returned. A refused call returns the region 0, 0, 0, 0.
 #[no_mangle]
 pub extern "C" fn restoration_region_container_aligned(r: Region, grid_dim: u32) -> RegionAnswer
     ensures { λ a. ⌜ a ≡ alignedOutcome r «grid_dim» ⌝ }

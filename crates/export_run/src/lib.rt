@@ -1,4 +1,4 @@
-// The C boundary of runs: each function passes on what it is handed.
+// The C boundary of runs: each function passes its arguments on to one function of the library.
 use frame::Frame;
 use run_outcomes::RunAnswer;
 use run_passes::MarginAnswer;
@@ -11,11 +11,12 @@ ghost use Rattle.run_outcomes.specs.Start.{StartOutcome, startOutcome};
 ghost use Rattle.run_outcomes.specs.Band.{BandOutcome, bandOutcome, advanceOutcome};
 ghost use Rattle.run_outcomes.specs.Result.{ResultOutcome, resultOutcome};
 
-// The margin of the settings: how many samples must lie between a sample and each cut edge of a rectangle so that the
-// sample is the one that the larger picture has. It is 1 where the Gabor-like filter is on, plus 0, 2, 3 or 6 for 0,
-// 1, 2 or 3 iterations of the edge-preserving filter.
-// Numbers: 0; 9 where `gabor.enabled` is neither 0 nor 1 or `epf.iters` is over 3, and then the margin is 0. Nothing
-// else of the settings is read.
+// Returns the margin of the settings: how many samples must lie between a sample of a rectangle and each cut edge so
+// that its result is the same as in the larger picture. A cut edge is an edge of the rectangle that is not an edge of
+// the larger picture. The margin is 1 if the Gabor-like filter is on, plus 0, 2, 3 or 6 for 0, 1, 2 or 3 iterations
+// of the edge-preserving filter.
+// Numbers: 0; 9 if `gabor.enabled` is neither 0 nor 1 or `epf.iters` is over 3. A refused call returns margin 0. No
+// other field of the settings is read.
 #[no_mangle]
 pub extern "C" fn restoration_margin(settings: Settings) -> MarginAnswer
     ensures { λ r. ⌜ r ≡ marginOutcome settings ⌝ }
@@ -23,23 +24,26 @@ pub extern "C" fn restoration_margin(settings: Settings) -> MarginAnswer
     run_passes::margin(settings)
 }
 
-// Starts a run: checks all that it is handed, fills the block sigmas and answers the run's record. `table` has three
-// numbers for each group of the frame (presence, grid width, grid height), `grids` the cells of the present grids one
-// after another; `first` and `second` are three planes of the image region each, and `sigmas` has one sigma for each
-// block of 8 x 8 of the filter region, none where `epf.iters` is 0.
-// Numbers, the lowest that applies: 0; 4 where a side, an area, a left or a top is out of measure; 5 where the filter
-// region is not inside the image region; 6 where the edge filter is on and the filter region's left or top is
-// negative or no multiple of 8; 7 where a slice has a wrong length; 8 where the edge filter is on and a block's group
-// is not in the frame, or its grid is present and does not hold the block; 9 where a setting is out of range:
-// iterations over 3, a frame setting, a presence, `preserve_outside` or `gabor.enabled` neither 0 nor 1, a band
-// height outside 1 to 16,384, more than 256 bands.
-// A check that needs a faulty value does not apply (Specification 12.6): 6, the sigmas' length and 8 need the
-// iterations; the table's length needs the frame's settings; no entry of the table is read unless the frame's sides
-// and settings are in range and the table's length is right, which the grids' sides and length, 8 and the presences
-// need; the grids' length needs the presences too; the count of bands needs `preserve_outside` and the band height. So
-// a table of wrong length that has a present grid 2,000 wide answers 7, not 4.
-// Accepted, `sigmas` is filled (where there are any) and `first` and `second` are as they were. Refused, the record
-// is all zeros and every slice is as it was.
+// Starts a run: checks all arguments, fills `sigmas` with the block sigmas and returns the run's record.
+// `table` has three numbers per group of the frame (presence, grid width, grid height); `grids` has the cells of the
+// present grids, one grid after another. `first` and `second` are two sets, each of three planes of the image region;
+// the picture is in `first`. `sigmas` has one sigma per block (8 x 8 samples) of the filter region, or length 0 if
+// `epf.iters` is 0.
+// Numbers: 0; 4 if a side, an area, a left or a top is outside the limits; 5 if the filter region is not inside the
+// image region; 6 if the edge-preserving filter is on and the filter region's left or top is negative or not a
+// multiple of 8; 7 if a slice has the wrong length; 8 if the edge-preserving filter is on and a block's group is not
+// in the frame, or its grid is present but lacks the block; 9 if a setting is out of range: iterations over 3, a
+// setting of the frame, a presence, `preserve_outside` or `gabor.enabled` neither 0 nor 1, a band height outside 1 to
+// 16,384, or more than 256 bands.
+// If several apply, the lowest is returned. A check is passed over if it needs a value that is itself out of range
+// (Specification 12.6). Number 6, the length of `sigmas` and number 8 are checked only if the iterations are in
+// range. The length of `table` is checked only if the frame's settings are in range. `table` is read only if the
+// frame's sides and settings are in range and its length is right; otherwise grid sides, the length of `grids`,
+// number 8 and presences are not checked. The length of `grids` is checked only if all presences are 0 or 1. The
+// number of bands is checked only if `preserve_outside` and the band height are in range. Example: a table of the
+// wrong length with a present grid 2,000 wide gets 7, not 4.
+// An accepted call fills `sigmas` and leaves `first` and `second` unchanged. A refused call returns a record of zeros
+// and leaves every slice unchanged.
 #[no_mangle]
 pub extern "C" fn restoration_start(
     setup: Setup,
@@ -65,16 +69,18 @@ pub extern "C" fn restoration_start(
     run_start::start(setup, frame, table, grids, first, second, sigmas)
 }
 
-// Runs band `k` of the run's next pass: reads the set that the pass reads (the first in the first pass, exchanged by
-// each advance) and writes the band's rows of the result in the other set, filtered inside the filter region and
-// copied outside it. It answers the record with the band marked done.
-// Numbers, the lowest that applies: 0; 7 where a set or the block sigmas have a wrong length for the record's setup,
-// unless what the length is computed from is out of range (Specification 12.12); 9 where start would refuse the
-// record's setup under 4, 5, 6 or 9, or where no accepted calls lead to its `pass` and `done` flags (Specification
-// 12.8): a pass past the last, a flag over 1, or over 0 from the band count on or once the run is finished; 10 where
-// `k` is not below the band count, the band is done or the run is finished.
-// Accepted, the set that is read, the block sigmas and the rest of the other set are as they were. Refused, the
-// record is the one handed in and every slice is as it was.
+// Runs the next pass over the rows of band `k` and returns the record with that band marked done.
+// The first pass reads the set `first` and writes `second`; each advance exchanges the sets. In the band's rows of
+// the result region, the written set gets filtered samples inside the filter region and copies outside it.
+// Numbers: 0; 7 if the length of a set or of `sigmas` is wrong for the record's setup, unless that length depends on
+// a value that is out of range (Specification 12.12); 9 if the record is not valid (Specification 12.8); 10 if `k` is
+// not below the number of bands, the band is done already or the run is finished. If several apply, the lowest is
+// returned.
+// A record is not valid if `restoration_start` would refuse its setup with 4, 5, 6 or 9, or if no accepted calls lead
+// to its `pass` and `done`: the pass is past the last, a flag is over 1, or a flag is not 0 at or past the number of
+// bands or in a finished run.
+// An accepted call leaves the set that is read, `sigmas` and the rest of the written set unchanged. A refused call
+// returns the record that it was given and leaves every slice unchanged.
 #[no_mangle]
 pub extern "C" fn restoration_band(
     run: Run,
@@ -98,11 +104,10 @@ pub extern "C" fn restoration_band(
     run_band::band(run, sigmas, first, second, k)
 }
 
-// Goes on to the next pass once every band of this one is done: the sets are exchanged and no band is done. After the
-// last pass the run is finished.
-// Numbers, the lowest that applies: 0; 9 for the record, as `restoration_band` has it; 11 where a band is missing or
-// the run is finished.
-// Refused, the record is the one handed in.
+// Advances a run to its next pass when every band of the current pass is done. The two sets exchange their roles and
+// no band is done. After the last pass the run is finished.
+// Numbers: 0; 9 if the record is not valid (see `restoration_band`); 11 if a band is not done or the run is finished.
+// If several apply, the lowest is returned. A refused call returns the record that it was given.
 #[no_mangle]
 pub extern "C" fn restoration_advance(run: Run) -> RunAnswer
     ensures { λ r. ⌜ r ≡ advanceOutcome run ⌝ }
@@ -110,12 +115,13 @@ pub extern "C" fn restoration_advance(run: Run) -> RunAnswer
     run_advance::advance(run)
 }
 
-// Copies the result of a finished run into `out`, plane after plane, from the set that a next pass would read: the
-// image region where `preserve_outside` is 1, the filter region's part where it is 0. It answers the number.
-// Numbers, the lowest that applies: 0; 7 where a set or `out` has a wrong length for the record's setup, unless what
-// the length is computed from is out of range (Specification 12.12); 9 for the record, as `restoration_band` has
-// it; 11 where the run is not finished.
-// Both sets are as they were. Refused, `out` is as it was too.
+// Copies the result of a finished run to `out`, plane by plane and row by row. It is the result region of the set
+// that the last pass wrote, or of `first` if there are no passes: the image region if `preserve_outside` is 1, the
+// filter region if it is 0.
+// Numbers: 0; 7 if the length of a set or of `out` is wrong for the record's setup, unless that length depends on a
+// value that is out of range (Specification 12.12); 9 if the record is not valid (see `restoration_band`); 11 if the
+// run is not finished. If several apply, the lowest is returned.
+// Both sets stay unchanged. A refused call leaves `out` unchanged too.
 #[no_mangle]
 pub extern "C" fn restoration_result(
     run: Run,

@@ -1,4 +1,5 @@
--- The two rows of the table that hold for any picture: a sigma under the limit copies, and a NaN sigma leaves a centre of 5 among finite samples. Assumes nothing.
+-- The two rows of the table that hold for any picture: a sigma under the limit copies; with a NaN sigma and finite samples a centre of 5
+-- stays 5. Assumes nothing.
 use mathlib.Core.Path.{_≡_, refl, _∙_, ap}
 use mathlib.Core.Bool.{Bool, true, false, cond}
 use mathlib.Core.List.{List, [], _∷_}

@@ -1,5 +1,5 @@
--- The two instances that speak of any picture (Specification 14.8: sigma 0.25 copies; sigma NaN, finite samples, centre 5: 5).
--- They hold for each step, whatever its scales, and for a picture of any size. Definitions only.
+-- The two instances that hold for any picture (Specification 14.8: sigma 0.25 copies; sigma NaN, finite samples, centre 5: 5). They hold
+-- for each step, whatever its scales, and for a picture of any size. Definitions only.
 use mathlib.Core.Path.{_≡_}
 use Prim.Native.Nat.{ℕ, _<_}
 use lib.Ieee.{Float, nan, inf, fin}

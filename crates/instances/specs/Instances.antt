@@ -1,5 +1,5 @@
--- The instances of Specification 14 in one table, and others that tell mistakes apart (Specification 14.11).
--- Each row is an equation in the definitions that the contracts cite. Definitions only.
+-- The instances of Specification 14 in one table, and others that tell similar programs apart (Specification 14.11). Each row is an
+-- equation in the definitions that the contracts cite. Definitions only.
 use mathlib.Core.Path.{_≡_}
 use mathlib.Core.Bool.{true, false, cond}
 use mathlib.Core.List.{List, [], _∷_}
@@ -72,34 +72,34 @@ square = record { left = negsuc 2; top = negsuc 2; width = 5; height = 5 }
 
 -- ---- headers
 
--- a number as so many bytes, its lowest bit first
+-- a number as n bytes, least significant bit first
 unfoldable pub bytesOf : ℕ → ℕ → List ℕ
 bytesOf zero n = []
 bytesOf (suc k) n = n % 256 ∷ bytesOf k (n / 256)
 
--- a half alone in a header of two bytes
+-- a half read from a header of two bytes
 abbrev pub half : ℕ → Outcome Float
 half h = f16 (bytesOf 2 h) 0
 
--- what it is accepted as, by bits
+-- an accepted half, by the bits of its binary32 value
 abbrev pub single : ℕ → Outcome Float
 single b = accepted (bits b) 16
 
--- a header of 98 bits: the filter on, custom weights, and the same two halves for each channel
+-- a header of 98 bits: enabled, custom weights, and the same two halves for each channel
 abbrev pub customHeader : ℕ → ℕ → List ℕ
 customHeader w0 w1 = bytesOf 13 (3 + 4 * ((w0 + w1 * 2 ^ 16) * (1 + 2 ^ 32 + 2 ^ 64)))
 
 abbrev pub evenly : Float → Float → Gabor
 evenly w0 w1 = gaborWith (w0 ∷ w1 ∷ []) (w0 ∷ w1 ∷ []) (w0 ∷ w1 ∷ [])
 
--- ---- the Gabor-like pass over one plane of w columns and h rows, weights 1/2 and 1/4
+-- ---- the Gabor-like filter over one plane of w columns and h rows, weights 1/2 and 1/4
 
 abbrev pub smoothed : ℕ → ℕ → List Float → List Float
 smoothed w h s = setOf 1 w h (gaborPass ((oneHalf ∷ oneQuarter ∷ []) ∷ []) w h (of w h s))
 
--- ---- edge-preserving steps over one plane of w columns and h rows from image row 0 on
+-- ---- steps of the EPF over one plane of w columns and h rows, top 0
 
--- M at nine columns of an image row, the step's scale being 2 and the border multiplier 3
+-- M at nine columns of a row; the step's scale is 2 and the border multiplier 3
 abbrev at : ℕ → ℕ → Float
 at row col = multiplier b2 b3 row col
 
@@ -123,7 +123,7 @@ stepped step sigma w h s = setOf 1 w h (epfPass (plain step b1) w h 0 (λ _ _. s
 abbrev pub EachStep : (ℕ → Type 0) → Type 0
 EachStep P = P 0 × P 1 × P 2
 
--- ---- steps 0 and 1 in either order of sums, sigma 2
+-- ---- steps 0 and 1, each with either order of sums, sigma 2
 
 -- 0 0 / 2^-24 1
 abbrev pub twoByTwo : Picture
@@ -133,7 +133,7 @@ twoByTwo = of 2 2 (b0 ∷ b0 ∷ tiny ∷ b1 ∷ [])
 abbrev pub oneByFive : Picture
 oneByFive = of 1 5 (b0 ∷ b0 ∷ b0 ∷ tiny ∷ b1 ∷ [])
 
--- a step's sample at column 0 and row 0 of the first, and at row 2 of the second
+-- a step's sample at column 0 and row 0 of the first picture, and at row 2 of the second
 abbrev pub corner : ℕ → Float
 corner step = epfPass (plain step b1) 2 2 0 (λ _ _. b2) twoByTwo 0 0 0
 
@@ -150,9 +150,9 @@ cornerAs order step = summedAs order step (around 2 2 twoByTwo 0 0)
 abbrev pub middleAs : ℕ → ℕ → Float
 middleAs order step = summedAs order step (around 1 5 oneByFive 0 2)
 
--- ---- runs over three planes of w columns and h rows, the filter region being all of them
+-- ---- runs over three planes of w columns and h rows; the filter region is the image region
 
--- a bundle as settings have it
+-- settings from a header bundle
 abbrev settingsFrom : Gabor → GaborSettings
 settingsFrom g = gaborOf (oneIf (g .enabled)) (g .weights)
 
@@ -165,7 +165,7 @@ setupOf w h gabor iters bandHeight =
 abbrev stripes : Picture
 stripes = λ c x y. cond (eqb x 0) b1 b0
 
--- step 1 alone over 2 × 24 samples in bands of 20 rows, the sigma of each block 16, as start leaves it
+-- step 1 alone over 2 × 24 samples in bands of 20 rows, the sigma of each block 16: the state after start
 abbrev pub begun : State
 begun = record { run = started (setupOf 2 24 gaborOff 1 20); sigmas = b16 ∷ b16 ∷ b16 ∷ []; first = setOf 3 2 24 stripes; second = setOf 3 2 24 (λ c x y. b0) }
 
@@ -173,15 +173,15 @@ begun = record { run = started (setupOf 2 24 gaborOff 1 20); sigmas = b16 ∷ b1
 abbrev pub bandZero : State
 bandZero = bandOutcome 3 begun 0 .state
 
--- column 1 of image rows 20 to 23 after band 1 alone
+-- column 1 of rows 20 to 23 after band 1 alone
 abbrev pub lastRows : List Float
 lastRows = tab 4 (λ y. of 2 24 (bandOutcome 3 begun 1 .state .second) 0 1 (20 + y))
 
--- the same with image rows counted from the band's first
+-- the same if rows were counted from the band's first row
 abbrev pub lastRowsFromBand : List Float
 lastRowsFromBand = tab 4 (λ y. epfPass (plain 1 b2) 2 4 0 (λ _ _. b16) stripes 0 1 y)
 
--- Gabor alone over the column 0 16 in bands of one row, as start leaves it
+-- Gabor alone over the column 0 16 in bands of one row: the state after start
 abbrev column : State
 column = record { run = started (setupOf 1 2 (evenly oneHalf oneQuarter) 0 1); sigmas = []; first = setOf 3 1 2 (λ c x y. cond (eqb y 0) b0 b16); second = setOf 3 1 2 (λ c x y. b0) }
 
@@ -189,7 +189,7 @@ column = record { run = started (setupOf 1 2 (evenly oneHalf oneQuarter) 0 1); s
 abbrev pub lastSample : Float
 lastSample = of 1 2 (bandOutcome 3 column 1 .state .second) 0 0 1
 
--- ---- one group across and two down, of 128 blocks a side; the upper one has a grid of one column, the lower none
+-- ---- one group across and two down, each of 128 × 128 blocks; the upper one has a grid of one column, the lower one has none
 
 -- the sigma of block row y of the frame
 abbrev pub blockRow : List Float → Float → ℕ → Float
@@ -207,12 +207,12 @@ blockRow grids modular y =
 -- ---- the table
 
 pub record Table : Type 0 where
-  -- ★ mirror: −1 of 1 is 0; −3 of 2 is 1; 5 of 4 is 2; 7 of 3 is 1
+  -- ★ mirror: −1 among 1 is 0; −3 among 2 is 1; 5 among 4 is 2; 7 among 3 is 1
   pub mirrorOfOne : mirrorOutcome (negsuc 0) 1 ≡ place 0
   pub mirrorOfTwo : mirrorOutcome (negsuc 2) 2 ≡ place 1
   pub mirrorOfFour : mirrorOutcome (pos 5) 4 ≡ place 2
   pub mirrorOfThree : mirrorOutcome (pos 7) 3 ≡ place 1
-  -- ★ border multiplier: image rows 7 and 8 have it; 6 and 9 only at columns 0 and 7 modulo 8
+  -- ★ border multiplier: all of rows 7 and 8; in rows 6 and 9 only the columns that are 0 or 7 modulo 8
   pub borderSix : across 6 ≡ atColumns
   pub borderSeven : across 7 ≡ everywhere
   pub borderEight : across 8 ≡ everywhere
@@ -235,7 +235,7 @@ pub record Table : Type 0 where
   -- ★ step 2, one block sigma 0.25: copied; sigma NaN, finite samples, centre 5: 5
   pub copiedBelow : CopiedBelow
   pub nanSigma : NanSigma
-  -- group row 0 has grids, row 1 none: block row 128 repeats row 127
+  -- group row 0 has grids, row 1 has none: block row 128 repeats row 127
   pub repeated : (grids : List Float) (modular : Float) → (blockRow grids modular 127 ≡ getD grids 127 nan) × (blockRow grids modular 128 ≡ getD grids 127 nan)
   -- band 0 twice: 10; advance with band 1 missing: 11
   pub bandOnce : bandOutcome 3 begun 0 .number ≡ 0
@@ -243,23 +243,23 @@ pub record Table : Type 0 where
   pub bandMissing : advanceOutcome (bandZero .run) .number ≡ 11
   -- sigma 1 does not copy
   pub notCopied : copied b1 standardLimit ≡ false
-  -- a NaN sigma filters; copying would leave −0 1, inf 1 and NaN 1
+  -- a NaN sigma filters; copying would give −0 1, inf 1 and NaN 1
   pub nanMinusZero : EachStep (λ k. stepped k nan 2 1 (minusZero ∷ b1 ∷ []) ≡ b0 ∷ b1 ∷ [])
   pub nanInfinity : EachStep (λ k. stepped k nan 2 1 (infinity ∷ b1 ∷ []) ≡ nan ∷ nan ∷ [])
   pub nanNaN : EachStep (λ k. stepped k nan 2 1 (nan ∷ b1 ∷ []) ≡ nan ∷ nan ∷ [])
-  -- step 0 as it sums, and summed as step 1 is
+  -- step 0 in its own order of sums, and in step 1's
   pub cornerZero : corner 0 ≡ bits 0x3100_6d9e
   pub cornerZeroAsOne : cornerAs 1 0 ≡ bits 0x3100_6d80
   pub middleZero : middle 0 ≡ bits 0x3034_add2
   pub middleZeroAsOne : middleAs 1 0 ≡ bits 0x3034_adfd
-  -- step 1 as it sums, and summed as step 0 is
+  -- step 1 in its own order of sums, and in step 0's
   pub cornerOne : corner 1 ≡ bits 0x3032_b54e
   pub cornerOneAsZero : cornerAs 0 1 ≡ bits 0x3032_b578
   pub middleOne : middle 1 ≡ bits 0x3007_e265
   pub middleOneAsZero : middleAs 0 1 ≡ bits 0x3007_e245
-  -- image row 23 lies at a border and rows 20 to 22 do not; counted from the band, row 20 would
+  -- row 23 is at a border, rows 20 to 22 are not; counted from the band, row 20 would be
   pub borderRows : lastRows ≡ bits 0x3e14_831c ∷ bits 0x3e14_831c ∷ bits 0x3e14_831c ∷ bits 0x3d94_9423 ∷ []
   pub borderRowsFromBand : lastRowsFromBand ≡ bits 0x3d94_9423 ∷ bits 0x3e14_831c ∷ bits 0x3e14_831c ∷ bits 0x3e14_831c ∷ []
-  -- a band reads the rows around it; mirrored at its own, the one sample would be copied
+  -- a band reads the rows around it; if it mirrored at its own edges, its one sample would be copied
   pub aroundBand : lastSample ≡ b12
   pub mirroredAtBand : smoothed 1 1 (b16 ∷ []) ≡ b16 ∷ []

@@ -1,5 +1,5 @@
--- The limits of Specification 4.1: the last value that is accepted beside the first that is refused.
--- Each row is an equation in the definitions that the contracts cite. Definitions only.
+-- The limits of Specification 4.1: for each, the last accepted value and the first refused one. Each row is an equation in the definitions
+-- that the contracts cite. Definitions only.
 use mathlib.Core.Path.{_≡_}
 use mathlib.Core.Bool.{true, false}
 use mathlib.Core.List.{List, [], _∷_}
@@ -31,11 +31,11 @@ use Rattle.run_outcomes.specs.Band.{bandOutcome, advanceOutcome}
 use Rattle.run_outcomes.specs.Result.{resultOutcome}
 use Rattle.instances.specs.Instances.{begun}
 
--- a value that is accepted and one that gets number k
+-- a value that is accepted and one that is refused with k
 abbrev pub Limit : {A : Type 0} → (A → ℕ) → A → A → ℕ → Type 0
 Limit number fits past k = (number fits ≡ 0) × (number past ≡ k)
 
--- ---- what is asked about the value
+-- ---- the number of a call, as a function of the value
 
 abbrev pub square : ℤ → ℕ → Region
 square corner side = record { left = corner; top = corner; width = side; height = side }
@@ -46,11 +46,11 @@ sideNumber side = isEmptyOutcome (square (pos 0) side) .number
 abbrev pub cornerNumber : ℤ → ℕ
 cornerNumber corner = isEmptyOutcome (square corner 1) .number
 
--- columns and rows from 0, 0 on
+-- a region at 0, 0 with these sides
 abbrev pub sides : ℕ → ℕ → Region
 sides w h = record { left = pos 0; top = pos 0; width = w; height = h }
 
--- an image of so many columns and rows that is its own filter region
+-- an image region of this width and height that is also the filter region
 abbrev pub pictureNumber : ℕ × ℕ → ℕ
 pictureNumber s = placedOutcome (sides (s .0) (s .1)) (sides (s .0) (s .1)) .number
 
@@ -58,18 +58,18 @@ abbrev pub frameNumber : ℕ → ℕ → ℕ → ℕ → ℕ
 frameNumber side upsampling level shift =
     frameOutcome (record { width = side; height = side; upsampling = upsampling; «lf_level» = level; «group_size_shift» = shift }) .number
 
--- what start is told: image and filter region, the result's flag and Gabor's, the iterations and the band height
+-- a setup: image and filter region, `preserve_outside`, Gabor's flag, iterations and band height
 abbrev pub told : Region → Region → ℕ → ℕ → ℕ → ℕ → Setup
 told image filter full gabor iters height =
     let s = begun .run .setup in
     let g = gaborOf gabor (s .settings .gabor .weights) in
     withBandHeight height (withSettings (withGabor g (withIters iters (s .settings))) (withFull full (withRegions image filter s)))
 
--- a record of w × h samples as start gives it, with so many iterations and bands of so many rows: 9, or 11 since no band is done
+-- advance on a record of w × h samples with these iterations and this band height, as start returns it: 9, or 11 since no band is done
 abbrev pub recordNumber : ℕ → ℕ → ℕ → ℕ → ℕ
 recordNumber w h iters height = advanceOutcome (started (told (sides w h) (sides w h) 1 0 iters height)) .number
 
--- ---- lengths that a record passed in decides: 7 where its sides are in range, else 9
+-- ---- lengths that depend on the record: 7 if its sides are in range, otherwise 9
 
 -- three planes of one sample
 abbrev pub single : List Float
@@ -83,7 +83,7 @@ setsNumber w h = bandOutcome 3 (record { run = started (told (sides w h) (sides 
 abbrev pub noSigmasNumber : ℕ → ℕ → ℕ
 noSigmasNumber w h = bandOutcome 3 (record { run = started (told (sides 1 1) (sides w h) 1 0 1 1); sigmas = []; first = single; second = single }) 0 .number
 
--- the result of a filter region of w × h samples, the slice empty
+-- the result of a filter region of w × h samples, with an empty slice
 abbrev pub sliceNumber : ℕ → ℕ → ℕ
 sliceNumber w h = resultOutcome 3 (started (told (sides 1 1) (sides w h) 0 0 0 1)) single single [] .number
 
@@ -95,7 +95,7 @@ eightFrom left = record { left = pos left; top = pos 0; width = 8; height = 8 }
 abbrev pub planesOf : List Float
 planesOf = replicate 384 b0
 
--- start, by the filter region's left, both flags and the group's presence
+-- start, with the filter region's left, both flags and the group's presence
 abbrev pub startNumber : ℕ → ℕ → ℕ → ℕ → ℕ
 startNumber left full gabor presence =
     startOutcome 3 (record {
@@ -108,23 +108,23 @@ startNumber left full gabor presence =
       sigmas = b0 ∷ [];
     }) .answer .number
 
--- a step, by its index, the filter region's left and the result's flag
+-- a step, with its number, the filter region's left and `preserve_outside`
 abbrev pub stepNumber : ℕ → ℕ → ℕ → ℕ
 stepNumber step left full =
     epfOutcome (sides 16 8) (eightFrom left) full (record { step = step; «channel_scale» = single; multiplier = b1; «border_sad_mul» = b1 }) (b1 ∷ []) 0 8 planesOf planesOf .number
 
--- block sigmas, by the block's column, whether the edge filter is on, and the group's presence
+-- block sigmas, with the block's column, whether the EPF is on, and the group's presence
 abbrev pub sigmasNumber : ℕ → ℕ → ℕ → ℕ
 sigmasNumber left on presence =
     sigmasOutcome on (record { width = 16; height = 8; upsampling = 1; «lf_level» = 0; «group_size_shift» = 0 }) (record { left = left; top = 0; width = 8; height = 8 }) (presence ∷ 1 ∷ 1 ∷ []) (b1 ∷ []) b1 (b0 ∷ [])
     .number
 
--- ---- the margin, by Gabor's flag and the iterations
+-- ---- the margin, with Gabor's flag and the iterations
 
 abbrev pub marginOf : ℕ → ℕ → MarginAnswer
 marginOf gabor iters = marginOutcome (told (sides 1 1) (sides 1 1) 1 gabor iters 1 .settings)
 
--- columns of the samples that a frame 1,000 wide has at an LF level
+-- the sample width of a frame 1,000 wide at an LF level
 abbrev pub columnsAt : ℕ → ℕ
 columnsAt level = frameOutcome (record { width = 1000; height = 1; upsampling = 1; «lf_level» = level; «group_size_shift» = 0 }) .sizes .«sample_width»
 
@@ -135,16 +135,16 @@ pub record Limits : Type 0 where
   pub regionSide : Limit sideNumber 16384 16385 4
   pub regionRight : Limit cornerNumber (pos 1048576) (pos 1048577) 4
   pub regionLeft : Limit cornerNumber (negsuc 1048575) (negsuc 1048576) 4
-  -- shrink factors to 16, alignments to 8,192
+  -- downsampling factors to 16, alignments to 8,192
   pub factor : Limit (λ f. downsampleOutcome (square (pos 0) 1) f .number) 16 17 9
   pub alignment : Limit (λ d. alignedOutcome (square (pos 0) 1) d .number) 8192 16384 9
-  -- images and filter regions: sides from 1, an area to 16,777,216; 16,777,219 = 1,549 × 10,831 is the next that two sides have
+  -- image and filter regions: sides from 1, area to 16,777,216; the next area that two sides in range have is 16,777,219 = 1,549 × 10,831
   pub pictureSide : Limit pictureNumber (1, 1) (0, 1) 4
   pub pictureArea : Limit pictureNumber (4096, 4096) (1549, 10831) 4
-  -- headers: 65,536 bytes, of which a bit is read
+  -- headers: 65,536 bytes, of which one bit is read
   pub headerMost : (s : List ℕ) → length s ≡ 65536 → u 1 s 0 ≡ accepted (field s 0 1) 1
   pub headerPast : (s : List ℕ) → length s ≡ 65537 → u 1 s 0 ≡ refused 7
-  -- mirror: lengths 1 to 16,384, offsets as left
+  -- mirror: lengths 1 to 16,384, offsets −1,048,576 to 1,048,576
   pub mirrorLeast : Limit (λ n. mirrorOutcome (pos 0) n .number) 1 0 9
   pub mirrorLength : Limit (λ n. mirrorOutcome (pos 0) n .number) 16384 16385 9
   pub mirrorOver : Limit (λ z. mirrorOutcome z 1 .number) (pos 1048576) (pos 1048577) 9
@@ -160,7 +160,7 @@ pub record Limits : Type 0 where
   -- grids: sides 1 to 1,024
   pub gridSide : Limit (λ n. gridStartOutcome (1 ∷ n ∷ n ∷ []) 1 .number) 1024 1025 4
   pub gridLeast : Limit (λ n. gridStartOutcome (1 ∷ n ∷ n ∷ []) 1 .number) 1 0 4
-  -- block sigmas: 16,384, 16,777,216 and 1,048,576 once more, the last in blocks
+  -- block sigmas: sides to 16,384, area to 16,777,216, left and top to 131,072 blocks
   pub blockSide : (badBlocks (record { left = 0; top = 0; width = 16384; height = 1 }) ≡ false) × (badBlocks (record { left = 0; top = 0; width = 16385; height = 1 }) ≡ true)
   pub blockArea : (badBlocks (record { left = 0; top = 0; width = 4096; height = 4096 }) ≡ false) × (badBlocks (record { left = 0; top = 0; width = 1549; height = 10831 }) ≡ true)
   pub blockLeft : (badBlocks (record { left = 131072; top = 131072; width = 1; height = 1 }) ≡ false) × (badBlocks (record { left = 131073; top = 0; width = 1; height = 1 }) ≡ true)
@@ -171,7 +171,8 @@ pub record Limits : Type 0 where
   pub bandHeight : (recordNumber 1 1 1 16384 ≡ 11) × (recordNumber 1 1 1 16385 ≡ 9)
   pub bandLeast : (recordNumber 1 1 1 1 ≡ 11) × (recordNumber 1 1 1 0 ≡ 9)
   pub bandMost : (recordNumber 1 256 1 1 ≡ 11) × (recordNumber 1 257 1 1 ≡ 9)
-  -- lengths: a side of 16,384 and one more, of the image for the sets, of the filter region for the block sigmas and the result's slice
+  -- lengths: a side of 16,384 and of 16,385, of the image region for the sets, of the filter region for the block sigmas and the result's
+  -- slice
   pub setsWide : (setsNumber 16384 1 ≡ 7) × (setsNumber 16385 1 ≡ 9)
   pub setsHigh : (setsNumber 1 16384 ≡ 7) × (setsNumber 1 16385 ≡ 9)
   pub setsArea : (setsNumber 4096 4096 ≡ 7) × (setsNumber 1549 10831 ≡ 9)
@@ -179,14 +180,14 @@ pub record Limits : Type 0 where
   pub sigmasHigh : (noSigmasNumber 1 16384 ≡ 7) × (noSigmasNumber 1 16385 ≡ 9)
   pub sliceWide : (sliceNumber 16384 1 ≡ 7) × (sliceNumber 16385 1 ≡ 9)
   pub sliceHigh : (sliceNumber 1 16384 ≡ 7) × (sliceNumber 1 16385 ≡ 9)
-  -- start: 5 outside the image, 6 off the blocks, 8 for a block that the grid lacks, 9 for a flag or a presence of 2
+  -- start: 5 outside the image region, 6 if not on blocks, 8 if the grid lacks the block, 9 for a flag or a presence of 2
   pub startInside : Limit (λ l. startNumber l 1 0 1) 0 16 5
   pub startOnBlocks : Limit (λ l. startNumber l 1 0 1) 0 4 6
   pub startHeld : Limit (λ l. startNumber l 1 0 1) 0 8 8
   pub startFull : Limit (λ f. startNumber 0 f 0 1) 1 2 9
   pub startGabor : Limit (λ g. startNumber 0 1 g 1) 1 2 9
   pub startPresence : Limit (λ p. startNumber 0 1 0 p) 1 2 9
-  -- a step: indices to 2; 5, 6 and 9 as for start
+  -- a step: numbers to 2; 5, 6 and 9 as for start
   pub stepMost : Limit (λ k. stepNumber k 0 1) 2 3 9
   pub stepInside : Limit (λ l. stepNumber 0 l 1) 8 16 5
   pub stepOnBlocks : Limit (λ l. stepNumber 0 l 1) 8 4 6
@@ -195,7 +196,7 @@ pub record Limits : Type 0 where
   pub sigmasHeld : Limit (λ l. sigmasNumber l 1 1) 0 1 8
   pub sigmasOn : Limit (λ on. sigmasNumber 0 on 1) 1 2 9
   pub sigmasPresence : Limit (λ p. sigmasNumber 0 1 p) 1 2 9
-  -- margins: 0, 2, 3 or 6 for 0 to 3 iterations, 1 more with the Gabor-like filter
+  -- margins: 0, 2, 3 or 6 for 0 to 3 iterations, plus 1 with the Gabor-like filter
   pub margins : (marginOf 0 0 .margin ≡ 0) × (marginOf 0 1 .margin ≡ 2) × (marginOf 0 2 .margin ≡ 3) × (marginOf 0 3 .margin ≡ 6)
   pub marginsGabor : (marginOf 1 0 .margin ≡ 1) × (marginOf 1 1 .margin ≡ 3) × (marginOf 1 2 .margin ≡ 4) × (marginOf 1 3 .margin ≡ 7)
   pub marginIterations : Limit (λ i. marginOf 0 i .number) 3 4 9

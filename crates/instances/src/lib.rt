@@ -1,1 +1,2 @@
-// The instances of Specification 14 in one table. There is no code here; specs/ states it and proofs/ proves it.
+// The instances of Specification 14 in one table. There is no code here; specs/ states the table and proofs/ proves
+// it.

@@ -1,4 +1,5 @@
--- What an accepted advance was given, and the outcomes as the code's tests give them. Assumes nothing.
+-- What holds of the record that an accepted advance is given, and that the code's tests give the outcomes of the definition. Assumes
+-- nothing.
 use mathlib.Core.Path.{_≡_, sym, _∙_}
 use mathlib.Core.Bool.{Bool, true, false}
 use Prim.Native.Nat.{ℕ, _-_, _<_, _≤_}

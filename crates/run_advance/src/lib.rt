@@ -20,7 +20,7 @@ fn advanced(run: Run) -> Run
     r
 }
 
-// The next pass, or the finish.
+// Advances to the next pass, or finishes the run.
 pub fn advance(run: Run) -> RunAnswer
     ensures { λ r. ⌜ r ≡ advanceOutcome run ⌝ }
 {

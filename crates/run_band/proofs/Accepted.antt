@@ -1,4 +1,4 @@
--- What an accepted band was given, and the outcomes as the code's tests give them. Assumes nothing.
+-- What holds of the state that an accepted band is given, and that the code's tests give the outcomes of the definition. Assumes nothing.
 use mathlib.Core.Path.{_≡_, sym, ap, _∙_}
 use mathlib.Core.Bool.{Bool, true, false, cond, not, _&&_, _||_}
 use mathlib.Core.List.{List, _∷_}
@@ -63,7 +63,7 @@ module _ (t : State) (k : ℕ) (e : bandNumber 3 t k ≡ 0) where
   sigma-length =
       eqb→eq _ _ (met-given (itersFit s && (not (epfOn s) || sized (s .filter))) (eqb (length (t .sigmas)) (sigmaLength s)) (row-passed (bandChecks 3 t k) tt e (sigmaCheck 3 s (length (t .sigmas))) (search (here, below) depth 20)) sigma-known)
 
-  -- numbers of the machine
+  -- bounds in machine integers
   pub record Room : Type 0 where
     pub band : k < maxBands
     pub height : s .«band_height» ≤ 16384
@@ -84,7 +84,7 @@ module _ (t : State) (k : ℕ) (e : bandNumber 3 t k ≡ 0) where
       let c : k ≤ maxBands = omega arith in
       record { band = b; height = setup .height-most; from = mul-le-mul c (setup .height-most); rows = rows-most }
 
-  -- band k begins before the last row
+  -- band k starts before the last row
   begins : bandFrom s k ≤ rowCount s
   unfolding bandCount
   begins =

@@ -1,4 +1,4 @@
--- Rows of a pass of a run: neither filter refuses them, and what they leave is the next pass's. Assumes nothing.
+-- Rows of a pass of a run: neither filter refuses them, and the written set is that of the next pass. Assumes nothing.
 use mathlib.Core.Path.{_≡_, sym, ap, _∙_}
 use mathlib.Core.Bool.{Bool, true, false, true≢false, _&&_}
 use mathlib.Core.List.{List, []}
@@ -36,7 +36,7 @@ index-most : (s : Settings) (p : ℕ) → stepIndex s p ≤ 2
 unfolding stepIndex
 index-most s p = omega arith
 
--- an accepted pass leaves what it defines
+-- an accepted pass writes what its definition says
 accepted-target : (k : ℕ) (a left dst : List Float) (n : ℕ) → n ≡ 0 → _≡_ {A = PassOutcome} (record { number = k; target = a }) (passOutcome n left dst) → a ≡ left
 unfolding passOutcome
 accepted-target k a left dst n z e = ap (λ (o : PassOutcome). o .target) e ∙ rw z
@@ -63,7 +63,7 @@ module _ (r : Run) (sigmas src dst : List Float) (from to : ℕ) (fits : RowsFit
     rows-true,
   )
 
-  -- Gabor's pass
+  -- a Gabor pass
   pub gabor-rows : gaborAt (s .settings) (r .pass) ≡ true → (ws : List (List Float)) → ws ≡ s .settings .gabor .weights → (k : ℕ) (a : List Float)
       → _≡_ {A = PassOutcome} (record { number = k; target = a }) (gaborOutcome (s .image) (s .filter) (s .«preserve_outside») ws from to src dst)
       → a ≡ passedRows 3 r sigmas from to src dst
@@ -72,9 +72,9 @@ module _ (r : Run) (sigmas src dst : List Float) (from to : ℕ) (fits : RowsFit
       accepted-target k a _ dst _ gabor-number e
       ∙ rw (plan-gabor 3 (s .settings) (r .pass) (gaborLike []) g, w)
 
-  -- a step's pass
+  -- a step of the EPF
   module _ (g : gaborAt (s .settings) (r .pass) ≡ false) where
-    -- the edge filter is on, since a pass that is not Gabor's is left
+    -- the EPF is on, since the next pass is not Gabor's
     some-iters : 0 < s .settings .epf .iters
     unfolding gaborAt
     some-iters = go (gaborOn (s .settings)) g (omega (arith, fits .left, plan-length 3 (s .settings)))

@@ -1,4 +1,4 @@
--- Rows of a pass of a run: when they fit, and what they leave. Definitions only.
+-- Rows of a pass of a run: when the arguments fit, and the written set after it. Definitions only.
 use mathlib.Core.Path.{_≡_}
 use mathlib.Core.Bool.{cond}
 use mathlib.Core.List.{List}
@@ -12,12 +12,12 @@ use Rattle.run_record.specs.Record.{passCount}
 use Rattle.run_record.specs.RunFits.{RunFits}
 use Rattle.run_outcomes.specs.Band.{State, readsFirst, nextPass, banded}
 
--- rows from `from` up to `to` of the result, of n planes: what the next pass over them leaves in dst
+-- dst after the next pass over rows `from` up to `to` of the result region, for n planes
 abbrev pub passedRows : ℕ → Run → List Float → ℕ → ℕ → List Float → List Float → List Float
 passedRows n r sigmas from to src dst =
     passed n (layout (r .setup)) from to (pass (area (r .setup) sigmas) (nextPass n r) (inner (layout (r .setup)) src)) src dst
 
--- a pass is left, the slices have their lengths, and the result has these rows
+-- the run is not finished, the slices have their lengths, and the result region has these rows
 pub record RowsFit (r : Run) (sigmas src dst from to : ℕ) : Type 0 where
   pub run : RunFits r
   pub left : r .pass < passCount (r .setup)
@@ -29,7 +29,7 @@ pub record RowsFit (r : Run) (sigmas src dst from to : ℕ) : Type 0 where
 
 -- ---- a band
 
--- the state with the band's rows written, the record as it was
+-- the state with the band's rows written; the record is unchanged
 abbrev pub bandWritten : ℕ → State → ℕ → State
 bandWritten n t k = record {
   run = t .run;

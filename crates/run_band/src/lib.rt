@@ -22,7 +22,7 @@ ghost use Rattle.run_record.specs.Record.{marked, openChecks};
 ghost use Rattle.run_outcomes.specs.Band.{State, BandOutcome, setCheck, sigmaCheck, bandNumber, bandOutcome};
 ghost use Rattle.run_band.specs.Rows.{RowsFit, passedRows, bandWritten};
 
-// Which number a band gets: 7 for the sets and the block sigmas, then what the record gives it.
+// The number of a band call: 7 for the sets and the block sigmas, then the record's number.
 fn refusal(run: Run, sigmas: usize, first: usize, second: usize, k: u32) -> u32
     ensures { λ r. ⌜ r ≡ firstOf (setCheck 3 (run .setup) first second ∷ sigmaCheck 3 (run .setup) sigmas ∷ openChecks run k) ⌝ }
 {
@@ -35,7 +35,7 @@ fn refusal(run: Run, sigmas: usize, first: usize, second: usize, k: u32) -> u32
     band_number(run, k)
 }
 
-// Rows `from` up to `to` of the result: the next pass, from the set that is read to the other.
+// Runs the next pass over rows `from` up to `to` of the result region.
 fn pass_rows(run: Run, sigmas: &[f32], src: &[f32], dst: &mut [f32], from: u32, to: u32)
     requires { ⌜ RowsFit run (length (now sigmas)) (length (now src)) (length (now dst)) from to ⌝ }
     ensures { λ _. ⌜ now (dst .exit) ≡ passedRows 3 run (now (sigmas .entry)) from to (now (src .entry)) (now (dst .entry)) ⌝ }
@@ -66,7 +66,8 @@ fn smaller(a: u32, b: u32) -> u32
     if a < b { a } else { b }
 }
 
-// The rows of band k. Advance exchanges the sets, so passes read the first and the second alternately.
+// Runs the next pass over the rows of band k. Each advance exchanges the sets: even passes read the first, odd passes
+// read the second.
 fn filter_band(run: Run, sigmas: &[f32], first: &mut [f32], second: &mut [f32], k: u32)
     requires { ⌜ bandNumber 3 (record { run = run; sigmas = now sigmas; first = now first; second = now second }) k ≡ 0 ⌝ }
     ensures { λ _. ⌜ _≡_ {A = State} (record { run = run; sigmas = now (sigmas .entry); first = now (first .exit); second = now (second .exit) }) (bandWritten 3 (record { run = run; sigmas = now (sigmas .entry); first = now (first .entry); second = now (second .entry) }) k) ⌝ }
@@ -90,7 +91,8 @@ fn marked(run: Run, k: usize) -> Run
     r
 }
 
-// Band k of the pass: filters or copies its rows of the result from the set that is read into the other, and marks it done.
+// Runs band k of the next pass: writes its rows of the result region to the set that the pass writes, and marks the
+// band done.
 pub fn band(run: Run, sigmas: &[f32], first: &mut [f32], second: &mut [f32], k: u32) -> RunAnswer
     ensures { λ r. ⌜ _≡_ {A = BandOutcome} (record { number = r .number; state = record { run = r .run; sigmas = now (sigmas .entry); first = now (first .exit); second = now (second .exit) } }) (bandOutcome 3 (record { run = run; sigmas = now (sigmas .entry); first = now (first .entry); second = now (second .entry) }) k) ⌝ }
 {

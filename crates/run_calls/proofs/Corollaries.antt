@@ -57,7 +57,7 @@ no-cut-edge : (m : ℕ) (r : Region) (x y : ℤ) → Clear m r r x y
 no-cut-edge m r x y = record { left = λ f. absurd (f refl); right = λ f. absurd (f refl); top = λ f. absurd (f refl); bottom = λ f. absurd (f refl) }
 
 module _ (n : ℕ) (K : Calls n) where
-  -- the theorem on rectangles, of a finished run
+  -- the theorem on rectangles for a finished run
   cut-run : (h large : Handed) (r : FinishedRun n K h) → CutFrom n h large → Delivers n h large (handedOver n K h r)
   cut-run h large r from = rectangle-theorem n K h large (r .calls) (r .slice) (record { start-accepted = r .accepted; cut-from-larger = from; nobody-altered-anything = r .unaltered; run-finished = r .ended; slice-fits = r .room })
 
@@ -71,7 +71,7 @@ module _ (n : ℕ) (K : Calls n) where
 
 -- ---- outside the filter region
 
--- a place of the image region that the filter region has not is outside it in the layout too
+-- a position of the image region outside the filter region is outside it in the layout too
 not-in-filter : (s : Setup) → SetupFits s → (x y : ℤ) → Holds (s .image) x y → (Holds (s .filter) x y → ⊥)
     → inFilter (layout s) (natAbs (x -ℤ s .image .left)) (natAbs (y -ℤ s .image .top)) ≡ false
 unfolding inFilter inRect layoutOf
@@ -102,7 +102,7 @@ module _ (n : ℕ) (K : Calls n) (h : Handed) (r : FinishedRun n K h) where
   kept : KeptFrom n h state
   kept = after-start n K h (r .accepted) (r .calls) (r .unaltered)
 
-  -- the slice that is handed over
+  -- the slice after the result call
   out-is : handedOver n K h r .out ≡ resultOf n (layout (h .setup)) (source state)
   out-is = handed-over n h state kept (r .ended) (r .slice) (r .room) .1
 
@@ -139,7 +139,7 @@ module _ (n : ℕ) (K : Calls n) (h : Handed) (r : FinishedRun n K h) where
 pub outside-kept : (n : ℕ) (K : Calls n) → OutsideKept n K
 outside-kept n K h r = kept-outside n K h r
 
--- ---- every order of bands and every band height
+-- ---- any order of bands and any band height
 
 in-or-not : (s : Span) (p : ℤ) → Dec (In s p)
 in-or-not s p = go (leZ (s .start) p) refl (ltZ p (s .end)) refl
@@ -169,7 +169,7 @@ module _ (n : ℕ) (a b : Handed) (same : SameButBands a b) where
   first-same c x y = rw (leaves-same n a b (same .first), same .image)
 
   module _ (p : PictureFits n a) (q : PictureFits n b) where
-    -- with the edge filter off there are no block sigmas
+    -- if the EPF is off there are no block sigmas
     sigmas-same : sigmasFilled n a ≡ sigmasFilled n b
     unfolding sigmasFilled
     sigmas-same = rw (same .settings, same .filter, same .frame, same .table, same .grids) (cond-second (epfOn (b .setup)) _ (a .sigmas) (b .sigmas) (λ off.

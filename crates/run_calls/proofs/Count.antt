@@ -1,4 +1,4 @@
--- With p passes and b bands a run is finished after exactly p × b accepted bands and p accepted advances. Assumes nothing.
+-- A run with p passes and b bands is finished after exactly p × b accepted bands and p accepted advances. Assumes nothing.
 use mathlib.Core.Path.{_≡_, refl, sym, ap, _∙_}
 use mathlib.Core.Bool.{Bool, true, false, cond}
 use mathlib.Core.List.{List, [], _∷_}
@@ -26,9 +26,9 @@ use Rattle.run_calls.specs.Rules.{CountRule, LibraryCountRule}
 use Rattle.run_calls.proofs.Sound.{Sound}
 use Rattle.run_calls.proofs.Lists.{after-kept, start-state, start-sound, after-start}
 
--- ---- yes or no by numbers
+-- ---- predicates on numbers
 
--- how many of the first m say yes
+-- how many of the first m numbers satisfy it
 unfoldable ticks : (ℕ → Bool) → ℕ → ℕ
 ticks f zero = 0
 ticks f (suc m) = cond (f m) 1 0 + ticks f m
@@ -38,7 +38,7 @@ unfolding ticks
 ticks-same f g zero h = refl
 ticks-same f g (suc m) h = rw (h m (omega arith), ticks-same f g m (λ j l. h j (omega arith)))
 
--- g says yes once more than f, at k
+-- g holds where f does, and at k
 ticks-more : (f g : ℕ → Bool) (k m : ℕ) → k < m → f k ≡ false → g k ≡ true → ((j : ℕ) → (j ≡ k → ⊥) → g j ≡ f j) → ticks g m ≡ suc (ticks f m)
 unfolding ticks
 ticks-more f g k zero h a b o = absurd (omega arith)
@@ -49,7 +49,7 @@ ticks-more f g k (suc m) h a b o =
     rw (o m (λ (e : m ≡ k). omega arith)) (omega arith))
     (eq-or-lt-of-le (le-of-suc-le-suc h))
 
--- all below b say yes and none from b on
+-- it holds for all numbers below b and for none from b on
 ticks-all : (f : ℕ → Bool) (b m : ℕ) → b ≤ m → ((k : ℕ) → k < b → f k ≡ true) → ((k : ℕ) → k < m → b ≤ k → f k ≡ false) → ticks f m ≡ b
 unfolding ticks
 ticks-all f b zero h t o = omega arith
@@ -64,13 +64,13 @@ ticks-all f b (suc m) h t o =
 none-ticks : (f : ℕ → Bool) → ((k : ℕ) → f k ≡ false) → ticks f 256 ≡ 0
 none-ticks f o = ticks-all f 0 256 (omega arith) (λ k l. absurd (omega arith)) (λ k l z. o k)
 
--- ---- the record tells how many calls were accepted
+-- ---- the record determines how many calls were accepted
 
--- accepted bands so far: all of each pass that is over, and those that are done
+-- accepted bands so far: all bands of each completed pass, and those that are done
 abbrev told : Run → ℕ
 told r = r .pass * bandCount (r .setup) + ticks (isDone r) 256
 
--- the record q after the record r, a bands and b advances later
+-- record q follows record r after a accepted bands and b accepted advances
 record Counted (r q : Run) (a b : ℕ) : Type 0 where
   bands : told q ≡ told r + a
   advances : q .pass ≡ r .pass + b
@@ -119,7 +119,7 @@ finished-told r f z =
     let none = ticks-all (isDone r) 0 256 (omega arith) (λ k l. absurd (omega arith)) (λ k l o. f .stray k l (rw e (omega arith))) in
     omega arith
 
--- nor has the run that a start begins
+-- nor has a run just started
 started-told : (s : Setup) → (told (started s) ≡ 0) × (started s .pass ≡ 0)
 unfolding started
 started-told s = (omega (arith, none-ticks (isDone (started s)) (started-none s)), refl)

@@ -1,4 +1,5 @@
--- Each premise of the theorem on rectangles is needed: pictures, calls and a slice for which all others hold, and what is handed over is not the larger picture's. Assumes nothing.
+-- Each premise of the theorem on rectangles is needed: for each there are pictures, calls and a slice that meet all others, and a result
+-- that differs from the larger picture. Assumes nothing.
 use mathlib.Core.Path.{_≡_, refl, sym, _∙_}
 use mathlib.Core.Bool.{true, false, cond, _&&_}
 use mathlib.Core.List.{List, [], _∷_}
@@ -73,7 +74,7 @@ zeros = setOf 3 3 1 (λ c x y. b0)
 abbrev peak : List Float
 peak = setOf 3 3 1 (λ c x y. cond (eqb x 1) (bits 0x4180_0000) b0)
 
--- through no pass, and through the Gabor-like filter
+-- with no pass, and with the Gabor-like filter
 abbrev plain : Handed
 plain = handed (row 0 3) (noSetup .settings) peak zeros
 
@@ -83,7 +84,7 @@ gabor = record { gabor = record { enabled = 1; weights = weights }; epf = noSetu
 abbrev blurred : Handed
 blurred = handed (row 0 3) gabor peak zeros
 
--- ---- a start that is refused (7): its record, zeros, is refused by the result (9)
+-- ---- a start that is refused (7): its record of zeros is refused by the result (9)
 
 abbrev unstarted : Handed
 unstarted = handed (row 0 3) (noSetup .settings) peak []
@@ -122,7 +123,7 @@ unfinished : resultAfter 3 (libraryCalls 3) blurred [] zeros .number ≡ 11
 unfolding startOutcome startChecks startLeaves pictureChecks pictured measured place side inside badSides badSettings sizesOf tableFits gridsFit gridStart cells someBelow badGrid bandCount layoutOf setOf tab started end plan steps resultOutcome resultChecks runFits strayDone isDone numbersFit setupFits sized
 unfinished = refl
 
--- ---- a slice of no samples: the result is refused (7)
+-- ---- an empty slice: the result is refused (7)
 
 slice-others : (p : Premise) → (p ≡ slice-fits → ⊥) → Says p plain plain [] []
 unfolding startOutcome startChecks pictureChecks pictured measured place side inside badSides badSettings sizesOf tableFits gridsFit gridStart cells someBelow badGrid bandCount layoutOf setOf tab started plan steps end
@@ -140,7 +141,7 @@ no-room : resultAfter 3 (libraryCalls 3) plain [] [] .number ≡ 7
 unfolding startOutcome startChecks startLeaves pictureChecks pictured measured place side inside badSides badSettings sizesOf tableFits gridsFit gridStart cells someBelow badGrid bandCount layoutOf setOf tab started end resultOutcome resultChecks sized
 no-room = refl
 
--- ---- no pass, where the larger picture has one
+-- ---- no pass, but the larger picture has one
 
 passes-others : (p : Premise) → (p ≡ same-passes → ⊥) → Says p plain blurred [] zeros
 unfolding startOutcome startChecks pictureChecks pictured measured place side inside badSides badSettings sizesOf tableFits gridsFit gridStart cells someBelow badGrid bandCount layoutOf setOf tab startLeaves started plan steps end
@@ -178,7 +179,7 @@ sides = λ c x y. cond (eqb x 2) b0 (bits 0x4180_0000)
 abbrev alone-there : Handed
 alone-there = handed (row 1 1) gabor (smaller sides weights .first) zeros
 
--- counted from the middle column the two sides are one place, and have one sample
+-- counted from the middle column, both sides have the same index and so the same sample
 same-sides : (c : ℕ) (x y : ℤ) → c < 3 → Holds (smaller sides weights .setup .filter) x y → inputAt 3 (smaller sides weights) c x y ≡ inputAt 3 alone-there c x y
 unfolding startLeaves inner layoutOf
 same-sides c x (pos (suc j)) h held = absurd (omega (arith, lt-to (pos (suc j)) (pos 1) (held .row .before)))
@@ -212,7 +213,7 @@ contained-itself : lt (sampleAt 3 (smaller sides weights) 0 (pos 1) (pos 0)) (sa
 unfolding startLeaves ofBits lt add sub mul div mirror around of setOf tab inner layoutOf pass passes plan steps gaborPass gaborBy alone stands evaluate formula sigmasFilled
 contained-itself = refl
 
--- ---- a larger filter region from column 4 on (6): its last column, 11, is the border of a block, where the smaller one's is none
+-- ---- a larger filter region that starts at column 4 (6): its last column, 11, is at the border of a block; in the smaller one it is not
 
 -- 1 at column 11 and row 1
 abbrev dot : Picture
@@ -286,7 +287,7 @@ blocks-itself : lt (sampleAt 3 small-edge 0 (pos 11) (pos 1)) (sampleAt 3 small-
 unfolding startLeaves ofBits lt add sub mul div mirror around of setOf tab inner layoutOf pass passes plan steps stepOf scaleOf sigmasFilled blockSigmas blockSigma frameSigma sigmaIn aboveAt sizesOf gridStart cells magnitude kernel dists along scaledFrom apart distance positive weightBy copied weightAt blend divisor epf border multiplier epfPass
 blocks-itself = refl
 
--- ---- all of them
+-- ---- all premises
 
 pub each-needed : EachNeeded
 unfolding stepMargin plain-run

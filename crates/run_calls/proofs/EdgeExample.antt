@@ -70,7 +70,7 @@ module _ (p : Picture) (scales : List Float) (border sigma : Float) where
   unfolding inside plan steps stepOf scaleOf
   from = record { unrefused = unrefused; contained = tt; same-passes = refl; inputs-agree = λ c x y h held. inputs x y held c h; sigmas-agree = λ on x y held. sigmas x y held }
 
-  -- the calls, after a state
+  -- the calls, from a state on
   abbrev after : State → List LibraryCall
   after t = band t 0 ∷ advance (marked (started (smaller p scales border sigma .setup)) 0) ∷ []
 

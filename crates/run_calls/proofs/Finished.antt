@@ -1,4 +1,5 @@
--- What a finished run hands over: the smoothed samples (Specification 12.3), and the first set's outside the filter region. Assumes nothing.
+-- The result of a finished run: the smoothed samples (Specification 12.3), and the first set's samples outside the filter region. Assumes
+-- nothing.
 use mathlib.Core.Path.{_≡_, ap, _∙_}
 use mathlib.Core.Bool.{Bool, true, false, cond}
 use mathlib.Core.List.{List}
@@ -40,7 +41,7 @@ module _ (s : Setup) (fits : SetupFits s) (x y : ℤ) (held : Holds (s .filter) 
   lies : Covered (s .image) (s .filter)
   lies = covered (s .image) (s .filter) (fits .contained)
 
-  -- a place of the filter region lies in the result's region,
+  -- a position of the filter region lies in the result region,
   in-result : Holds (resultRegion s) x y
   in-result = go (fullPlanes s)
     where
@@ -51,7 +52,7 @@ module _ (s : Setup) (fits : SetupFits s) (x y : ℤ) (held : Holds (s .filter) 
       }
       go false = held
 
-  -- and counts from the image region's corner so much further
+  -- and its column and row counted from the image region's corner
   column-in : natAbs (x -ℤ s .image .left) ≡ natAbs (s .filter .left -ℤ s .image .left) + natAbs (x -ℤ s .filter .left)
   column-in = counted-from (s .filter .left) (s .image .left) (s .filter .width) (s .image .width) (lies .left) (lies .right) x (held .column)
 
@@ -83,26 +84,26 @@ module _ (n : ℕ) (s : Setup) (fits : SetupFits s) (l : List Float) (c : ℕ) (
   unfolding inner layoutOf
   filter-sample held = result-sample (in-result s fits x y held) ∙ rw (column-in s fits x y held, row-in s fits x y held)
 
--- ---- a state kept from a start
+-- ---- a state reached from a start
 
 staged-of : (n : ℕ) (first : List Float) (t : State) (s : Setup) (sigmas : List Float) → t .run .setup ≡ s → t .sigmas ≡ sigmas → Sound n first t → (c x y : ℕ) → c < n → InResult (layout s) x y
     → sampleOf (layout s) (source t) c x y ≡ filtered (layout s) (stage (area s sigmas) (plan n (s .settings)) (inner (layout s) first) (t .run .pass)) first c x y
 staged-of n first t s sigmas e f sound c x y h i = rw (← e, ← f) (sound .reads c x y h (rw e i))
 
 module _ (n : ℕ) (h : Handed) (t : State) (kept : KeptFrom n h t) where
-  -- the set that is read holds as many passes of the input as are over
+  -- the set that is read holds the input after the completed passes,
   pub run-staged : (c x y : ℕ) → c < n → InResult (layout (h .setup)) x y
       → sampleOf (layout (h .setup)) (source t) c x y
       ≡ filtered (layout (h .setup)) (stage (area (h .setup) (sigmasFilled n h)) (plan n (h .setup .settings)) (input n h) (t .run .pass)) (startLeaves n h) c x y
   run-staged c x y p i = staged-of n (startLeaves n h) t (h .setup) (sigmasFilled n h) (kept .setup) (kept .sigmas) (kept .sound) c x y p i
 
-  -- outside the filter region the first set's own samples
+  -- and the first set's samples outside the filter region
   pub run-outside : (c x y : ℕ) → c < n → InResult (layout (h .setup)) x y → inFilter (layout (h .setup)) x y ≡ false
       → sampleOf (layout (h .setup)) (source t) c x y ≡ sampleOf (layout (h .setup)) (startLeaves n h) c x y
   run-outside c x y p i o = run-staged c x y p i ∙ rw o
 
   module _ (z : T (finished (t .run))) where
-    -- finished, all of them: the smoothed samples
+    -- in a finished run these are the smoothed samples
     pub run-samples : SetupFits (h .setup) → (c x y : ℕ) → c < n → x < h .setup .filter .width → y < h .setup .filter .height → inner (layout (h .setup)) (source t) c x y ≡ smoothed n h c x y
     unfolding inner layoutOf
     run-samples fits c x y p i j =
@@ -114,7 +115,7 @@ module _ (n : ℕ) (h : Handed) (t : State) (kept : KeptFrom n h t) where
         let all : stage (area s (sigmasFilled n h)) ps (input n h) (t .run .pass) ≡ smoothed n h = stage-last _ ps _ (t .run .pass) (omega (arith, pass-count n s)) in
         run-staged c (l .left + x) (l .top + y) p (filter-in-result l lies x y i j) ∙ filtered-inside l lies (stage (area s (sigmasFilled n h)) ps (input n h) (t .run .pass)) (startLeaves n h) c x y i j ∙ ap (λ (g : Picture). g c x y) all
 
-    -- the result call is accepted, and hands over the result's part of the set that is read
+    -- the result call is accepted and copies the result region of the set that is read
     module _ (out : List Float) (room : length out ≡ resultLength n (h .setup)) where
       result-taken : resultOn n t out .number ≡ 0
       result-taken = result-number n (t .run) (t .first) (t .second) out ∙

@@ -1,4 +1,5 @@
--- The premises of the theorem on rectangles (Specification 13.6) hold for the pictures and calls of specs/FourEdges.antt, and so does what it says of them. Assumes nothing.
+-- The pictures and calls of specs/FourEdges.antt meet the premises of the theorem on rectangles (Specification 13.6), and its conclusion
+-- holds for them. Assumes nothing.
 use mathlib.Core.Path.{_≡_, refl, sym, ap, subst, _∙_}
 use mathlib.Core.Bool.{true, false}
 use mathlib.Core.Logic.{_↔_}
@@ -43,7 +44,7 @@ use Rattle.run_calls.proofs.Theorem.{library-theorem}
 
 -- ---- the calls
 
--- a state of the run: sound, with this record
+-- a state of the run that satisfies the invariant, with this record
 record Here (first : List Float) (t : State) (r : Run) : Type 0 where
   sound : Sound 3 first t
   run : t .run ≡ r
@@ -55,7 +56,7 @@ after-accepted : (t : State) (c : LibraryCall) → numberIn (answer 3 c) ≡ 0 �
 unfolding stateAfter
 after-accepted t c e = rw (eq-eqb (numberIn (answer 3 c)) 0 e)
 
--- a band that is open in the record
+-- a band that can run
 band-here : (first : List Float) (t : State) (r : Run) (k : ℕ) → Here first t r → notOpen r k ≡ false → Here first (next t (band t k)) (marked r k)
 band-here first t r k h o =
     let i = h .sound in
@@ -65,7 +66,7 @@ band-here first t r k h o =
       run = ap (λ (u : State). u .run) (after-accepted t (band t k) taken ∙ band-leaves 3 t k taken) ∙ ap (λ (q : Run). marked q k) (h .run);
     }
 
--- an advance where the pass is over
+-- an advance after all bands are done
 advance-here : (first : List Float) (t : State) (r : Run) → Here first t r → notOver r ≡ false → Here first (next t (advance (t .run))) (advanced r)
 advance-here first t r h o =
     let i = h .sound in
@@ -104,7 +105,7 @@ module _ (g : Given) where
   abbrev leaves : List Float
   leaves = startLeaves 3 (smaller g)
 
-  -- the records, one after another
+  -- the records in order
   abbrev r0 : Run
   r0 = started (smaller g .setup)
 
@@ -182,7 +183,7 @@ module _ (g : Given) where
   unfolding inside
   from = record { unrefused = unrefused; contained = tt; same-passes = refl; inputs-agree = λ c x y h held. inputs x y held c h; sigmas-agree = λ on x y held. sigmas x y held }
 
-  -- ---- all of it
+  -- ---- all premises
 
   start-taken : numberIn (answer 3 (start (empty g))) ≡ 0 → ⊥
   start-taken e = omega (arith, sym start-refused ∙ e)
@@ -208,7 +209,7 @@ module _ (g : Given) where
 pub four-edges-met : FourEdgesMet
 four-edges-met g = premises g
 
--- ---- the places that are clear
+-- ---- the positions that are clear
 
 -- all four edges are cut
 starts-apart : pos 8 ≡ pos 0 → ⊥
@@ -242,6 +243,6 @@ four-edges-clear g = (
   ),
 )
 
--- what the theorem says of them
+-- the theorem's conclusion
 pub four-edges-delivered : FourEdgesDelivered
 four-edges-delivered g = library-theorem (smaller g) (larger g) (calls g) (slice g) (four-edges-met g)

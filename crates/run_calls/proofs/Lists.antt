@@ -1,4 +1,4 @@
--- What accepted calls of any kinds keep of the state that start left, and so lists of them. Assumes nothing.
+-- Accepted calls of any kind keep the invariant that holds after start, and so do lists of them. Assumes nothing.
 use mathlib.Core.Path.{_≡_, refl, sym, ap, _∙_}
 use mathlib.Core.Bool.{Bool, true, false, cond}
 use mathlib.Core.List.{List, [], _∷_}
@@ -19,7 +19,7 @@ use Rattle.run_calls.proofs.Sound.{Sound, begun, sound-start, sound-ban
 
 -- ---- one call
 
--- the state u after the state t
+-- state u follows state t
 pub record Kept (n : ℕ) (first : List Float) (t u : State) : Type 0 where
   pub sound : Sound n first u
   pub setup : u .run .setup ≡ t .run .setup
@@ -48,14 +48,14 @@ start-unrefused n h e = start-picture n h (sym (start-number n h) ∙ e)
 pub picture-accepted : (n : ℕ) (h : Handed) → StartAccepted n h → PictureFits n h
 picture-accepted n h e = picture-fits n h (start-unrefused n h e)
 
--- what an accepted start leaves
+-- the state after an accepted start
 pub start-state : (n : ℕ) (h : Handed) → StartAccepted n h → startState n h ≡ begun n h
 start-state n h e = ap (λ (o : StartOutcome). leftByStart o (h .second)) (start-accepted n h e)
 
 pub start-sound : (n : ℕ) (h : Handed) → StartAccepted n h → Sound n (startLeaves n h) (startState n h)
 start-sound n h e = rw (start-state n h e) (sound-start n h (picture-accepted n h e))
 
--- a state to which the calls after an accepted start lead
+-- a state that the calls after an accepted start lead to
 pub record KeptFrom (n : ℕ) (h : Handed) (t : State) : Type 0 where
   pub sound : Sound n (startLeaves n h) t
   pub setup : t .run .setup ≡ h .setup
@@ -76,7 +76,7 @@ reached-kept n h e t (byEffect s u a b r f) =
     let i = effect-kept (startLeaves n h) f (k .sound) in
     record { sound = i .sound; setup = i .setup ∙ k .setup; sigmas = i .sigmas ∙ k .sigmas }
 
--- lists of calls lead to such states, refused calls among them, since these change nothing
+-- lists of calls lead to such states; refused calls among them change nothing
 module _ (n : ℕ) (K : Calls n) (h : Handed) where
   after-reached : (t : State) (c : K .Call) → StateReached n h t → (K .number (K .answer c) ≡ 0 → K .Lent t c) → StateReached n h (stateAfter n K t c)
   unfolding stateAfter

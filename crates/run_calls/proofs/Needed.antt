@@ -1,5 +1,5 @@
--- The margin is needed, each input sample, each sigma, and that nobody altered one sample: pictures for which one of these fails, and a sample that differs.
--- Assumes nothing.
+-- The margin, each input sample, each sigma and each unaltered sample are needed: if one of them is wrong, some sample of the result
+-- differs from the larger picture. Assumes nothing.
 use mathlib.Core.Path.{_≡_, refl, sym, ap, subst, _∙_}
 use mathlib.Core.Bool.{true, false, true≢false, cond, _&&_}
 use mathlib.Core.List.{List, [], _∷_}
@@ -71,7 +71,7 @@ premises-say small large cs out = (
   },
 )
 
--- ---- what a run hands over are its own picture's samples
+-- ---- the result of a run has the samples of its own picture
 
 abbrev pub run-of : {small large : Handed} {cs : List LibraryCall} {out : List Float} → Premises 3 (libraryCalls 3) small large cs out → FinishedRun 3 (libraryCalls 3) small
 run-of {small} {large} {cs} {out} p = record {
@@ -87,12 +87,12 @@ own-sample : (small : Handed) (r : FinishedRun 3 (libraryCalls 3) small) (x y : 
     → resultAt (small .setup) (handedOver 3 (libraryCalls 3) small r .out) 0 x y ≡ sampleAt 3 small 0 x y
 own-sample small r x y held = whole-picture 3 (libraryCalls 3) small r .1 0 x y (omega arith) held
 
--- so where these are not the larger picture's, clear of the cut edges, the theorem's samples are not handed over
+-- if these differ from the larger picture's at a clear position, the theorem's conclusion is false
 pub not-delivered : (m : ℕ) (small large : Handed) (r : FinishedRun 3 (libraryCalls 3) small) (x y : ℤ) → Holds (small .setup .filter) x y → Clear m (small .setup .filter) (large .setup .filter) x y
     → (sampleAt 3 small 0 x y ≡ sampleAt 3 large 0 x y → ⊥) → DeliversBeyond m 3 small large (handedOver 3 (libraryCalls 3) small r) → ⊥
 not-delivered m small large r x y held clear unlike delivers = unlike (sym (own-sample small r x y held) ∙ delivers .samples 0 x y (omega arith) held clear)
 
--- samples of which one is less than the other are not the same
+-- samples of which one is less than the other are different
 pub less-unlike : (a b : Float) → lt a b ≡ true → lt b b ≡ false → a ≡ b → ⊥
 less-unlike a b l i e = true≢false (sym l ∙ ap (λ (z : Float). lt z b) e ∙ i)
 
@@ -101,7 +101,7 @@ less-unlike a b l i e = true≢false (sym l ∙ ap (λ (z : Float). lt z b) e �
 abbrev pub weights : List (List Float)
 weights = let h : List Float = bits 0x3f00_0000 ∷ bits 0x3e80_0000 ∷ [] in h ∷ h ∷ h ∷ []
 
--- 16 just left of the cut edge, and 0 elsewhere
+-- 16 just left of the cut edge, 0 elsewhere
 abbrev beyond : Picture
 beyond = λ c x y. cond (eqb x 0) (bits 0x4180_0000) b0
 
@@ -131,7 +131,7 @@ ones = b1 ∷ b1 ∷ b1 ∷ []
 abbrev pub sigma64 : Float
 sigma64 = bits 0x4280_0000
 
--- 1 in the first column behind the cut edge, and 0 elsewhere
+-- 1 in the first column beyond the cut edge, 0 elsewhere
 abbrev first-column : Picture
 first-column = λ c x y. cond (eqb x 8) b1 b0
 
@@ -155,12 +155,12 @@ step-margin-needed claim =
     let out = sliceEdge first-column ones b1 sigma64 in
     not-delivered 1 small large (run-of premises) (pos 9) (pos 0) held clear (λ e. less-unlike _ _ edge-seen edge-seen-itself (sym e)) (claim small large cs out refl premises)
 
--- ---- one other input sample
+-- ---- one different input sample
 
 abbrev blank : Picture
 blank = λ c x y. b0
 
--- 16 in the first channel at column 1, and 0 elsewhere
+-- 16 in the first channel at column 1, 0 elsewhere
 abbrev spot : Picture
 spot = λ c x y. cond (eqb c 0 && eqb x 2) (bits 0x4180_0000) b0
 
@@ -222,7 +222,7 @@ inputs-needed claim =
     not-delivered _ small large (run-of (premises-met spot weights)) (pos 1) (pos 0) (there .0) (there .1) (λ e. less-unlike _ _ spot-seen spot-itself (sym e))
     (claim small large (calls spot weights) (slice spot weights) inputs-others inputs-but)
 
--- ---- one other sigma
+-- ---- one different sigma
 
 -- a block with this sigma is copied
 abbrev quarter : Float
@@ -252,7 +252,7 @@ sigmas-others nobody-altered-anything n = edge-premises-met tenth-column ones b1
 sigmas-others run-finished n = edge-premises-met tenth-column ones b1 sigma64 .run-finished
 sigmas-others slice-fits n = edge-premises-met tenth-column ones b1 sigma64 .slice-fits
 
--- every place of the smaller filter region lies in that block
+-- every position of the smaller filter region lies in that block
 sigmas-but : (x y : ℤ) → Holds (smallerEdge tenth-column ones b1 sigma64 .setup .filter) x y → (Holds block x y → ⊥)
     → sigmaAt 3 (smallerEdge tenth-column ones b1 sigma64) x y ≡ sigmaAt 3 (largerEdge tenth-column ones b1 quarter) x y
 sigmas-but x y held o = absurd (o (record { column = wider (pos 8) (pos 8) 4 8 tt tt x (held .column); row = wider (pos 0) (pos 0) 2 8 tt tt y (held .row) }))
@@ -269,13 +269,13 @@ sigmas-needed claim =
 
 -- ---- one altered sample
 
--- a first call that is accepted and leaves the same leads to the same end
+-- if an accepted first call leads to the same state from t and from u, the list leads to the same end
 first-decides : (c : LibraryCall) (cs : List LibraryCall) (t u : State) → numberIn (answer 3 c) ≡ 0 → leftBy t (answer 3 c) ≡ leftBy u (answer 3 c)
     → (stateAfter 3 (libraryCalls 3) t c ≡ stateAfter 3 (libraryCalls 3) u c) × (end 3 (libraryCalls 3) t (c ∷ cs) ≡ end 3 (libraryCalls 3) u (c ∷ cs))
 unfolding stateAfter end
 first-decides c cs t u e l = let same = eq-eqb (numberIn (answer 3 c)) 0 e in (rw (same, l), rw (same, l))
 
--- the blank picture's state with 16 at that sample is the spot's
+-- the blank picture's state with 16 at that sample is the spot picture's state
 altered-is : altered (bits 0x4180_0000) (startState 3 (smaller blank weights)) ≡ startState 3 (smaller spot weights)
 unfolding startLeaves setOf tab sigmasFilled
 altered-is =
@@ -283,7 +283,7 @@ altered-is =
     let b = start-state 3 (smaller spot weights) (premises-met spot weights .start-accepted) in
     ap (altered (bits 0x4180_0000)) a ∙ sym b
 
--- the spot's calls after its first
+-- the spot picture's calls after its first
 abbrev later : List LibraryCall
 later =
     let t = startState 3 (smaller spot weights) in
@@ -304,7 +304,7 @@ first-taken =
     band-number 3 t 0 ∙ band-accepted 3 t 0 (i .first-length) (i .second-length) (i .sigma-length) (i .run) (band-open (t .run) 0 open-first)
 
 module _ (first : State) (same : first ≡ startState 3 (smaller spot weights)) where
-  -- the blank picture's run with such a first band ends as the spot's
+  -- the blank picture's run with such a first band ends as the spot picture's does
   ends-alike : end 3 (libraryCalls 3) (startState 3 (smaller blank weights)) (band first 0 ∷ later) ≡ end 3 (libraryCalls 3) (startState 3 (smaller spot weights)) (calls spot weights)
   ends-alike = rw same (first-decides (band (startState 3 (smaller spot weights)) 0) later (startState 3 (smaller blank weights)) (startState 3 (smaller spot weights)) first-taken refl .1)
 

@@ -1,4 +1,4 @@
--- Signed places of a filter region as columns and rows counted from its corner, and from a larger region's. Assumes nothing.
+-- Positions of a filter region as columns and rows counted from its corner and from a larger region's corner. Assumes nothing.
 use mathlib.Core.Path.{_≡_, ap}
 use Prim.Native.Nat.{ℕ, _+_, _*_, _/_, _%_, _<_, _≤_}
 use native.Mathlib.Omega.{arith}
@@ -14,19 +14,19 @@ use Rattle.region.specs.declared.Region.{Region}
 use Rattle.region.specs.Regions.{columns, rows, inside}
 use Rattle.region_placement.specs.Blocks.{onBlock, ahead as notNegative}
 
--- ---- one axis: n places from a on
+-- ---- one axis: n positions from a on
 
--- counted from a each is one of the n
+-- counted from a, each is below n
 pub counted : (a : ℤ) (n : ℕ) (x : ℤ) → In (spanOf a n) x → natAbs (x -ℤ a) < n
 counted a n x held = omega (arith, le-to a x (held .from), lt-to x (a +ℤ pos n) (held .before), sum-is a (pos n), difference-is x a, size-is (x -ℤ a), ahead a x (le-to a x (held .from)))
 
--- ---- inside N places from b on
+-- ---- inside N positions from b on
 
 module _ (a b : ℤ) (n N : ℕ) (start : T (leZ b a)) (stop : T (leZ (a +ℤ pos n) (b +ℤ pos N))) where
   pub part-fits : natAbs (a -ℤ b) + n ≤ N
   part-fits = omega (arith, le-to b a start, le-to (a +ℤ pos n) (b +ℤ pos N) stop, sum-is a (pos n), sum-is b (pos N), difference-is a b, size-is (a -ℤ b), ahead b a (le-to b a start))
 
-  -- of the N places those are the n that count so far from b
+  -- a position of the N is one of the n if its count from b is in their range
   pub narrower : (x : ℤ) → In (spanOf b N) x → natAbs (a -ℤ b) ≤ natAbs (x -ℤ b) → natAbs (x -ℤ b) < natAbs (a -ℤ b) + n → In (spanOf a n) x
   narrower x held low high =
       let p = le-to b a start in
@@ -43,7 +43,7 @@ module _ (a b : ℤ) (n N : ℕ) (start : T (leZ b a)) (stop : T (leZ (a +ℤ po
       before = lt-of x (b +ℤ pos N) (omega (arith, lt-to x (a +ℤ pos n) (held .before), le-to (a +ℤ pos n) (b +ℤ pos N) stop));
     }
 
-    -- counted from b it stands as much further as a does
+    -- the position counted from b is the position counted from a plus a - b
     pub counted-from : natAbs (x -ℤ b) ≡ natAbs (a -ℤ b) + natAbs (x -ℤ a)
     counted-from =
         let p = le-to a x (held .from) in
@@ -51,7 +51,7 @@ module _ (a b : ℤ) (n N : ℕ) (start : T (leZ b a)) (stop : T (leZ (a +ℤ po
         let r : above b + below x ≤ above x + below b = omega arith in
         omega (arith, difference-is x a, size-is (x -ℤ a), ahead a x p, difference-is a b, size-is (a -ℤ b), ahead b a q, difference-is x b, size-is (x -ℤ b), ahead b x r)
 
-    -- m samples from each cut edge
+    -- clear of each cut edge by m
     pub deep : (m : ℕ) → ((a ≡ b → ⊥) → T (leZ (a +ℤ pos m) x)) → ((a +ℤ pos n ≡ b +ℤ pos N → ⊥) → T (ltZ (x +ℤ pos m) (a +ℤ pos n)))
         → Deep m (natAbs (a -ℤ b)) n N (natAbs (x -ℤ a))
     deep m low high =
@@ -73,7 +73,7 @@ module _ (a b : ℤ) (n N : ℕ) (start : T (leZ b a)) (stop : T (leZ (a +ℤ po
           );
         }
 
--- the i-th place
+-- the i-th position
 module _ (a : ℤ) (n i : ℕ) (h : i < n) where
   pub nth-held : In (spanOf a n) (a +ℤ pos i)
   nth-held = record { from = le-of a (a +ℤ pos i) (omega (arith, sum-is a (pos i))); before = lt-of (a +ℤ pos i) (a +ℤ pos n) (omega (arith, sum-is a (pos i), sum-is a (pos n))) }

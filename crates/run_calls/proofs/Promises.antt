@@ -1,4 +1,4 @@
--- Everything that specs/Promises.antt gathers is proved. Assumes nothing.
+-- Proofs of all promises in specs/Promises.antt. Assumes nothing.
 use Rattle.mirror.proofs.Statements.{mirror-inside, mirror-periodic, mirror-low, mirror-high, mirror-cut}
 use Rattle.region_arithmetic.proofs.Laws.{intersection-inside, intersection-greatest, aligned-contains, aligned-smallest, shrunk-has, shrunk-touched}
 use Rattle.header_fields.proofs.Order.{too-long, runs-out}

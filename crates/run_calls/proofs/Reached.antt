@@ -1,4 +1,4 @@
--- The records to which accepted calls lead are the sound ones, and each of them has a list of accepted calls. Assumes nothing.
+-- Accepted calls lead exactly to the valid records, and each of these has a list of accepted calls. Assumes nothing.
 use mathlib.Core.Path.{_≡_, refl, sym, ap, subst, _∙_}
 use mathlib.Core.Bool.{Bool, true, false, false≢true, cond}
 use mathlib.Core.List.{List, [], _∷_, _++_}
@@ -28,7 +28,7 @@ use Rattle.run_calls.specs.Rules.{ReachedFits, FitsReached, LeadsTo, Eac
 use Rattle.run_calls.proofs.Sound.{Sound}
 use Rattle.run_calls.proofs.Lists.{picture-accepted, start-state, after-start}
 
--- ---- what accepted calls return is sound
+-- ---- accepted calls return valid records
 
 reached : (s : Setup) → T (setupFits s) → (r : Run) → Reached s r → RunFits r
 reached s t r atStart = started-fits s t
@@ -38,9 +38,9 @@ reached s t r (byAdvance q h e) = advanced-fits q (reached s t q h) (pass-over q
 pub reached-fits : ReachedFits
 reached-fits s r t h = fits-run r (reached s t r h)
 
--- ---- each sound record is reached
+-- ---- each valid record is reached
 
--- the flags of l below m, and none above
+-- the flags of l below m, and 0 from m on
 unfoldable part : List ℕ → ℕ → List ℕ
 part l zero = noneDone
 part l (suc m) = cond (flagSet (getD l m 0)) (set (part l m) m 1) (part l m)
@@ -86,7 +86,7 @@ part-below l f (suc m) k b h = go (flagSet (getD l m 0)) refl (λ (p : k < m). p
 part-whole : (l : List ℕ) → Flags l → length l ≡ 256 → part l 256 ≡ l
 part-whole l f e = ext-getD 0 (part l 256) l (length-part l 256 ∙ sym e) (λ k h. part-below l f 256 k (omega arith) (omega (arith, length-part l 256)))
 
--- the bands of a pass that l has set, one after another
+-- the bands of a pass whose flags l has set, one after another
 marks : (s : Setup) (p : ℕ) (l : List ℕ) → eqb p (passCount s) ≡ false → Reached s (at s p noneDone)
     → (m : ℕ) → m ≤ 256 → ((k : ℕ) → k < m → flagSet (getD l k 0) ≡ true → k < bandCount s) → Reached s (at s p (part l m))
 unfolding part marked isDone
@@ -97,7 +97,7 @@ marks s p l e h (suc m) b f = go (flagSet (getD l m 0)) refl (marks s p l e h m 
     go true z r = byBand (at s p (part l m)) m r (open-band (at s p (part l m)) m (record { unfinished = e; below = f m (omega arith) z; fresh = rw (part-above l m m (omega arith)) }))
     go false z r = r
 
--- a whole pass, and the passes before a pass
+-- a whole pass, and all passes before a pass
 module _ (s : Setup) (fits : SetupFits s) where
   whole-pass : (p : ℕ) → eqb p (passCount s) ≡ false → Reached s (at s p noneDone) → Reached s (at s (suc p) noneDone)
   unfolding advanced isDone
@@ -146,7 +146,7 @@ fits-reached r e t = go (finished r) refl
 
 -- ---- lists of accepted calls
 
--- one call more
+-- one more call
 module _ (n : ℕ) (K : Calls n) (c : K .Call) (ok : K .number (K .answer c) ≡ 0) where
   after-accepted : (t : State) → stateAfter n K t c ≡ K .leaves t (K .answer c)
   unfolding stateAfter

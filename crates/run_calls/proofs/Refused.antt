@@ -1,4 +1,4 @@
--- What a refused call was given is as it was, and the states of a list are what the calls' outcomes leave. Assumes nothing.
+-- A refused call leaves its arguments unchanged, and the states of a list are those of the calls' outcomes. Assumes nothing.
 use mathlib.Core.Path.{_≡_, refl, ap}
 use mathlib.Core.Bool.{Bool, true, false, cond}
 use Prim.Native.Nat.{ℕ}
@@ -21,7 +21,7 @@ refused-untouched n (other k) e = tt
 pub start-tied : StartTied
 start-tied n h = (refl, refl, refl, refl)
 
--- what a refused call that was given the state leaves of it
+-- a refused call that is given the state leaves it unchanged
 refused-left : (n : ℕ) (t : State) (c : LibraryCall) → LentState t c → (numberIn (answer n c) ≡ 0 → ⊥) → leftBy t (answer n c) ≡ t
 refused-left n t (band u k) l e = rw l (band-refused n t k (rw l at e))
 refused-left n t (advance r) l e = rw l (ap (λ (q : Run). record { run = q; sigmas = t .sigmas; first = t .first; second = t .second }) (advance-refused (t .run) (rw l at e)))

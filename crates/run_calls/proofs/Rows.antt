@@ -1,4 +1,5 @@
--- What a pass over rows of the result leaves at a place of the result: its own sample in those rows, and the rest as it was. Assumes nothing.
+-- A set after a pass over rows of the result region, position by position: the pass's sample in those rows, unchanged elsewhere. Assumes
+-- nothing.
 use mathlib.Core.Path.{_≡_}
 use mathlib.Core.Bool.{Bool, true, false, cond}
 use mathlib.Core.List.{List}
@@ -17,18 +18,18 @@ use Rattle.planes.specs.Fits.{LayoutFits}
 abbrev pub sampleOf : Layout → List Float → Picture
 sampleOf l s = of (l .image .width) (l .image .height) s
 
--- what a pass gives at a place of the result: its samples p in the filter region, and else the one read
+-- the sample that a pass writes: p inside the filter region, a copy outside it
 abbrev pub filtered : Layout → Picture → List Float → Picture
 filtered l p src c x y = cond (inFilter l x y) (p c (x - l .left) (y - l .top)) (sampleOf l src c x y)
 
--- column x and row y of the image lie in the result
+-- column x and row y of the image lie in the result region
 pub record InResult (l : Layout) (x y : ℕ) : Type 0 where
   pub left : resultLeft l ≤ x
   pub right : x < resultLeft l + resultWidth l
   pub top : resultTop l ≤ y
   pub bottom : y < resultTop l + resultHeight l
 
--- ---- one axis: the result is all n places or m of them from a on
+-- ---- one axis: the result region has all n positions, or m of them from a on
 
 module _ (n a m : ℕ) (fits : a + m ≤ n) where
   in-axis : (full : Bool) (x : ℕ) → x < cond full 0 a + cond full n m → x < n
@@ -47,14 +48,14 @@ in-rect : (left n top m x y : ℕ) → left ≤ x → x < left + n → top ≤ y
 unfolding inRect
 in-rect left n top m x y a b c d = rw (le-leb left x a, lt-ltb x (left + n) b, le-leb top y c, lt-ltb y (top + m) d)
 
--- ---- both
+-- ---- both axes
 
--- where the result is the full planes, each place of the image is one of it
+-- if the result region is the image region, it has every position of the image
 pub image-in-result : (l : Layout) (x y : ℕ) → l .full ≡ true → x < l .image .width → y < l .image .height → InResult l x y
 image-in-result l x y e i j = record { left = rw e (omega arith); right = rw e (omega arith); top = rw e (omega arith); bottom = rw e (omega arith) }
 
 module _ (l : Layout) (fits : LayoutFits l) where
-  -- a place of the filter region is one of the result
+  -- a position of the filter region is in the result region
   pub filter-in-result : (x y : ℕ) → x < l .width → y < l .height → InResult l (l .left + x) (l .top + y)
   filter-in-result x y i j = record {
     left = part-from (l .image .width) (l .left) (l .width) (fits .across) (l .full) x;
@@ -71,7 +72,7 @@ module _ (l : Layout) (fits : LayoutFits l) where
       rw (in-rect (l .left) (l .width) (l .top) (l .height) (l .left + x) (l .top + y) (omega arith) (omega arith) (omega arith) (omega arith), a, b)
 
   module _ (x y : ℕ) (place : InResult l x y) where
-    -- it is written where its row is among those of the pass
+    -- a position is written if its row is among those of the pass
     pub written-at : (from to : ℕ) → from ≤ y - resultTop l → y - resultTop l < to → written l from to x y ≡ true
     unfolding written
     written-at from to a b =

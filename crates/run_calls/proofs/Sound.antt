@@ -1,5 +1,5 @@
--- What accepted calls keep of the state. The set that is read holds as many passes of the input as are over, in the filter region, and the first set's samples
--- outside it; a band that is done has in its rows of the other set one pass more. Assumes nothing.
+-- The invariant that accepted calls keep. The set that is read holds the input after the completed passes inside the filter region and the
+-- first set's samples outside it. The other set holds one more pass in the rows of each band that is done. Assumes nothing.
 use mathlib.Core.Path.{_≡_, refl, sym, _∙_}
 use mathlib.Core.Bool.{Bool, true, false, true≢false, false≢true, not, cond}
 use mathlib.Core.List.{List, [], _∷_}
@@ -41,7 +41,7 @@ use Rattle.run_calls.proofs.Rows.{sampleOf, filtered, InResult, filter-
 abbrev areaOf : State → Area
 areaOf t = area (t .run .setup) (t .sigmas)
 
--- the input through its first k passes, with the first set's samples outside the filter region; `first` is the first set as start left it
+-- the input after its first k passes, with the first set's samples outside the filter region; `first` is the first set after start
 abbrev pub staged : ℕ → List Float → State → ℕ → Picture
 staged n first t k =
     let l = layout (t .run .setup) in
@@ -59,11 +59,11 @@ pub record Sound (n : ℕ) (first : List Float) (t : State) : Type 0 where
   pub sigma-length : length (t .sigmas) ≡ sigmaLength (t .run .setup)
   -- the set that is read
   pub reads : (c x y : ℕ) → c < n → InResult (layout (t .run .setup)) x y → sampleOf (layout (t .run .setup)) (source t) c x y ≡ staged n first t (t .run .pass) c x y
-  -- the rows of bands that are done, in the other
+  -- the rows of bands that are done, in the other set
   pub done : (k : ℕ) → isDone (t .run) k ≡ true → (c x y : ℕ) → c < n → InResult (layout (t .run .setup)) x y → inBand (t .run .setup) k x y ≡ true
       → sampleOf (layout (t .run .setup)) (target t) c x y ≡ staged n first t (suc (t .run .pass)) c x y
 
--- ---- places of the filter region, as columns and rows of the image
+-- ---- positions of the filter region, as columns and rows of the image
 
 pub record InFilter (l : Layout) (x y : ℕ) : Type 0 where
   pub left : l .left + (x - l .left) ≡ x
@@ -80,7 +80,7 @@ in-filter l x y e = go (between (l .left) (l .width) x) (between (l .top) (l .he
     go (inl a) (inr b) = absurd (true≢false (sym e ∙ rw (a .2, b .1)))
     go (inr a) b = absurd (true≢false (sym e ∙ rw (a .1)))
 
--- what is the same in both parts is the same
+-- pictures that agree inside and outside the filter region are the same
 filtered-same : (l : Layout) (p q : Picture) (u v : List Float) (c x y : ℕ) → (InFilter l x y → p c (x - l .left) (y - l .top) ≡ q c (x - l .left) (y - l .top))
     → (inFilter l x y ≡ false → sampleOf l u c x y ≡ sampleOf l v c x y) → filtered l p u c x y ≡ filtered l q v c x y
 filtered-same l p q u v c x y f g = go (inFilter l x y) refl
@@ -100,7 +100,7 @@ none-staged l first c x y = go (inFilter l x y) refl
     go true e = let i = in-filter l x y e in rw (i .left, i .top)
     go false e = refl
 
--- the state as an accepted start leaves it
+-- the state after an accepted start
 abbrev pub begun : ℕ → Handed → State
 begun n h = record { run = started (h .setup); sigmas = sigmasFilled n h; first = startLeaves n h; second = h .second }
 
@@ -117,7 +117,7 @@ sound-start n h f =
       done = λ k d. absurd (false≢true (sym (started-none (h .setup) k) ∙ d));
     }
 
--- ---- a band leaves the set that is read, and its own set in place of the other
+-- ---- a band leaves the set that is read unchanged and writes the other
 
 kept-source : (e : Bool) (a b m : List Float) → cond e (cond e a m) (cond e m b) ≡ cond e a b
 kept-source true a b m = refl
@@ -135,13 +135,13 @@ length-banded : (n : ℕ) (t : State) (k : ℕ) → length (banded n t k) ≡ se
 unfolding banded passed layoutOf
 length-banded n t k = length-setOf n (t .run .setup .image .width) (t .run .setup .image .height) _
 
--- a pass of the plan is a sound one
+-- a pass of the plan is a valid one
 sound-at : (n : ℕ) (ps : List Pass) (k : ℕ) → AllSound n ps → k < length ps → sound n (getD ps k (gaborLike []))
 sound-at n [] k a h = absurd (omega arith)
 sound-at n (p ∷ ps) zero a h = a .0
 sound-at n (p ∷ ps) (suc k) a h = sound-at n ps k (a .1) (omega arith)
 
--- the number of passes is the same for any number of planes
+-- the number of passes does not depend on the number of planes
 pub pass-count : (n : ℕ) (s : Setup) → length (plan n (s .settings)) ≡ passCount s
 pass-count n s = plan-length n (s .settings) ∙ sym (plan-length 3 (s .settings))
 
@@ -163,7 +163,7 @@ module _ (n : ℕ) (first : List Float) (t : State) (k : ℕ) (keeps : Sound n f
       let l = layout setup in
       keeps .reads c (l .left + x) (l .top + y) h (filter-in-result l lies x y i j) ∙ filtered-inside l lies (stage (areaOf t) (plan n (setup .settings)) (inner l first) (t .run .pass)) first c x y i j
 
-  -- what the pass gives of it, at a place of the result, is one pass more
+  -- the pass turns it into one more pass, at each position of the result region
   given-is : (c x y : ℕ) → c < n → InResult (layout setup) x y
       → filtered (layout setup) (pass (areaOf t) (nextPass n (t .run)) reading) (source t) c x y ≡ staged n first t (suc (t .run .pass)) c x y
   unfolding stage layoutOf
@@ -175,7 +175,7 @@ module _ (n : ℕ) (first : List Float) (t : State) (k : ℕ) (keeps : Sound n f
       (λ f. pass-cong n (nextPass n (t .run)) (sound-at n ps (t .run .pass) (plan-sound n (setup .settings)) more) (areaOf t) reading so-far reading-is c _ _ h (f .column) (f .row))
       (λ o. keeps .reads c x y h i ∙ rw o)
 
-  -- after the band its own rows have that, and the others are as they were
+  -- after the band its own rows hold that, and all others are unchanged
   done-after : (j : ℕ) → isDone (marked (t .run) k) j ≡ true → (c x y : ℕ) → c < n → InResult (layout setup) x y → inBand setup j x y ≡ true
       → sampleOf (layout setup) (banded n t k) c x y ≡ staged n first t (suc (t .run .pass)) c x y
   unfolding banded
@@ -215,12 +215,12 @@ cond-not : (e : Bool) (a b : List Float) → cond (not e) a b ≡ cond e b a
 cond-not true a b = refl
 cond-not false a b = refl
 
--- an accepted advance changes the record alone
+-- an accepted advance changes only the record
 abbrev pub turnedOver : State → State
 turnedOver t = record { run = advanced (t .run); sigmas = t .sigmas; first = t .first; second = t .second }
 
 module _ (n : ℕ) (first : List Float) (t : State) (keeps : Sound n first t) (over : Over (t .run)) where
-  -- every row of the result lies in a band that is done
+  -- every row of the result region lies in a band that is done
   all-done : (c x y : ℕ) → c < n → InResult (layout (t .run .setup)) x y → sampleOf (layout (t .run .setup)) (target t) c x y ≡ staged n first t (suc (t .run .pass)) c x y
   all-done c x y h i =
       let s : Setup = t .run .setup in

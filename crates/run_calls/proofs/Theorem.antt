@@ -1,4 +1,5 @@
--- The theorem on rectangles (Specification 13.6): the samples that a finished run hands over are the larger picture's beyond the margin. Assumes nothing.
+-- The theorem on rectangles (Specification 13.6): beyond the margin, the result of a finished run has the larger picture's smoothed
+-- samples. Assumes nothing.
 use mathlib.Core.Path.{_≡_, _∙_}
 use Prim.Native.Nat.{ℕ, _+_, _*_, _/_, _<_}
 use native.Mathlib.Omega.{arith}
@@ -28,7 +29,7 @@ use Rattle.run_calls.proofs.Lists.{picture-accepted, reached-kept, end-
 use Rattle.run_calls.proofs.Finished.{filter-sample, run-samples, handed-over}
 use Rattle.run_calls.proofs.Places.{part-fits, counted, counted-from, deep, nth-held, nth-counted, blocks-apart, Covered, covered}
 
--- ---- the smaller picture's filter region is a cut of the larger's
+-- ---- the smaller picture's filter region is a cut of the larger one's
 
 module _ (n : ℕ) (small large : Handed) (fits : PictureFits n small) (from : CutFrom n small large) where
   abbrev f : Region
@@ -37,7 +38,7 @@ module _ (n : ℕ) (small large : Handed) (fits : PictureFits n small) (from : C
   abbrev g : Region
   g = large .setup .filter
 
-  -- columns and rows of the larger one before the smaller one's first
+  -- how many columns and rows of the larger one lie before the smaller one's first
   abbrev lx : ℕ
   lx = natAbs (f .left -ℤ g .left)
 
@@ -59,7 +60,7 @@ module _ (n : ℕ) (small large : Handed) (fits : PictureFits n small) (from : C
     rows = part-fits (f .top) (g .top) (f .height) (g .height) (v .top) (v .bottom);
   }
 
-  -- the place at column x and row y of the smaller filter region, and where it stands in the larger
+  -- the position at column x and row y of the smaller filter region, and its column and row in the larger one
   nth-holds : (x y : ℕ) → x < f .width → y < f .height → Holds f (f .left +ℤ pos x) (f .top +ℤ pos y)
   nth-holds x y p q = record { column = nth-held (f .left) (f .width) x p; row = nth-held (f .top) (f .height) y q }
 
@@ -74,7 +75,7 @@ module _ (n : ℕ) (small large : Handed) (fits : PictureFits n small) (from : C
       rw (nth-counted (f .left) x, nth-counted (f .top) y, nth-column x p, nth-row y q) at
       (from .inputs-agree c (f .left +ℤ pos x) (f .top +ℤ pos y) h (nth-holds x y p q))
 
-  -- where a step runs, both filter regions start at multiples of 8 and the smaller's blocks have the larger's sigmas
+  -- if a step runs, both filter regions start at multiples of 8 and the smaller one's blocks have the larger one's sigmas
   blocks : SomeStep (plan n (small .setup .settings)) → SameBlocks a b lx ly
   blocks z =
       let on : T (epfOn (small .setup)) = lt→ltb 0 (small .setup .settings .epf .iters) (plan-some-step n (small .setup .settings) z) in
@@ -97,7 +98,7 @@ module _ (n : ℕ) (small large : Handed) (fits : PictureFits n small) (from : C
             rw (c, r, cc, rr) at (from .sigmas-agree on (f .left +ℤ pos (8 * x)) (f .top +ℤ pos (8 * y)) (nth-holds (8 * x) (8 * y) i j));
       }
 
-  -- all passes over both, beyond the margin
+  -- all passes over both agree beyond the margin
   beyond : (c : ℕ) (x y : ℤ) → c < n → Holds f x y → Clear (margin (small .setup .settings)) f g x y
       → passes a (plan n (small .setup .settings)) (input n small) c (natAbs (x -ℤ f .left)) (natAbs (y -ℤ f .top))
       ≡ passes b (plan n (large .setup .settings)) (input n large) c (natAbs (x -ℤ g .left)) (natAbs (y -ℤ g .top))
@@ -115,7 +116,7 @@ module _ (n : ℕ) (small large : Handed) (fits : PictureFits n small) (from : C
 
 -- ---- the theorem
 
--- of any finished state, by whatever calls the run came to it
+-- for any finished state, however the run reached it
 pub rectangle-theorem-at : RectangleTheoremAt
 rectangle-theorem-at n small large e from t r z out room =
     let s : Setup = small .setup in

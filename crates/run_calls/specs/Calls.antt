@@ -1,4 +1,5 @@
--- A run as a list of calls: the state that is passed on, what each call answers and leaves, and that calls are unaltered (Specification 13.7). Definitions only.
+-- A run as a list of calls: the state, what each call returns and writes, and when calls are unaltered (Specification 13.7). Definitions
+-- only.
 use mathlib.Core.Path.{_≡_}
 use mathlib.Core.Bool.{cond}
 use mathlib.Core.List.{List, [], _∷_}
@@ -13,11 +14,11 @@ use Rattle.run_outcomes.specs.Result.{ResultOutcome, resultOutcome}
 
 -- ---- the start
 
--- start accepts what it is handed, n planes in each set (the Specification has 3)
+-- start accepts the arguments h, with n planes in each set (3 in the Specification)
 abbrev pub StartAccepted : ℕ → Handed → Type 0
 StartAccepted n h = startOutcome n h .answer .number ≡ 0
 
--- the state that a start leaves: record, block sigmas and first set are its outcome's; the second set, which it is given to read alone, is as it was
+-- the state after a start: record, block sigmas and first set from its outcome; the second set, which start only reads, is unchanged
 abbrev pub leftByStart : StartOutcome → List Float → State
 leftByStart o second = record { run = o .answer .run; sigmas = o .sigmas; first = o .first; second = second }
 
@@ -26,7 +27,8 @@ startState n h = leftByStart (startOutcome n h) (h .second)
 
 -- ---- the calls after it (Specification 13.7)
 
--- Each with everything that it is handed. Of functions other than these four only the number is told: whatever they are handed, the state itself included.
+-- A call with all its arguments. For functions other than these four only the returned number counts, whatever their arguments are, parts
+-- of the state included.
 pub data LibraryCall : Type 0 where
   band : State → ℕ → LibraryCall
   advance : Run → LibraryCall
@@ -34,7 +36,7 @@ pub data LibraryCall : Type 0 where
   start : Handed → LibraryCall
   other : ℕ → LibraryCall
 
--- the whole answer of a call, with what it leaves in what it is given: the outcome that its contract cites
+-- everything that a call returns and writes: the outcome that its contract cites
 pub data LibraryAnswer : Type 0 where
   ofBand : BandOutcome → LibraryAnswer
   ofAdvance : RunAnswer → LibraryAnswer
@@ -57,7 +59,7 @@ numberIn (ofResult o) = o .number
 numberIn (ofStart o) = o .answer .number
 numberIn (ofOther k) = k
 
--- the state after an accepted call that was given the state t: what the answer has of it, and the rest of t
+-- the state after an accepted call that was given state t: what the call returned and wrote, and the rest of t
 abbrev pub leftBy : State → LibraryAnswer → State
 leftBy t (ofBand o) = o .state
 leftBy t (ofAdvance o) = record { run = o .run; sigmas = t .sigmas; first = t .first; second = t .second }
@@ -65,7 +67,8 @@ leftBy t (ofResult o) = t
 leftBy t (ofStart o) = leftByStart o (t .second)
 leftBy t (ofOther k) = t
 
--- What the call got of record, block sigmas and both sets is the state's. After the start that begins the run no other start and no other function is accepted.
+-- The call is given the record, the block sigmas and the sets of state t. No other start and no other function may be accepted during the
+-- run.
 abbrev pub LentState : State → LibraryCall → Type 0
 LentState t (band u k) = u ≡ t
 LentState t (advance r) = r ≡ t .run
@@ -87,16 +90,17 @@ asAdvances (result r first second out) = 0
 asAdvances (start h) = 0
 asAdvances (other k) = 0
 
--- ---- calls of any kinds, of which those of Specification 13.7 are some
+-- ---- calls of any kind; those of Specification 13.7 are one instance
 
--- What an accepted call may do to the state: finish a band, advance, or nothing. The two numbers count accepted bands and accepted advances.
+-- What an accepted call may do to the state: complete a band, advance, or nothing. The two numbers count accepted bands and accepted
+-- advances.
 pub data Effect (n : ℕ) (t : State) : ℕ → ℕ → State → Type 0 where
   oneBand : (k : ℕ) → bandOutcome n t k .number ≡ 0 → Effect n t 1 0 (bandOutcome n t k .state)
   oneAdvance : advanceOutcome (t .run) .number ≡ 0 → Effect n t 0 1 (leftBy t (ofAdvance (advanceOutcome (t .run))))
   nothing : Effect n t 0 0 t
 
--- Any kinds of calls, each with its whole answer. From the answer follow its number and, for an accepted call that was given a state, the state after it.
--- Which calls were given a state is told, and which effect these have.
+-- A kind of calls, each with its answer. The answer determines the number and, for an accepted call that was given a state, the state after
+-- it. `Lent` says which calls were given a state; `effect` says what those do to it.
 pub record Calls (n : ℕ) : Type 1 where
   pub Call : Type 0
   pub Answer : Type 0
@@ -128,10 +132,10 @@ libraryCalls n = record {
   effect = libraryEffect n;
 }
 
--- ---- lists of them: runs of n planes by calls of the kinds K
+-- ---- lists of calls of kind K, in runs of n planes
 
 module _ (n : ℕ) (K : Calls n) where
-  -- a refused call changes nothing
+  -- the state after a call; a refused call changes nothing
   unfoldable pub stateAfter : State → K .Call → State
   stateAfter t c = cond (eqb (K .number (K .answer c)) 0) (K .leaves t (K .answer c)) t
 
@@ -140,7 +144,8 @@ module _ (n : ℕ) (K : Calls n) where
   end t [] = t
   end t (c ∷ cs) = end (stateAfter t c) cs
 
-  -- unaltered (Specification 13.7): each accepted call was given what the accepted calls before it left; a refused one may be given anything
+  -- unaltered (Specification 13.7): each accepted call is given the state after the accepted calls before it; a refused one may be given
+  -- anything
   abbrev pub Unaltered : State → List (K .Call) → Type 0
   Unaltered t [] = Unit {0}
   Unaltered t (c ∷ cs) = (K .number (K .answer c) ≡ 0 → K .Lent t c) × Unaltered (stateAfter t c) cs
@@ -150,7 +155,7 @@ module _ (n : ℕ) (K : Calls n) where
   AllAccepted [] = Unit {0}
   AllAccepted (c ∷ cs) = (K .number (K .answer c) ≡ 0) × AllAccepted cs
 
-  -- accepted bands and accepted advances of a list
+  -- the number of accepted bands, and of accepted advances, in a list
   unfoldable pub bandsIn : List (K .Call) → ℕ
   bandsIn [] = 0
   bandsIn (c ∷ cs) = cond (eqb (K .number (K .answer c)) 0) (K .bands c) 0 + bandsIn cs

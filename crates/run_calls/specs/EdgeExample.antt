@@ -1,4 +1,5 @@
--- The same with the edge filter: one iteration, Gabor off. Settings that no pass reads differ, and so do frames, image regions and result kinds. Definitions only.
+-- A second example, with the EPF: one iteration, Gabor off. Settings that no pass reads differ, and so do frames, image regions and
+-- `preserve_outside`. Definitions only.
 use mathlib.Core.List.{List, [], _∷_}
 use Prim.Native.Nat.{ℕ, _+_}
 use lib.IntN.{pos}
@@ -19,7 +20,7 @@ use Rattle.run_calls.specs.Places.{Clear}
 use Rattle.run_calls.specs.Theorem.{Premises}
 
 module _ (p : Picture) (scales : List Float) (border sigma : Float) where
-  -- `unread` stands where one iteration without Gabor reads nothing
+  -- `unread` is in the fields that one iteration without Gabor does not read
   abbrev settingsOf : Float → Settings
   settingsOf unread = withGabor (gaborOf 0 (evenWeights unread unread)) (withEpf (epfOf 1 scales (epfSigmaOf unread unread unread border) sigma) noSettings)
 
@@ -27,7 +28,7 @@ module _ (p : Picture) (scales : List Float) (border sigma : Float) where
   abbrev rowsFrom : ℕ → ℕ → Region
   rowsFrom left width = record { left = pos left; top = pos 0; width = width; height = 2 }
 
-  -- columns 0 to 11, the filter region being the image region; no group has a grid, so each block has `sigma_for_modular`
+  -- columns 0 to 11; the filter region is the image region. No group has a grid, so each block has `sigma_for_modular`.
   abbrev pub larger : Handed
   larger = record {
     setup = setupWith (rowsFrom 0 12) (rowsFrom 0 12) 0 (settingsOf b0) 64;
@@ -39,7 +40,7 @@ module _ (p : Picture) (scales : List Float) (border sigma : Float) where
     sigmas = b0 ∷ b0 ∷ [];
   }
 
-  -- columns 8 to 11 of them in an image region of columns 7 to 11: the left edge of the filter region is cut
+  -- columns 8 to 11 of it in an image region of columns 7 to 11: the left edge of the filter region is cut
   abbrev pub smaller : Handed
   smaller = record {
     setup = setupWith (rowsFrom 7 5) (rowsFrom 8 4) 1 (settingsOf b1) 2;
@@ -61,7 +62,7 @@ abbrev pub EdgePremisesMet : Type 0
 EdgePremisesMet = (p : Picture) (scales : List Float) (border sigma : Float)
     → Premises 3 (libraryCalls 3) (smaller p scales border sigma) (larger p scales border sigma) (calls p scales border sigma) (slice p scales border sigma)
 
--- column 10 is clear of the cut edge, and column 9 is not
+-- column 10 is clear of the cut edge, column 9 is not
 abbrev pub EdgePlaceClear : Type 0
 EdgePlaceClear = (p : Picture) (scales : List Float) (border sigma : Float)
     → let s = smaller p scales border sigma .setup in

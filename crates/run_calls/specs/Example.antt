@@ -1,4 +1,5 @@
--- A smaller and a larger picture with a list of calls for which all premises of the theorem on rectangles (Specification 13.6) hold, whatever the samples and the weights. Definitions only.
+-- A smaller and a larger picture and a list of calls that meet all premises of the theorem on rectangles (Specification 13.6), whatever the
+-- samples and the weights. Definitions only.
 use mathlib.Core.List.{List, [], _∷_}
 use Prim.Native.Nat.{ℕ, suc}
 use lib.IntN.{ℤ, pos, negsuc}
@@ -21,13 +22,13 @@ use Rattle.run_calls.specs.Places.{Clear}
 use Rattle.run_calls.specs.Theorem.{Premises}
 
 module _ (p : Picture) (weights : List (List Float)) where
-  -- one row of so many columns: Gabor alone, the result the filter region or the full planes, bands of a height
+  -- one row with the given left and width, Gabor alone, with `preserve_outside` and the band height
   abbrev setupOf : ℤ → ℕ → ℕ → ℕ → Setup
   setupOf left width full height =
       let r : Region = record { left = left; top = pos 0; width = width; height = 1 } in
       setupWith r r full (withGabor (gaborOf 1 weights) noSettings) height
 
-  -- a frame of one group that has no grid
+  -- a frame of one group without a grid
   abbrev handedOf : Setup → List Float → List Float → Handed
   handedOf s first second = record {
     setup = s;
@@ -43,7 +44,7 @@ module _ (p : Picture) (weights : List (List Float)) where
   abbrev pub larger : Handed
   larger = handedOf (setupOf (negsuc 0) 4 1 64) (setOf 3 4 1 p) (setOf 3 4 1 (λ c x y. b0))
 
-  -- columns 0 to 2 of them: the left edge is cut
+  -- columns 0 to 2 of it: the left edge is cut
   abbrev pub smaller : Handed
   smaller = handedOf (setupOf (pos 0) 3 0 1) (setOf 3 3 1 (λ c x y. p c (suc x) y)) (setOf 3 3 1 (λ c x y. b0))
 
@@ -54,7 +55,8 @@ module _ (p : Picture) (weights : List (List Float)) where
   abbrev done : Run
   done = marked (begun .run) 0
 
-  -- Band 0; band 0 again, given the sets as they were before it (10); an advance that is given the record before it (11); the advance.
+  -- Band 0; band 0 again, given the sets from before it (refused with 10); an advance that is given the record from before band 0 (refused
+  -- with 11); the advance.
   abbrev pub calls : List LibraryCall
   calls =
       band begun 0
@@ -65,11 +67,11 @@ module _ (p : Picture) (weights : List (List Float)) where
   abbrev pub slice : List Float
   slice = setOf 3 3 1 (λ c x y. b0)
 
--- they hold
+-- the premises hold
 abbrev pub PremisesMet : Type 0
 PremisesMet = (p : Picture) (weights : List (List Float)) → Premises 3 (libraryCalls 3) (smaller p weights) (larger p weights) (calls p weights) (slice p weights)
 
--- and there are places that the theorem speaks of: column 1 is clear of the cut edge
+-- the theorem covers at least one position: column 1 is clear of the cut edge
 abbrev pub PlaceClear : Type 0
 PlaceClear = (p : Picture) (weights : List (List Float))
     → Holds (smaller p weights .setup .filter) (pos 1) (pos 0)

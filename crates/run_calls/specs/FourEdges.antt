@@ -1,5 +1,6 @@
--- The premises of the theorem on rectangles (Specification 13.6), met by a picture with all four edges cut: both filters, two passes of three bands each, sigmas from a grid, image regions that differ and
--- reach below 0, full planes for the smaller one and the filter region alone for the larger one; and a refused start, a refused other call. Definitions only.
+-- An example that meets the premises of the theorem on rectangles (Specification 13.6) with all four edges cut: both filters, two passes of
+-- three bands each, sigmas from a grid, and different image regions with negative positions. `preserve_outside` is 1 for the smaller
+-- picture and 0 for the larger one. The calls include a refused start and a refused call of another function. Definitions only.
 use mathlib.Core.Logic.{_↔_}
 use mathlib.Core.List.{List, [], _∷_}
 use Prim.Native.Nat.{ℕ, _+_}
@@ -22,7 +23,7 @@ use Rattle.run_calls.specs.Calls.{startState, LibraryCall, band, advance
 use Rattle.run_calls.specs.Places.{Clear}
 use Rattle.run_calls.specs.Theorem.{Premises, Delivers, resultAfter}
 
--- whatever the samples, the settings that are floats, and the sigmas
+-- any samples, any settings that are floats, any sigmas
 pub record Given : Type 0 where
   pub picture : Picture
   pub weights : List (List Float)
@@ -35,7 +36,7 @@ module _ (g : Given) where
   abbrev settings : Settings
   settings = withGabor (gaborOf 1 (g .weights)) (withEpf (epfOf 1 (g .scales) (epfSigmaOf (g .modular) (g .modular) (g .modular) (g .border)) (g .modular)) noSettings)
 
-  -- a frame of one group, whose grid has three cells each way
+  -- a frame of one group with a grid of 3 × 3 cells
   abbrev frame : Frame
   frame = record { width = 24; height = 24; upsampling = 1; «lf_level» = 0; «group_size_shift» = 0 }
 
@@ -51,7 +52,7 @@ module _ (g : Given) where
     sigmas = tab 9 (λ i. b0);
   }
 
-  -- columns and rows 8 to 15 of them, in an image region of 7 to 16; ten rows of the full planes by bands of four
+  -- columns and rows 8 to 15 of it, in an image region of 7 to 16; the result has ten rows, in bands of four
   abbrev pub smaller : Handed
   smaller = record {
     setup = setupWith (record { left = pos 7; top = pos 7; width = 10; height = 10 }) (record { left = pos 8; top = pos 8; width = 8; height = 8 }) 1 settings 4;
@@ -63,14 +64,14 @@ module _ (g : Given) where
     sigmas = tab 1 (λ i. b0);
   }
 
-  -- a start that is refused (4), though it is given the run's own sets
+  -- a start that is refused (4), though it is given the sets of the run
   abbrev pub empty : Handed
   empty = record { setup = noSetup; frame = frame; table = []; grids = []; first = smaller .first; second = smaller .second; sigmas = smaller .sigmas }
 
   abbrev next : State → LibraryCall → State
   next t c = stateAfter 3 (libraryCalls 3) t c
 
-  -- the states, one after another
+  -- the states in order
   abbrev pub begun : State
   begun = startState 3 smaller
 
@@ -95,7 +96,7 @@ module _ (g : Given) where
   abbrev pub six : State
   six = next five (band five 0)
 
-  -- bands 2, 0 and 1 of the first pass, and 1, 2 and 0 of the second
+  -- bands 2, 0 and 1 of the first pass; bands 1, 2 and 0 of the second
   abbrev pub accepted-calls : List LibraryCall
   accepted-calls = band begun 2 ∷ band one 0 ∷ band two 1 ∷ advance (three .run) ∷ band turned 1 ∷ band four 2 ∷ band five 0 ∷ advance (six .run) ∷ []
 
@@ -108,16 +109,17 @@ module _ (g : Given) where
 abbrev pub FourEdgesMet : Type 0
 FourEdgesMet = (g : Given) → Premises 3 (libraryCalls 3) (smaller g) (larger g) (calls g) (slice g)
 
--- columns and rows 11 and 12, which have three samples between them and each of the four edges
+-- columns and rows 11 and 12: three samples lie between them and each of the four edges
 abbrev pub middle : Region
 middle = record { left = pos 11; top = pos 11; width = 2; height = 2 }
 
--- They are places of the smaller filter region, clear of its cut edges by the margin, which is 3. No other place is: not columns and rows 10 and 13.
+-- These positions of the smaller filter region are clear of its cut edges by the margin, 3. No others are: columns and rows 10 and 13 are
+-- not.
 abbrev pub FourEdgesClear : Type 0
 FourEdgesClear = (g : Given) → let small = smaller g .setup in
     let large = larger g .setup in
     T (inside (small .filter) middle) × ((x y : ℤ) → Clear (margin (small .settings)) (small .filter) (large .filter) x y ↔ Holds middle x y)
 
--- so the theorem says of them
+-- the theorem's conclusion for this example
 abbrev pub FourEdgesDelivered : Type 0
 FourEdgesDelivered = (g : Given) → Delivers 3 (smaller g) (larger g) (resultAfter 3 (libraryCalls 3) (smaller g) (calls g) (slice g))

@@ -1,4 +1,4 @@
--- What is promised beside the contracts (Specification 13), each statement by its name. proofs/Promises.antt proves the whole of it.
+-- All promises besides the contracts (Specification 13), each by its name. proofs/Promises.antt proves them.
 use Prim.Native.Nat.{ℕ}
 use Rattle.mirror.specs.Statements.{MirrorInside, MirrorPeriodic, MirrorLow, MirrorHigh, MirrorCut}
 use Rattle.region_arithmetic.specs.Laws.{IntersectionInside, IntersectionGreatest, AlignedContains, AlignedLeast, ShrunkHas, ShrunkTouched}
@@ -22,14 +22,15 @@ use Rattle.run_calls.specs.FourEdges.{FourEdgesMet, FourEdgesClear, Four
 use Rattle.run_calls.specs.Needed.{PremisesSay, EachNeeded, GaborMarginNeeded, StepMarginNeeded, InputsNeeded, SigmasNeeded, UnalteredNeeded}
 
 pub record Promises : Type 1 where
-  -- the theorem on rectangles (Specification 13.6), for three planes and the calls of 13.7, and for any
+  -- the theorem on rectangles (Specification 13.6): for three planes and the calls of 13.7, and for any number of planes and any kind of
+  -- calls
   pub library-theorem : LibraryTheorem
   pub rectangle-theorem : (n : ℕ) (K : Calls n) → RectangleTheorem n K
-  -- of a state, by whatever calls, and lists lead to such states
+  -- the theorem for a state, however it was reached, and that lists of calls reach such states
   pub rectangle-theorem-at : RectangleTheoremAt
   pub handed-over-at : HandedOverAt
   pub end-reached : (n : ℕ) (K : Calls n) → EndReached n K
-  -- its premises are met, by four cut edges too
+  -- examples meet the premises, one of them with four cut edges
   pub premises-met : PremisesMet
   pub place-clear : PlaceClear
   pub edge-premises-met : EdgePremisesMet
@@ -37,7 +38,7 @@ pub record Promises : Type 1 where
   pub four-edges-met : FourEdgesMet
   pub four-edges-clear : FourEdgesClear
   pub four-edges-delivered : FourEdgesDelivered
-  -- and it is false without any of them, or with a smaller margin
+  -- the theorem is false without any one premise, or with a smaller margin
   pub premises-say : PremisesSay
   pub each-needed : EachNeeded
   pub gabor-margin-needed : GaborMarginNeeded
@@ -50,23 +51,23 @@ pub record Promises : Type 1 where
   pub two-cuts-agree : (n : ℕ) (K : Calls n) → TwoCutsAgree n K
   pub outside-kept : (n : ℕ) (K : Calls n) → OutsideKept n K
   pub bands-alike : (n : ℕ) (K : Calls n) → BandsAlike n K
-  -- the calls and the run rule
+  -- the calls of a run, and how many finish it
   pub start-tied : StartTied
   pub calls-tied : CallsTied
   pub refused-untouched : RefusedUntouched
   pub library-count-rule : LibraryCountRule
   pub count-rule : (n : ℕ) (K : Calls n) → CountRule n K
   pub can-finish : CanFinish
-  -- the records of runs
+  -- the records of runs: which are valid, which are reached
   pub end-fits : (n : ℕ) (K : Calls n) → EndFits n K
   pub reached-fits : ReachedFits
   pub fits-reached : FitsReached
   pub each-reached : EachReached
-  -- passes: what they read, how far, and what a cut leaves of them
+  -- passes: how far they read, and that a cut agrees with the larger picture
   pub pass-near : PassNear
   pub cut-same : CutSame
   pub plan-reach : PlanReach
-  -- weights and divisors
+  -- bounds of weights and divisors
   pub weight-bounds : WeightBounds
   pub divisor-bounds : DivisorBounds
   pub multiplier-not-negative : MultiplierNotNegative
@@ -74,24 +75,24 @@ pub record Promises : Type 1 where
   pub distance-not-negative : DistanceNotNegative
   pub slope-not-positive : SlopeNotPositive
   pub lane-divisor-bounds : LaneDivisorBounds
-  -- at the standard copying limit, for the steps that settings ask for
+  -- the same at the standard copying limit, for the steps of the settings
   pub step-bounds : StepBounds
   pub settings-bounds : SettingsBounds
   pub bounds-reached : BoundsReached
-  -- the edge filter's offsets follow the standard's rule
+  -- the EPF's offsets follow the standard's rule
   pub kernel-offsets : KernelOffsets
   pub distance-offsets : DistanceOffsets
-  -- the Gabor-like filter's formulas have the coefficients of the standard's mirrored kernel, but on a single row
+  -- the Gabor-like filter's formulas have the coefficients of the standard's mirrored kernel, except for a single row
   pub fold-mirrors : FoldMirrors
   pub kernel-mirrored : KernelMirrored
   pub single-row-differs : SingleRowDiffers
   pub alone-copied : AloneCopied
-  -- and without rounding they are the sums of these coefficients times the samples
+  -- without rounding they are the sums of these coefficients times the samples
   pub expansion-sums : ExpansionSums
   pub coefficients-weigh : CoefficientsWeigh
   pub rows-mirrored : RowsMirrored
   pub integers-exact : IntegersExact
-  -- the mirrored place: inside, the same two lengths on, symmetric about both edges, and away from cut edges the larger picture's
+  -- the mirrored index: in range, periodic in twice the length, symmetric about both edges; away from cut edges that of the larger picture
   pub mirror-inside : MirrorInside
   pub mirror-periodic : MirrorPeriodic
   pub mirror-low : MirrorLow
@@ -104,10 +105,10 @@ pub record Promises : Type 1 where
   pub aligned-least : AlignedLeast
   pub shrunk-has : ShrunkHas
   pub shrunk-touched : ShrunkTouched
-  -- headers: what comes first of all
+  -- headers: which refusal comes first
   pub too-long : TooLong
   pub runs-out : RunsOut
-  -- frames: sides divided up, and a block's group and cell
+  -- frames: division rounded up, and a block's group and cell
   pub divided-up-covers : DividedUpCovers
   pub divided-up-least : DividedUpLeast
   pub split-whole : SplitWhole

@@ -1,4 +1,5 @@
--- The run rule, the records to which accepted calls lead, and what refused calls leave (Specification 3.3, 12.8, 12.13). Statements only.
+-- How many calls finish a run, which records accepted calls lead to, and that refused calls change nothing (Specification 3.3, 12.8,
+-- 12.13). Statements only.
 use mathlib.Core.Path.{_≡_}
 use mathlib.Core.Logic.{_↔_}
 use mathlib.Core.List.{List}
@@ -16,17 +17,17 @@ use Rattle.run_calls.specs.Calls.{StartAccepted, startState, LibraryCall
 
 -- ---- the calls (Specification 13.7)
 
--- the state that a start of n planes (the Specification has 3) leaves is that of its outcome, and the second set as it was handed over
+-- the state after a start of n planes (3 in the Specification) is that of its outcome, with the second set unchanged
 abbrev pub StartTied : Type 0
 StartTied = (n : ℕ) (h : Handed) → let t = startState n h in
     let o = startOutcome n h in
     (t .run ≡ o .answer .run) × (t .first ≡ o .first) × (t .sigmas ≡ o .sigmas) × (t .second ≡ h .second)
 
--- where a call was given the state, accepted or not, what its answer leaves is the state after it
+-- if a call is given the state, accepted or not, what it returns and writes is the state after it
 abbrev pub CallsTied : Type 0
 CallsTied = (n : ℕ) (t : State) (c : LibraryCall) → LentState t c → leftBy t (answer n c) ≡ stateAfter n (libraryCalls n) t c
 
--- what a call leaves of all that it was given is as it was; functions other than these four say it of themselves
+-- a call leaves all its arguments unchanged; the contracts of functions other than these four say it themselves
 abbrev pub Untouched : ℕ → LibraryCall → Type 0
 Untouched n (band t k) = bandOutcome n t k .state ≡ t
 Untouched n (advance r) = advanceOutcome r .run ≡ r
@@ -34,25 +35,25 @@ Untouched n (result r first second out) = resultOutcome n r first second out .ou
 Untouched n (start h) = (startOutcome n h .first ≡ h .first) × (startOutcome n h .sigmas ≡ h .sigmas)
 Untouched n (other k) = Unit {0}
 
--- so with each refused call
+-- every refused call does
 abbrev pub RefusedUntouched : Type 0
 RefusedUntouched = (n : ℕ) (c : LibraryCall) → (numberIn (answer n c) ≡ 0 → ⊥) → Untouched n c
 
--- from every accepted start some list of calls finishes the run
+-- after every accepted start some list of calls finishes the run
 abbrev pub CanFinish : Type 0
 CanFinish = (n : ℕ) (h : Handed) → StartAccepted n h
     → (cs : List LibraryCall) × Unaltered n (libraryCalls n) (startState n h) cs × T (finished (end n (libraryCalls n) (startState n h) cs .run))
 
--- ---- runs of n planes by calls of the kinds K
+-- ---- runs of n planes with calls of kind K
 
 module _ (n : ℕ) (K : Calls n) where
-  -- With p passes and b bands a run is finished after exactly p × b accepted bands and p accepted advances.
+  -- A run with p passes and b bands is finished after exactly p × b accepted bands and p accepted advances.
   abbrev pub CountRule : Type 0
   CountRule = (h : Handed) → StartAccepted n h → (cs : List (K .Call)) → Unaltered n K (startState n h) cs
       → T (finished (end n K (startState n h) cs .run))
       ↔ ((bandsIn n K cs ≡ passCount (h .setup) * bandCount (h .setup)) × (advancesIn n K cs ≡ passCount (h .setup)))
 
-  -- the record after any list of calls is sound
+  -- the record after any unaltered list of calls is valid
   abbrev pub EndFits : Type 0
   EndFits = (h : Handed) → StartAccepted n h → (cs : List (K .Call)) → Unaltered n K (startState n h) cs
       → let r = end n K (startState n h) cs .run in (r .setup ≡ h .setup) × T (runFits r) × (length (r .done) ≡ maxBands)
@@ -63,21 +64,21 @@ LibraryCountRule = CountRule 3 (libraryCalls 3)
 
 -- ---- the records to which accepted calls lead
 
--- what accepted calls return is sound
+-- accepted calls return valid records
 abbrev pub ReachedFits : Type 0
 ReachedFits = (s : Setup) (r : Run) → T (setupFits s) → Reached s r → T (runFits r)
 
--- each sound record is reached from the one that start gives
+-- each valid record is reached from the one that start returns
 abbrev pub FitsReached : Type 0
 FitsReached = (r : Run) → length (r .done) ≡ maxBands → T (runFits r) → Reached (r .setup) r
 
--- a list of calls (Specification 13.7) after an accepted start, all accepted and given what those before them left, that ends in the record r
+-- a list of calls (Specification 13.7) after an accepted start, all accepted and unaltered, that ends in record r
 pub record LeadsTo (n : ℕ) (h : Handed) (cs : List LibraryCall) (r : Run) : Type 0 where
   pub accepted : AllAccepted n (libraryCalls n) cs
   pub unaltered : Unaltered n (libraryCalls n) (startState n h) cs
   pub ends : end n (libraryCalls n) (startState n h) cs .run ≡ r
 
--- there is one for each sound record of that start: EndFits the other way round
+-- there is such a list for each valid record with that start's setup: the converse of EndFits
 abbrev pub EachReached : Type 0
 EachReached = (n : ℕ) (h : Handed) → StartAccepted n h → (r : Run) → r .setup ≡ h .setup → T (runFits r) → length (r .done) ≡ maxBands
     → (cs : List LibraryCall) × LeadsTo n h cs r

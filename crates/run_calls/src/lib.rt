@@ -1,1 +1,2 @@
-// Lists of calls of a run: the theorem about rectangles cut from a larger picture. There is no code here; specs/ states it and proofs/ proves it.
+// Lists of calls of a run: the theorem on rectangles cut from a larger picture (Specification 13.6). There is no code
+// here; specs/ states the theorem and proofs/ proves it.

@@ -1,4 +1,4 @@
--- What accepted calls were given, and when a call is accepted. Assumes nothing.
+-- When calls are accepted, and what holds of the arguments of accepted calls. Assumes nothing.
 use mathlib.Core.Path.{_≡_, refl, sym, _∙_}
 use mathlib.Core.Bool.{Bool, true, false, cond, not, _&&_, _||_}
 use mathlib.Core.List.{List}
@@ -31,7 +31,7 @@ use Rattle.run_outcomes.proofs.Rows.{here, below, row-passed, first-joi
 
 -- ---- start
 
--- a picture that would not be refused under 4 to 9: what the record and the lengths have
+-- a picture that would not be refused under 4 to 9: its record is valid and its lengths are right
 pub record PictureFits (n : ℕ) (h : Handed) : Type 0 where
   pub setup : T (setupFits (h .setup))
   pub first : length (h .first) ≡ setLength n (h .setup)
@@ -67,7 +67,7 @@ picture-fits n h e =
       sigmas = eqb→eq (length (h .sigmas)) (sigmaLength s) (met-given (itersFit s) (eqb (length (h .sigmas)) (sigmaLength s)) (passed (sigmasLength h) (search (here, below) depth 20)) iters);
     }
 
--- the block sigmas that start fills have the length of those that it was given
+-- start fills the block sigmas without changing their number
 pub sigmas-length : (n : ℕ) (h : Handed) → PictureFits n h → length (sigmasFilled n h) ≡ sigmaLength (h .setup)
 unfolding sigmasFilled layoutOf
 sigmas-length n h f = go (epfOn (h .setup)) (f .sigmas)
@@ -78,27 +78,27 @@ sigmas-length n h f = go (epfOn (h .setup)) (f .sigmas)
     go true e = length-sigmas (h .frame) (blocksOf (h .setup)) (h .table) (h .grids) (h .setup .settings .epf .«sigma_for_modular»)
     go false e = e
 
--- what it leaves of the first set has the length of what it was given
+-- the first set keeps its length,
 pub leaves-length : (n : ℕ) (h : Handed) → length (startLeaves n h) ≡ length (h .first)
 unfolding startLeaves
 leaves-length n h = refl
 
--- and depends on that alone
+-- and depends only on the first set before the call
 pub leaves-same : (n : ℕ) (a b : Handed) → a .first ≡ b .first → startLeaves n a ≡ startLeaves n b
 unfolding startLeaves
 leaves-same n a b e = e
 
--- its number is the first of the picture's checks, or else of the tail's
+-- the number of start is that of the picture's checks or, if that is 0, of the further checks
 pub start-parts : (n : ℕ) (h : Handed) → startNumber n h ≡ orElse (firstOf (pictureChecks n h)) (firstOf (tailChecks n h))
 unfolding startChecks pictureChecks
 start-parts n h = first-joined (pictureChecks n h) (tailChecks n h) tt
 
--- a start that is accepted: the picture would not be refused
+-- the picture of an accepted start would not be refused
 pub start-picture : (n : ℕ) (h : Handed) → startNumber n h ≡ 0 → firstOf (pictureChecks n h) ≡ 0
 unfolding startChecks pictureChecks
 start-picture n h e = joined-none (pictureChecks n h) (tailChecks n h) tt e
 
--- ---- outcomes: their numbers, and what accepted and refused calls leave
+-- ---- outcomes: their numbers, and the state after accepted and refused calls
 
 pub start-number : (n : ℕ) (h : Handed) → startOutcome n h .answer .number ≡ startNumber n h
 unfolding startOutcome
@@ -153,9 +153,9 @@ pub result-refused : (n : ℕ) (r : Run) (first second out : List Float) → (re
 unfolding resultOutcome
 result-refused n r first second out e = rw (ne-eqb (resultNumber n r first second out) 0 e)
 
--- ---- what a band, an advance and the result were given, and when they are accepted
+-- ---- when a band, an advance and the result are accepted, and what holds of their arguments then
 
--- what an accepted band was given
+-- the arguments of an accepted band
 pub record BandFits (n : ℕ) (t : State) (k : ℕ) : Type 0 where
   pub run : RunFits (t .run)
   pub band : Open (t .run) k
@@ -169,7 +169,7 @@ band-fits n t k e =
       band = band-open (t .run) k (passed (bandOpen (t .run) k) (search (here, below) depth 20));
     }
 
--- what an accepted advance was given
+-- the record of an accepted advance
 pub record AdvanceFits (r : Run) : Type 0 where
   pub run : RunFits r
   pub pass : Over r

@@ -1,4 +1,4 @@
--- Rows of a table of checks by name, and one table after another. Assumes nothing.
+-- Finding a row of a table of checks by name, and tables one after another. Assumes nothing.
 use mathlib.Core.Path.{_≡_, refl, sym, _∙_}
 use mathlib.Core.Bool.{Bool, true, false, cond}
 use mathlib.Core.List.{List, [], _∷_, _++_}
@@ -11,7 +11,7 @@ use Rattle.refusals.specs.Checks.{Check, applies, firstOf}
 use Rattle.refusals.proofs.Tables.{numbered, NoneApplies, zero-none}
 use Rattle.run_outcomes.specs.Start.{orElse}
 
--- ---- a row, wherever it stands: `search (here, below)` finds it
+-- ---- a row anywhere in a table: `search (here, below)` finds it
 
 pub data Row (c : Check) : List Check → Type 0 where
   here : {cs : List Check} → Row c (c ∷ cs)
@@ -21,11 +21,11 @@ none-at : {c : Check} {cs : List Check} → Row c cs → NoneApplies cs → appl
 none-at here n = n .0
 none-at (below r) n = none-at r (n .1)
 
--- where the number is 0, it does not apply
+-- if the table's number is 0, the row does not apply
 pub row-passed : (cs : List Check) → T (numbered cs) → firstOf cs ≡ 0 → (c : Check) → Row c cs → applies c ≡ false
 row-passed cs t e c r = none-at r (zero-none cs t e)
 
--- ---- one table after another: the first one's number, or else the second one's
+-- ---- one table after another: the number of the first or, if that is 0, of the second
 
 pub first-joined : (xs ys : List Check) → T (numbered xs) → firstOf (xs ++ ys) ≡ orElse (firstOf xs) (firstOf ys)
 first-joined [] ys t = refl

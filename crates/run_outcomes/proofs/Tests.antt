@@ -1,4 +1,4 @@
--- What the code's tests say of the lengths. Assumes nothing.
+-- The code's tests of lengths agree with the definitions. Assumes nothing.
 use mathlib.Core.Path.{_≡_, sym, ap, _∙_}
 use mathlib.Core.Bool.{true, false, not, _&&_}
 use Prim.Native.Nat.{ℕ, _+_, _*_, _/_, _<_, _≤_}
@@ -15,7 +15,7 @@ use Rattle.run_setup.specs.Setup.{fullFits, sized, resultRegion, setLength, res
 use Rattle.run_outcomes.specs.Band.{setCheck, sigmaCheck}
 use Rattle.run_outcomes.specs.Result.{sliceCheck}
 
--- ---- the sides of a region that is in measure
+-- ---- the sides of a region that is within the limits
 
 pub record Sides (r : Region) : Type 0 where
   pub wide : r .width ≤ 16384
@@ -41,7 +41,7 @@ module _ (n : ℕ) (s : Setup) (first second : ℕ) where
 
 -- ---- the block sigmas
 
--- blocks along a side, by two forms
+-- two formulas for the number of blocks along a side
 pub blocks-same : (m : ℕ) → dividedUp m 8 ≡ (m + 7) / 8
 blocks-same m = omega arith
 

@@ -1,4 +1,4 @@
--- Band and advance: what is given, which number they give, and what they leave (Specification 12.8–12.12). Definitions only.
+-- Band and advance: the state, the number of a call, and the state after it (Specification 12.8–12.12). Definitions only.
 use mathlib.Core.Bool.{Bool, cond, not, _&&_, _||_}
 use mathlib.Core.List.{List, [], _∷_}
 use Prim.Native.Nat.{ℕ, _%_}
@@ -28,7 +28,7 @@ pub record BandOutcome : Type 0 where
   pub number : ℕ
   pub state : State
 
--- ---- which set is read: the first one in the first pass, exchanged by each advance
+-- ---- which set is read: the first one in the first pass; each advance exchanges the sets
 
 unfoldable pub readsFirst : Run → Bool
 readsFirst r = eqb (r .pass % 2) 0
@@ -39,10 +39,10 @@ source t = cond (readsFirst (t .run)) (t .first) (t .second)
 abbrev pub target : State → List Float
 target t = cond (readsFirst (t .run)) (t .second) (t .first)
 
--- ---- lengths, each hidden only by the numbers that it is computed from
+-- ---- lengths; each check is passed over only if the values that the length is computed from are out of range
 
 module _ (n : ℕ) where
-  -- both sets, the one that is not read included
+  -- both sets, also the one that is written
   abbrev pub setCheck : Setup → ℕ → ℕ → Check
   setCheck s first second = given (sized (s .image)) wrongLength (not (eqb first (setLength n s) && eqb second (setLength n s)))
 
@@ -64,7 +64,8 @@ module _ (n : ℕ) where
   abbrev pub nextPass : Run → Pass
   nextPass r = getD (plan n (r .setup .settings)) (r .pass) (gaborLike [])
 
-  -- what an accepted band leaves of the set that it writes: the pass's samples in its rows of the result, copies outside the filter region, the rest as it was
+  -- the written set after an accepted band: in the band's rows of the result region the pass's samples, copies outside the filter region;
+  -- the rest is unchanged
   unfoldable pub banded : State → ℕ → List Float
   banded t k =
       let s = t .run .setup in
@@ -78,7 +79,7 @@ module _ (n : ℕ) where
     second = cond (readsFirst (t .run)) (banded t k) (t .second);
   }
 
-  -- a refused band leaves all as it was
+  -- a refused band leaves the state unchanged
   unfoldable pub bandOutcome : State → ℕ → BandOutcome
   bandOutcome t k = record { number = bandNumber t k; state = cond (eqb (bandNumber t k) 0) (bandAccepted t k) t }
 

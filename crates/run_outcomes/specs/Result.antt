@@ -1,4 +1,4 @@
--- The result: which number it gives, and what it leaves in the slice passed in (Specification 12.11, 12.12). Definitions only.
+-- The result: the number of the call, and the caller's slice after it (Specification 12.11, 12.12). Definitions only.
 use mathlib.Core.Bool.{cond, not, _&&_}
 use mathlib.Core.List.{List, _∷_}
 use Prim.Native.Nat.{ℕ, _+_}
@@ -22,7 +22,7 @@ pub record ResultOutcome : Type 0 where
   pub out : List Float
 
 module _ (n : ℕ) where
-  -- the caller's slice
+  -- the length of the caller's slice
   abbrev pub sliceCheck : Setup → ℕ → Check
   sliceCheck s out = given (fullFits s && sized (resultRegion s)) wrongLength (not (eqb out (resultLength n s)))
 
@@ -35,11 +35,11 @@ module _ (n : ℕ) where
   abbrev pub resultNumber : Run → List Float → List Float → List Float → ℕ
   resultNumber r first second out = firstOf (resultChecks r first second out)
 
-  -- the result's part of a set, plane after plane
+  -- the result region of a set, plane by plane
   unfoldable pub resultOf : Layout → List Float → List Float
   resultOf l s = setOf n (resultWidth l) (resultHeight l) (λ c x y. of (l .image .width) (l .image .height) s c (resultLeft l + x) (resultTop l + y))
 
-  -- from the set that a next pass would read; a refused call leaves the slice as it was
+  -- copied from the set that the next pass would read; a refused call leaves the slice unchanged
   unfoldable pub resultOutcome : Run → List Float → List Float → List Float → ResultOutcome
   resultOutcome r first second out =
       record {

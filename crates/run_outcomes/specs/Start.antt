@@ -1,4 +1,4 @@
--- Start: everything that it is handed, which number it gives, and what it leaves (Specification 12.6, 12.7). Definitions only.
+-- Start: its arguments, the number of the call, and what it returns and writes (Specification 12.6, 12.7). Definitions only.
 use mathlib.Core.Bool.{Bool, cond, not, _&&_}
 use mathlib.Core.List.{List, [], _∷_, _++_}
 use Prim.Native.Nat.{ℕ, _/_}
@@ -23,7 +23,7 @@ use Rattle.run_setup.specs.Setup.{epfOn, itersFit, fullFits, heightFits, countF
 use Rattle.run_record.specs.Record.{started}
 use Rattle.run_outcomes.specs.declared.RunAnswer.{RunAnswer}
 
--- what the record will hold, the frame with its group table and grids, both sets, and the block sigmas to be filled
+-- the arguments of start: the setup, the frame with its group table and grids, both sets, and the slice for the block sigmas
 pub record Handed : Type 0 where
   pub setup : Setup
   pub frame : Frame
@@ -33,13 +33,13 @@ pub record Handed : Type 0 where
   pub second : List Float
   pub sigmas : List Float
 
--- the filter region on blocks; a left or top that is negative is 6 where the edge filter is on
+-- the filter region in blocks; a negative left or top is refused with 6 if the EPF is on
 abbrev pub blocksOf : Setup → Blocks
 blocksOf s = record { left = ahead (s .filter .left) / 8; top = ahead (s .filter .top) / 8; width = s .filter .width; height = s .filter .height }
 
--- ---- the rows of start's table, by name; those of a frame with its group table and grids are `sigma_groups`'
+-- ---- the rows of start's table of checks, by name; crate `sigma_groups` has those of the frame, its group table and its grids
 
--- iterations in range, and the edge filter on
+-- the iterations are in range and the EPF is on
 abbrev pub runsEpf : Setup → Bool
 runsEpf s = itersFit s && epfOn s
 
@@ -52,14 +52,14 @@ filterInside s = always notInside (not (inside (s .image) (s .filter)))
 abbrev pub filterOnBlocks : Setup → Check
 filterOnBlocks s = given (runsEpf s) notOnBlocks (not (onBlocks (s .filter)))
 
--- lengths of both sets, and of the block sigmas
+-- the lengths of both sets, and of the block sigmas
 abbrev pub setLengths : ℕ → Handed → Check
 setLengths n h = always wrongLength (not (eqb (length (h .first)) (setLength n (h .setup)) && eqb (length (h .second)) (setLength n (h .setup))))
 
 abbrev pub sigmasLength : Handed → Check
 sigmasLength h = given (itersFit (h .setup)) wrongLength (not (eqb (length (h .sigmas)) (sigmaLength (h .setup))))
 
--- A group whose presence is out of range counts as not present.
+-- A grid whose presence is out of range counts as missing.
 abbrev pub blocksHeld : Handed → Check
 blocksHeld h = given (runsEpf (h .setup) && tableRead (h .frame) (h .table)) blockNotHeld (someNotHeld (h .frame) (blocksOf (h .setup)) (h .table))
 
@@ -78,7 +78,7 @@ heightInRange s = always outOfRange (not (heightFits s))
 abbrev pub countInRange : Setup → Check
 countInRange s = given (fullFits s && heightFits s) outOfRange (not (countFits s))
 
--- a number, or the other where it is 0
+-- a, or b if a is 0
 abbrev pub orElse : ℕ → ℕ → ℕ
 orElse a b = cond (eqb a 0) b a
 
@@ -86,7 +86,7 @@ module _ (n : ℕ) (h : Handed) where
   abbrev setup : Setup
   setup = h .setup
 
-  -- The numbers 4 to 9 of Specification 12.6, ascending: each check with the settings that it needs.
+  -- The checks of Specification 12.6, numbers 4 to 9 in ascending order, each with the settings that it needs.
   unfoldable pub pictureChecks : List Check
   pictureChecks =
       regionSides setup
@@ -108,32 +108,32 @@ module _ (n : ℕ) (h : Handed) where
       ∷ countInRange setup
       ∷ []
 
-  -- what start checks where none of these applies, in this order: so far nothing
+  -- further checks, after those: none at present
   abbrev pub tailChecks : List Check
   tailChecks = []
 
-  -- what start checks. `start-picture` is all that the theorem knows of it.
+  -- All checks of start. The theorem on rectangles uses only `start-picture` of them.
   unfoldable pub startChecks : List Check
   startChecks = pictureChecks ++ tailChecks
 
   abbrev pub startNumber : ℕ
   startNumber = firstOf startChecks
 
-  -- what an accepted start leaves of the first set: the set as given
+  -- the first set after an accepted start: unchanged
   unfoldable pub startLeaves : List Float
   startLeaves = h .first
 
-  -- the block sigmas that an accepted start fills; with the edge filter off there are none
+  -- the block sigmas after an accepted start; the slice is empty if the EPF is off
   unfoldable pub sigmasFilled : List Float
   sigmasFilled = cond (epfOn setup) (blockSigmas (h .frame) (blocksOf setup) (h .table) (h .grids) (setup .settings .epf .«sigma_for_modular»)) (h .sigmas)
 
--- ---- a refused start has no record: zeros
+-- ---- a refused start returns a record of zeros
 
--- that of `started`, since its pass is 0 and no band is done
+-- `started` of a setup of zeros: pass 0, no band done
 abbrev pub noRun : Run
 noRun = started noSetup
 
--- ---- the outcome: number and record, the first set and the block sigmas as they are left
+-- ---- the outcome: number and record, the first set and the block sigmas after the call
 
 pub record StartOutcome : Type 0 where
   pub answer : RunAnswer

@@ -1,4 +1,5 @@
-// Runs: what calls answer, and the lengths of what they are given. The outcomes of start, band, advance and result are defined in specs/.
+// Runs: the answers of the calls, and the lengths of the slices that they are given. The outcomes of start, band,
+// advance and result are defined in specs/.
 use refusals::flag_fits;
 use refusals::flag_set;
 use region::Region;
@@ -17,7 +18,8 @@ ghost use Rattle.run_outcomes.specs.Result.{sliceCheck};
 
 const PLANES: usize = 3;
 
-// The record as it is after the call: as it was handed in where a band or an advance is refused, and zeros where start is.
+// The number and the record after the call. A refused band or advance returns the record that it was given, a refused
+// start returns zeros.
 #[repr(C)]
 pub struct RunAnswer {
     pub number: u32,
@@ -40,7 +42,7 @@ fn result_region(s: Setup) -> Region
     s.filter
 }
 
-// Whether a set has a wrong length; not known where the image region's sides or area are out of measure.
+// Whether a set has the wrong length; false if the image region is not sized (Specification 12.12).
 pub fn sets_wrong(s: Setup, first: usize, second: usize) -> bool
     ensures { λ b. ⌜ b ≡ applies (setCheck 3 s first second) ⌝ }
 {
@@ -54,7 +56,8 @@ pub fn sets_wrong(s: Setup, first: usize, second: usize) -> bool
     second != n
 }
 
-// Whether the block sigmas have a wrong length; not known where the iterations or, if on, the filter region's sides or area are out of range.
+// Whether the block sigmas have the wrong length; false if the iterations are over 3, or if the EPF is on and the
+// filter region is not sized (Specification 12.12).
 pub fn sigmas_wrong(s: Setup, sigmas: usize) -> bool
     ensures { λ b. ⌜ b ≡ applies (sigmaCheck 3 s sigmas) ⌝ }
 {
@@ -72,7 +75,8 @@ pub fn sigmas_wrong(s: Setup, sigmas: usize) -> bool
     sigmas != down * across
 }
 
-// Whether the result's slice has a wrong length; not known where the flag that chooses the result's region, or its sides or area, are out of range.
+// Whether the slice for the result has the wrong length; false if `preserve_outside` is not a flag or the result
+// region is not sized (Specification 12.12).
 pub fn slice_wrong(s: Setup, out: usize) -> bool
     ensures { λ b. ⌜ b ≡ applies (sliceCheck 3 s out) ⌝ }
 {

@@ -1,4 +1,5 @@
--- The bounds that specs/Bounds.antt states of the steps that settings ask for: those of crate `epf_step` at the copying limit and at `stepOf`. Assumes nothing.
+-- The bounds of specs/Bounds.antt for the steps of the settings: those of crate `epf_step` at the copying limit and at `stepOf`. Assumes
+-- nothing.
 use mathlib.Core.Path.{refl}
 use mathlib.Core.List.{List}
 use Prim.Native.Nat.{ℕ, zero, suc, _+_}

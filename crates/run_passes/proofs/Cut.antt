@@ -1,4 +1,5 @@
--- A filter region cut from a larger one: away from the cut edges each pass, and then any list of passes, gives the larger one's samples. Assumes nothing.
+-- A filter region cut from a larger one: away from the cut edges each pass, and so any list of passes, gives the larger picture's samples.
+-- Assumes nothing.
 use mathlib.Core.Path.{_≡_, sym, _∙_}
 use mathlib.Core.Bool.{Bool, true, false, cond}
 use mathlib.Core.List.{List, [], _∷_}
@@ -23,7 +24,7 @@ use Rattle.run_passes.specs.Near.{sound, isStep}
 use Rattle.run_passes.proofs.Near.{AlikeAt, pass-alike}
 use Rattle.run_passes.specs.Cut.{Fits, SameBlocks, Agree, AllSound, SomeStep}
 
--- ---- where a place stands among its row's or its column's
+-- ---- where a position lies in its row or column: first, last, only or inner
 
 eqb-iff : (a b c d : ℕ) → (a ≡ b → c ≡ d) → (c ≡ d → a ≡ b) → eqb a b ≡ eqb c d
 eqb-iff a b c d f g = go (ℕ-discrete a b)
@@ -66,7 +67,7 @@ module _ (n : ℕ) (a b : Area) (lx ly : ℕ) (fits : Fits a b lx ly) (k : ℕ) 
       let t = mirror-cut k r ly (a .height) (b .height) y dy j (fits .rows) q in
       agree c (mirror (pos x +ℤ dx) (a .width)) (mirror (pos y +ℤ dy) (a .height)) h (s .deep) (t .deep) ∙ rw (s .same, t .same)
 
-  -- what a pass reads there is the same
+  -- a pass reads the same there
   alike : (p : Pass) → (isStep p → SameBlocks a b lx ly) → (x y : ℕ) → Deep (k + reach p) lx (a .width) (b .width) x → Deep (k + reach p) ly (a .height) (b .height) y
       → AlikeAt n p a b g G x y (lx + x) (ly + y)
   unfolding reach isStep
@@ -107,7 +108,8 @@ passes-same n a b lx ly fits k (p ∷ ps) ask blocks g G agree c x y h i j =
     passes-same n a b lx ly fits (k + reach p) ps (ask .1) (λ s. blocks (inr s)) (pass a p g) (pass b p G)
     (pass-same n a b lx ly fits k g G agree p (ask .0) (λ s. blocks (inl s))) c x y h (rw z at i) (rw z at j)
 
--- Where the pictures agree on all of the smaller area, the passes agree at each sample with their reaches between it and each cut edge.
+-- If the pictures agree on the whole smaller area, they agree after the passes at each sample that is as far from each cut edge as the
+-- passes read.
 pub cut-same : (n : ℕ) (a b : Area) (lx ly : ℕ) → Fits a b lx ly → (ps : List Pass) → AllSound n ps → (SomeStep ps → SameBlocks a b lx ly) → (g G : Picture)
     → ((c x y : ℕ) → c < n → x < a .width → y < a .height → g c x y ≡ G c (lx + x) (ly + y))
     → Agree n a b lx ly (reaches ps) (passes a ps g) (passes b ps G)
@@ -115,7 +117,7 @@ cut-same n a b lx ly fits ps ask blocks g G agree c x y h i j =
     let z : 0 + reaches ps ≡ reaches ps = omega arith in
     passes-same n a b lx ly fits 0 ps ask blocks g G (λ c x y h i j. agree c x y h (i .inside) (j .inside)) c x y h (rw z i) (rw z j)
 
--- ---- the passes that settings ask for
+-- ---- the passes of the settings
 
 step-sound : (n : ℕ) (s : Settings) (k : ℕ) → k < 3 → sound n (step n s k)
 unfolding sound stepOf
@@ -142,7 +144,7 @@ unfolding steps
 some-step n s zero h = absurd h
 some-step n s (suc i) h = omega arith
 
--- A step is among them only where there are iterations.
+-- There is a step among them only if there are iterations.
 pub plan-some-step : (n : ℕ) (s : Settings) → SomeStep (plan n s) → 0 < s .epf .iters
 unfolding plan isStep
 plan-some-step n s h = go (gaborOn s) h

@@ -1,4 +1,4 @@
--- A sample after a pass depends on nothing but the samples within the pass's reach and where the place stands. Assumes nothing.
+-- A sample after a pass depends only on the samples within the pass's reach and on where its position lies in the area. Assumes nothing.
 use mathlib.Core.Path.{_≡_, refl}
 use Prim.Native.Nat.{ℕ, _+_, _-_, _/_, _%_, _<_, _≤_, min}
 use native.Mathlib.Omega.{arith}
@@ -17,10 +17,11 @@ use Rattle.epf_step.proofs.Local.{Alike, steps-near, epf-same}
 use Rattle.run_passes.specs.Pass.{Area, Pass, gaborLike, edgePreserving, pass, reach}
 use Rattle.run_passes.specs.Near.{sound, isStep, AgreeNear}
 
--- ---- two places, of one area or of two
+-- ---- two positions, of one area or of two
 
--- What a pass reads at column x and row y of a, and at column X and row Y of b, is the same: n planes within its reach; for the Gabor-like filter, where the
--- place stands among those of its row and its column; for a step, the block's sigma, the image row, and the column in its block.
+-- A pass reads the same at column x and row y of a as at column X and row Y of b: n planes within its reach; for the Gabor-like filter,
+-- whether the position is first, last, only or inner in its row and column; for a step, the block's sigma, the row's position y, and the
+-- column in its block.
 pub record AlikeAt (n : ℕ) (p : Pass) (a b : Area) (g G : Picture) (x y X Y : ℕ) : Type 0 where
   pub samples : Alike n (reach p) (around (a .width) (a .height) g x y) (around (b .width) (b .height) G X Y)
   pub column : (isStep p → ⊥) → stands (a .width) x ≡ stands (b .width) X
@@ -29,7 +30,7 @@ pub record AlikeAt (n : ℕ) (p : Pass) (a b : Area) (g G : Picture) (x y X Y : 
   pub image-row : isStep p → a .top + y ≡ b .top + Y
   pub in-block : isStep p → x % 8 ≡ X % 8
 
--- of the column only its remainder by 8 counts
+-- only the column modulo 8 matters
 multiplier-column : (m b : Float) (row x X : ℕ) → x % 8 ≡ X % 8 → multiplier m b row x ≡ multiplier m b row X
 unfolding multiplier border
 multiplier-column m b row x X e = rw e
@@ -45,9 +46,9 @@ pass-alike n (edgePreserving e) u a b g G x y X Y alike c h =
     rw (alike .sigma tt, mul)
     (epf-same n (stepReach (e .step)) _ _ (alike .samples) (e .scales) (kernel (e .step)) (dists (e .step)) _ _ (u .1) (steps-near (e .step) (u .0)) (e .limit) c h)
 
--- ---- one place of one area
+-- ---- one position of one area
 
--- a mirrored place lies as near as its offset: `mirror-cut` on the part that is within r of y, clipped to the whole
+-- a mirrored index is as near as its offset: `mirror-cut` on the part within r of y, clipped to the area
 pub mirror-near : (r N y : ℕ) (d : ℤ) → natAbs d ≤ r → y < N → (y ≤ mirror (pos y +ℤ d) N + r) × (mirror (pos y +ℤ d) N ≤ y + r)
 mirror-near r N y d small inside =
     let lo = y - r in
@@ -66,7 +67,7 @@ mirror-near r N y d small inside =
     far : (y - r + (min (y + r + 1) N - (y - r)) ≡ N → ⊥) → y - (y - r) + (0 + r) < min (y + r + 1) N - (y - r)
     far f = omega (arith, f)
 
--- then so does the sample after a pass that reads no further
+-- then the samples after a pass that reads no further agree too
 pub pass-near : (n : ℕ) (p : Pass) → sound n p → (a : Area) (g G : Picture) (x y : ℕ) → x < a .width → y < a .height → AgreeNear n (reach p) a x y g G
     → (c : ℕ) → c < n → pass a p g c x y ≡ pass a p G c x y
 unfolding around
@@ -83,7 +84,7 @@ pass-near n p u a g G x y i j agree = pass-alike n p u a a g G x y x y (record {
   in-block = λ z. refl;
 })
 
--- in particular where the pictures agree in the whole area: a pass sees nothing but that
+-- in particular if the pictures agree in the whole area: a pass reads nothing else
 pub pass-cong : (n : ℕ) (p : Pass) → sound n p → (a : Area) (g G : Picture) → ((c x y : ℕ) → c < n → x < a .width → y < a .height → g c x y ≡ G c x y)
     → (c x y : ℕ) → c < n → x < a .width → y < a .height → pass a p g c x y ≡ pass a p G c x y
 pass-cong n p u a g G agree c x y h i j = pass-near n p u a g G x y i j (λ c i j h p q v w. agree c i j h p q) c h

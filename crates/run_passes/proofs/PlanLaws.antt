@@ -1,4 +1,4 @@
--- Laws of the passes that settings ask for: how many, which is which, and how far they read. Assumes nothing.
+-- Laws of the passes of the settings: how many there are, which is which, and how far they read. Assumes nothing.
 use mathlib.Core.Path.{_≡_, refl}
 use mathlib.Core.Bool.{Bool, true, false, true≢false, false≢true, cond, _&&_}
 use mathlib.Core.List.{_∷_}
@@ -15,14 +15,14 @@ use Rattle.run_passes.specs.Plan.{gaborAt, gaborOn, margin, oneIf, plan,
 
 -- ---- laws
 
--- step 2 and all above it have pass 2's scale
+-- step 2 and every larger number have `pass2_sigma_scale`
 pub scale-last : (s : EpfSigma) (k : ℕ) → 2 ≤ k → scaleOf s k ≡ s .«pass2_sigma_scale»
 unfolding scaleOf
 scale-last s zero h = absurd (omega arith)
 scale-last s (suc zero) h = absurd (omega arith)
 scale-last s (suc (suc k)) h = refl
 
--- three iterations and more read 6 far
+-- three or more iterations read 6 samples far
 pub step-margin-most : (i : ℕ) → 3 ≤ i → stepMargin i ≡ 6
 unfolding stepMargin
 step-margin-most zero h = absurd (omega arith)
@@ -46,7 +46,7 @@ pub plan-reach : (n : ℕ) (s : Settings) → reaches (plan n s) ≡ margin s
 unfolding plan
 plan-reach n s = margin-is n s (gaborOn s) (s .epf .iters)
 
--- how many passes there are
+-- the number of passes
 pub length-steps : (n : ℕ) (s : Settings) (i : ℕ) → length (steps n s i) ≡ min i 3
 unfolding steps
 length-steps n s zero = refl
@@ -62,7 +62,7 @@ plan-length n s = go (gaborOn s)
     go true = omega (arith, length-steps n s (s .epf .iters))
     go false = omega (arith, length-steps n s (s .epf .iters))
 
--- ---- which pass is at a place
+-- ---- the pass with a given number
 
 and-true : (a b : Bool) → (a && b) ≡ true → (a ≡ true) × (b ≡ true)
 and-true true b e = (refl, e)

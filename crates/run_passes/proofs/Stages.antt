@@ -1,4 +1,4 @@
--- The stages of a picture: it after the first passes of a list, none to all of them. Assumes nothing.
+-- The stages of a picture: the picture after the first k passes of a list. Assumes nothing.
 use mathlib.Core.Path.{_≡_, refl, _∙_}
 use mathlib.Core.List.{List, []}
 use Prim.Native.Nat.{ℕ, zero, suc, _≤_}
@@ -14,7 +14,7 @@ stage a ps g zero = g
 stage a ps g (suc k) = pass a (getD ps k (gaborLike [])) (stage a ps g k)
 
 module _ (a : Area) (ps : List Pass) (g : Picture) where
-  -- the passes that are left take a stage to the last one
+  -- the remaining passes turn a stage into the last one,
   stage-left : (k : ℕ) → k ≤ length ps → passes a (drop k ps) (stage a ps g k) ≡ passes a ps g
   unfolding stage passes
   stage-left zero h = refl
@@ -22,7 +22,7 @@ module _ (a : Area) (ps : List Pass) (g : Picture) where
       let one : passes a (drop (suc k) ps) (pass a (getD ps k (gaborLike [])) (stage a ps g k)) ≡ passes a (drop k ps) (stage a ps g k) = rw (drop-cons ps k (gaborLike []) (omega arith)) in
       one ∙ stage-left k (omega arith)
 
-  -- which is that of all passes
+  -- which is the picture after all passes
   pub stage-last : (k : ℕ) → k ≡ length ps → stage a ps g k ≡ passes a ps g
   unfolding passes
   stage-last k e =

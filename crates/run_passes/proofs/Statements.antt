@@ -1,4 +1,4 @@
--- What specs/Statements.antt promises of passes. Assumes nothing.
+-- Proofs of specs/Statements.antt. Assumes nothing.
 use Rattle.run_passes.proofs.Near.{pass-near as near}
 use Rattle.run_passes.proofs.Cut.{cut-same as same}
 use Rattle.run_passes.proofs.PlanLaws.{plan-reach as reach-is}

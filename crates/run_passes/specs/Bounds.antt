@@ -1,5 +1,5 @@
--- Bounds of weights and divisors in the steps that settings ask for, at the standard copying limit (Specification 11.9).
--- proofs/Bounds.antt proves these statements.
+-- Bounds of weights and divisors in the steps of the settings, at the standard copying limit (Specification 11.9). proofs/Bounds.antt
+-- proves these statements.
 use mathlib.Core.Path.{_≡_}
 use mathlib.Core.Bool.{false}
 use mathlib.Core.List.{List, [], _∷_}
@@ -21,7 +21,7 @@ use Rattle.run_passes.specs.Plan.{scaleOf, stepOf}
 abbrev pub multiplierAt : Settings → ℕ → Area → ℕ → ℕ → Float
 multiplierAt s k a x y = multiplier (scaleOf (s .epf .sigma) k) (s .epf .sigma .«border_sad_mul») (a .top + y) x
 
--- step k on n planes: where the sample is not copied, its weights lie in 0 to 1 and its divisor in 1 to 13 (step 0) or 1 to 5
+-- step k on n planes: if the sample is not copied, its weights are from 0 to 1 and its divisor from 1 to 13 (step 0) or 1 to 5
 abbrev pub SampleBounds : ℕ → Settings → ℕ → Area → Picture → ℕ → ℕ → Type 0
 SampleBounds n s k a g x y =
     let e : EpfPass = settingsOf n (stepOf s k) in
@@ -31,19 +31,19 @@ SampleBounds n s k a g x y =
     → ((o : Offset) → Between b0 b1 (weightAt (e .scales) (kernel k) (dists k) sigma (multiplierAt s k a x y) v o))
     × Between b1 (most k) (divisor (e .scales) (kernel k) (dists k) sigma (multiplierAt s k a x y) v)
 
--- so with scales and M not negative, whatever the picture and the sigmas
+-- the bounds hold if no scale is negative and M is not, whatever the picture and the sigmas
 abbrev pub StepBounds : Type 0
 StepBounds = (n : ℕ) (s : Settings) (k : ℕ) (a : Area) (g : Picture) (x y : ℕ)
     → ScalesNotNegative (scaled n (s .epf .«channel_scale»)) → T (notNegative (multiplierAt s k a x y)) → SampleBounds n s k a g x y
 
--- settings of which nothing that a step reads is negative
+-- settings in which nothing that a step reads is negative
 pub record NothingNegative (s : Settings) : Type 0 where
   pub channel : (c : ℕ) → T (notNegative (getD (s .epf .«channel_scale») c nan))
   pub pass0 : T (notNegative (s .epf .sigma .«pass0_sigma_scale»))
   pub pass2 : T (notNegative (s .epf .sigma .«pass2_sigma_scale»))
   pub border : T (notNegative (s .epf .sigma .«border_sad_mul»))
 
--- so with these in every step and at every sample
+-- with such settings the bounds hold in every step and at every sample
 abbrev pub SettingsBounds : Type 0
 SettingsBounds = (n : ℕ) (s : Settings) (k : ℕ) (a : Area) (g : Picture) (x y : ℕ) → NothingNegative s → SampleBounds n s k a g x y
 

@@ -1,4 +1,5 @@
--- Settings (Specification 12.1) are made here alone: zeros, and the same with some of it changed. A field that is added gets its value here. Definitions only.
+-- The only place where settings (Specification 12.1) are made: zeros, and functions that change some fields. A new field gets its value
+-- here. Definitions only.
 use mathlib.Core.List.{List, [], _∷_}
 use Prim.Native.Nat.{ℕ}
 use lib.Ieee.{Float}

@@ -1,4 +1,5 @@
--- A pass with all that it reads, and passes one after another (Specification 12.2: Gabor, then the steps). Definitions only.
+-- A pass with everything that it reads of the settings, and passes one after another (Specification 12.2: Gabor, then the steps).
+-- Definitions only.
 use mathlib.Core.List.{List, [], _∷_}
 use Prim.Native.Nat.{ℕ, _+_}
 use lib.Ieee.{Float}
@@ -6,14 +7,14 @@ use Rattle.planes.specs.Picture.{Picture}
 use Rattle.gabor_kernel.specs.Gabor.{gaborPass}
 use Rattle.epf_step.specs.Steps.{EpfPass, epfPass, reach as stepReach}
 
--- the filter region that passes go over: its sides, the image row of its first row, and a sigma by a block's column and row
+-- the filter region of the passes: its sides, its top, and the sigma of each block by column and row
 pub record Area : Type 0 where
   pub width : ℕ
   pub height : ℕ
   pub top : ℕ
   pub sigma : ℕ → ℕ → Float
 
--- all that a pass reads of the settings
+-- everything that a pass reads of the settings
 pub data Pass : Type 0 where
   gaborLike : List (List Float) → Pass
   edgePreserving : EpfPass → Pass
@@ -23,7 +24,7 @@ unfoldable pub pass : Area → Pass → Picture → Picture
 pass a (gaborLike weights) g = gaborPass weights (a .width) (a .height) g
 pass a (edgePreserving e) g = epfPass e (a .width) (a .height) (a .top) (a .sigma) g
 
--- each pass over the whole filter region of what the one before gave
+-- each pass over the whole filter region of the previous result
 unfoldable pub passes : Area → List Pass → Picture → Picture
 passes a [] g = g
 passes a (p ∷ ps) g = passes a ps (pass a p g)

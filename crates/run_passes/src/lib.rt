@@ -1,4 +1,4 @@
-// Which passes settings ask for, in order, and how far they read together.
+// The passes of the settings, in order, and how far they read together.
 use epf::EpfStep;
 use header_epf_sigma::EpfSigma;
 use refusals::ACCEPTED;
@@ -11,14 +11,15 @@ ghost use lib.ListN.{length};
 ghost use Rattle.refusals.specs.Numbers.{outOfRange};
 ghost use Rattle.run_passes.specs.Plan.{plan, gaborOn, oneIf, stepMargin, margin, marginOutcome, scaleOf, stepOf, gaborAt, stepIndex};
 
-// The Gabor-like filter: whether it is on, a flag, and three channels (X, Y, B) of two weights, of the side neighbours and of the corners.
+// The Gabor-like filter. `enabled` is a flag: 1 is on, 0 is off. `weights` has two weights for each of the channels
+// X, Y and B: of the side neighbours and of the diagonal ones.
 #[repr(C)]
 pub struct GaborSettings {
     pub enabled: u32,
     pub weights: [[f32; 2]; 3],
 }
 
-// The edge-preserving filter: it is on where there are iterations.
+// The edge-preserving filter: off with 0 iterations, on with 1 to 3.
 #[repr(C)]
 pub struct EpfSettings {
     pub iters: u32,
@@ -33,7 +34,7 @@ pub struct Settings {
     pub epf: EpfSettings,
 }
 
-// The margin, or 9 and 0.
+// The margin in samples; 0 in a refused call.
 #[repr(C)]
 pub struct MarginAnswer {
     pub number: u32,
@@ -42,10 +43,10 @@ pub struct MarginAnswer {
 
 pub const MAX_ITERS: u32 = 3;
 
-// Three iterations have all steps; fewer begin with step 1.
+// Three iterations have all steps; fewer start with step 1.
 const ALL_STEPS: u32 = 3;
 
-// A flag and weights as the settings have them.
+// Makes Gabor settings from a flag and weights.
 pub fn gabor_settings(enabled: u32, weights: [[f32; 2]; 3]) -> GaborSettings
     ensures { λ r. ⌜ r ≡ record { enabled = enabled; weights = weights } ⌝ }
 {
@@ -77,7 +78,7 @@ fn gabor_passes(s: Settings) -> u32
     one_if(gabor_on(s))
 }
 
-// How many passes there are.
+// The number of passes.
 pub fn pass_count(s: Settings) -> u32
     ensures { λ r. ⌜ r ≡ length (plan 3 s) ⌝ }
 {
@@ -119,7 +120,8 @@ fn no_margin() -> MarginAnswer
     }
 }
 
-// How many samples must lie between a sample and an edge that cuts the picture; 9 where one of the two numbers that it depends on is out of range.
+// The margin (Specification 12.14): how many samples must lie between a sample and each cut edge. 9 if Gabor's flag
+// or the iterations are out of range.
 pub fn margin(s: Settings) -> MarginAnswer
     ensures { λ r. ⌜ r ≡ marginOutcome s ⌝ }
 {
@@ -135,7 +137,7 @@ pub fn margin(s: Settings) -> MarginAnswer
     }
 }
 
-// Whether a pass is Gabor's.
+// Whether a pass is the Gabor-like filter.
 pub fn gabor_at(s: Settings, pass: u32) -> bool
     ensures { λ r. ⌜ r ≡ gaborAt s pass ⌝ }
 {
@@ -169,7 +171,7 @@ fn step_index(s: Settings, pass: u32) -> u32
     2
 }
 
-// The step of a pass that is not Gabor's, with what it reads of the settings.
+// The step of a pass that is not the Gabor-like filter, with the settings that it reads.
 pub fn step_at(s: Settings, pass: u32) -> EpfStep
     ensures { λ r. ⌜ r ≡ stepOf s (stepIndex s pass) ⌝ }
 {

@@ -1,4 +1,4 @@
--- Which bands are done after a start, a band and an advance, and how many flags there are. Assumes nothing.
+-- Which bands are done after a start, a band and an advance, and the number of flags. Assumes nothing.
 use mathlib.Core.Path.{_≡_}
 use mathlib.Core.Bool.{true, false}
 use Prim.Native.Nat.{ℕ, _<_}

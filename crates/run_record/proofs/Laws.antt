@@ -1,4 +1,4 @@
--- What a record in range has, and how calls keep it. Assumes nothing.
+-- What a valid record has, and that accepted calls keep it valid. Assumes nothing.
 use mathlib.Core.Path.{_≡_, refl}
 use mathlib.Core.Bool.{Bool, true, false, not, _&&_, _||_}
 use mathlib.Core.List.{List, [], _∷_}
@@ -26,7 +26,7 @@ unfolding someBelow
 none-has zero has f = refl
 none-has (suc n) has f = rw (none-has n has (λ k l. f k (omega arith)), f n (omega arith))
 
--- a flag that accepted calls give is 0 or 1, and 0 from the open bands on
+-- a flag of a valid record is 0 or 1, and 0 from the open bands on
 flag-most : (bands k f : ℕ) → strayFlag bands k f ≡ false → f ≤ 1
 flag-most bands k f e = go (ltb k bands) (ltb-false _ f e)
   where
@@ -59,7 +59,7 @@ run-fits r t =
     fair : strayDone r ≡ false → (k : ℕ) → k < maxBands → strayFlag (openBands r) k (getD (r .done) k 0) ≡ false
     fair none k l = none-below maxBands k (λ k. strayFlag (openBands r) k (getD (r .done) k 0)) none l
 
--- the same of a test's answer
+-- the same from the answer of a test
 pub fits-setup-of : (r : Run) → runFits r ≡ true → SetupFits (r .setup)
 fits-setup-of r e = setup-fits (r .setup) (run-fits r (of-true (runFits r) e) .setup)
 
@@ -85,7 +85,7 @@ band-open r k e =
 pub open-band : (r : Run) (k : ℕ) → Open r k → notOpen r k ≡ false
 open-band r k o = rw (o .unfinished, lt-leb (bandCount (r .setup)) k (o .below), o .fresh)
 
--- a pass that is over
+-- a pass whose bands are all done
 pub record Over (r : Run) : Type 0 where
   pub unfinished : finished r ≡ false
   pub done : (k : ℕ) → k < bandCount (r .setup) → isDone r k ≡ true
@@ -102,9 +102,9 @@ over-pass r o =
     let none : bandMissing r ≡ false = none-has (bandCount (r .setup)) (λ k. not (isDone r k)) (λ k l. rw (o .done k l)) in
     rw (o .unfinished, none)
 
--- ---- as calls change it
+-- ---- how calls change it
 
--- no band is done after a start and after an advance
+-- no band is done after a start or an advance
 pub none-done : (k : ℕ) → _≡_ {A = ℕ} (getD noneDone k 0) 0
 none-done k = go maxBands k
   where
@@ -113,7 +113,7 @@ none-done k = go maxBands k
     go (suc n) zero = refl
     go (suc n) (suc k) = go n k
 
--- a pass is left while the run is not finished
+-- an unfinished run has a pass left
 pub pass-left : (r : Run) → RunFits r → finished r ≡ false → r .pass < passCount (r .setup)
 pass-left r f e = let n = eqb-false (r .pass) (passCount (r .setup)) e in omega (arith, f .pass)
 

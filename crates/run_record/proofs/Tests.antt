@@ -1,4 +1,4 @@
--- What the code's tests say of the definitions. Assumes nothing.
+-- The code's tests agree with the definitions. Assumes nothing.
 use mathlib.Core.Path.{_≡_}
 use mathlib.Core.Bool.{true, false, not}
 use Prim.Native.Nat.{ℕ, _-_, _<_, _≤_}

@@ -1,4 +1,4 @@
--- The record of a run (Specification 12.5, 12.8): as start gives it, as calls change it, and which pass and done bands accepted calls lead to. Definitions only.
+-- The record of a run (Specification 12.5, 12.8): what start returns, how calls change it, and when it is valid. Definitions only.
 use mathlib.Core.Path.{_≡_}
 use mathlib.Core.Bool.{Bool, false, cond, not, _&&_, _||_}
 use mathlib.Core.List.{List, [], _∷_}
@@ -14,24 +14,24 @@ use Rattle.run_setup.specs.declared.Setup.{Setup}
 use Rattle.run_record.specs.declared.Run.{Run}
 use Rattle.run_setup.specs.Setup.{maxBands, bandCount, setupFits}
 
--- how many passes the settings ask for
+-- the number of passes of the settings
 abbrev pub passCount : Setup → ℕ
 passCount s = length (plan 3 (s .settings))
 
 unfoldable pub isDone : Run → ℕ → Bool
 isDone r k = flagSet (getD (r .done) k 0)
 
--- no band is done: a zero for each band that there may be
+-- no band is done: 256 zeros
 abbrev pub noneDone : List ℕ
 noneDone = replicate maxBands 0
 
--- ---- as calls make it
+-- ---- what calls return
 
--- a record is made here alone: a field that is added gets its value here
+-- the only place where a record is made; a new field gets its value here
 abbrev pub runOf : Setup → ℕ → List ℕ → Run
 runOf s p d = record { setup = s; pass = p; done = d }
 
--- as start gives it
+-- after an accepted start
 unfoldable pub started : Setup → Run
 started s = runOf s 0 noneDone
 
@@ -43,48 +43,48 @@ marked r k = runOf (r .setup) (r .pass) (set (r .done) k 1)
 unfoldable pub advanced : Run → Run
 advanced r = runOf (r .setup) (suc (r .pass)) noneDone
 
--- ---- what a call asks of it
+-- ---- what calls check
 
--- finished (Specification 12.5): all passes are over
+-- finished (Specification 12.5): all passes are completed
 abbrev pub finished : Run → Bool
 finished r = eqb (r .pass) (passCount (r .setup))
 
--- some band of the pass is not done
+-- a band of the pass is not done
 unfoldable pub bandMissing : Run → Bool
 bandMissing r = someBelow (bandCount (r .setup)) (λ k. not (isDone r k))
 
--- number 10's condition: the run is finished, there is no such band, or it is done
+-- the condition of number 10: the run is finished, there is no such band, or it is done
 abbrev pub notOpen : Run → ℕ → Bool
 notOpen r k = finished r || (leb (bandCount (r .setup)) k || isDone r k)
 
--- number 11's condition for an advance
+-- the condition of number 11 for an advance
 abbrev pub notOver : Run → Bool
 notOver r = finished r || bandMissing r
 
--- ---- which records there are
+-- ---- valid records
 
--- how many bands may be done: none once the run is finished
+-- the number of bands that may be done: 0 in a finished run
 abbrev pub openBands : Run → ℕ
 openBands r = cond (finished r) 0 (bandCount (r .setup))
 
--- no accepted call gives band k this flag: it may be 1 below the open bands, and 0 from there on
+-- no accepted calls give band k this flag: it is over 1 below the open bands, or not 0 from there on
 abbrev pub strayFlag : ℕ → ℕ → ℕ → Bool
 strayFlag bands k flag = ltb (oneIf (ltb k bands)) flag
 
 unfoldable pub strayDone : Run → Bool
 strayDone r = someBelow maxBands (λ k. strayFlag (openBands r) k (getD (r .done) k 0))
 
--- what start was told is in range, and the pass and the done bands are some to which accepted calls lead (Reached, and its two laws)
+-- valid (Specification 12.8): the setup is in range, and accepted calls lead to `pass` and `done` (`Reached` and its two laws)
 unfoldable pub runFits : Run → Bool
 runFits r = setupFits (r .setup) && (leb (r .pass) (passCount (r .setup)) && not (strayDone r))
 
--- the records to which accepted bands and advances lead from the one that start gives
+-- the records to which accepted bands and advances lead from the one that start returns
 pub data Reached (s : Setup) : Run → Type 0 where
   atStart : Reached s (started s)
   byBand : (r : Run) (k : ℕ) → Reached s r → notOpen r k ≡ false → Reached s (marked r k)
   byAdvance : (r : Run) → Reached s r → notOver r ≡ false → Reached s (advanced r)
 
--- ---- the numbers that a record alone gives
+-- ---- the numbers that depend on the record alone
 
 abbrev pub runInRange : Run → Check
 runInRange r = always outOfRange (not (runFits r))

@@ -1,4 +1,5 @@
-// The record of a run: what start was told, the pass, and which bands are done in it. It goes in by value and comes back by value.
+// The record of a run: the setup, the number of completed passes, and the done bands of the next pass. Calls take it
+// by value and return it by value.
 use refusals::ACCEPTED;
 use refusals::BAND_NOT_OPEN;
 use refusals::OUT_OF_RANGE;
@@ -18,7 +19,8 @@ ghost use Rattle.sigma_grids.specs.Table.{someBelow};
 ghost use Rattle.run_setup.specs.Setup.{maxBands, bandCount};
 ghost use Rattle.run_record.specs.Record.{isDone, strayFlag, finished, openBands, runFits, notOpen, openChecks, overChecks, finishedChecks};
 
-// `pass` counts the passes that are over; `done` has a flag for each band of the next one: 1 where it is done.
+// The record of a run. `pass` counts the completed passes. `done` has one flag per band of the next pass: 1 if the
+// band is done.
 #[repr(C)]
 pub struct Run {
     pub setup: Setup,
@@ -33,7 +35,7 @@ fn is_done(r: Run, k: usize) -> bool
     flag_set(r.done[k] as u32)
 }
 
-// Whether no accepted call gives band k this flag where the first `bands` may be done.
+// Whether no accepted calls give band k this flag, if only the first `bands` bands may be done.
 fn stray(bands: usize, k: usize, flag: u8) -> bool
     ensures { λ b. ⌜ b ≡ strayFlag bands k flag ⌝ }
 {
@@ -73,14 +75,14 @@ fn band_missing(r: Run, n: usize) -> bool
     false
 }
 
-// All passes are over.
+// Whether all passes are completed.
 fn finished(r: Run) -> bool
     ensures { λ b. ⌜ b ≡ finished r ⌝ }
 {
     r.pass == pass_count(r.setup.settings)
 }
 
-// How many bands may be done.
+// The number of bands that may be done: 0 in a finished run.
 fn open_bands(r: Run) -> usize
     ensures { λ n. ⌜ n ≡ openBands r ⌝ }
 {
@@ -90,7 +92,7 @@ fn open_bands(r: Run) -> usize
     band_count(r.setup)
 }
 
-// Whether start would refuse none of it, and accepted calls lead to its pass and done bands.
+// Whether a record is valid (Specification 12.8).
 pub fn run_fits(r: Run) -> bool
     ensures { λ b. ⌜ b ≡ runFits r ⌝ }
 {
@@ -103,7 +105,7 @@ pub fn run_fits(r: Run) -> bool
     !stray_done(r, open_bands(r))
 }
 
-// Whether the run is finished, there is no band k, or it is done.
+// Whether band k cannot run: the run is finished, there is no band k, or it is done.
 fn not_open(r: Run, k: usize) -> bool
     requires { ⌜ bandCount (r .setup) ≤ maxBands ⌝ }
     ensures { λ b. ⌜ b ≡ notOpen r k ⌝ }
@@ -117,7 +119,7 @@ fn not_open(r: Run, k: usize) -> bool
     is_done(r, k)
 }
 
-// The number that the record gives a band: 9 or 10.
+// The record's number for a band call: 9, 10 or 0.
 pub fn band_number(r: Run, k: u32) -> u32
     ensures { λ n. ⌜ n ≡ firstOf (openChecks r k) ⌝ }
 {
@@ -130,7 +132,7 @@ pub fn band_number(r: Run, k: u32) -> u32
     ACCEPTED
 }
 
-// The number that the record gives an advance: 9 or 11.
+// The record's number for an advance: 9, 11 or 0.
 pub fn advance_number(r: Run) -> u32
     ensures { λ n. ⌜ n ≡ firstOf (overChecks r) ⌝ }
 {
@@ -146,7 +148,7 @@ pub fn advance_number(r: Run) -> u32
     ACCEPTED
 }
 
-// The number that the record gives the result: 9 or 11.
+// The record's number for a result call: 9, 11 or 0.
 pub fn result_number(r: Run) -> u32
     ensures { λ n. ⌜ n ≡ firstOf (finishedChecks r) ⌝ }
 {

@@ -1,4 +1,4 @@
--- The result's part of a set: what the loops leave of the slice is what `resultOf` says. Assumes nothing.
+-- The slice after the loops is what `resultOf` says. Assumes nothing.
 use mathlib.Core.Path.{_≡_, refl, sym, ap, _∙_}
 use mathlib.Core.Bool.{Bool, true, false, cond}
 use mathlib.Core.List.{List}
@@ -27,7 +27,7 @@ use Rattle.run_setup.proofs.Laws.{placed-accepted, setup-layout}
 use Rattle.run_outcomes.specs.Result.{resultOf}
 use Rattle.run_result.specs.Part.{partOf, rowsOf}
 
--- ---- the part
+-- ---- the layout of the result region
 
 pub part-alone : (l : Layout) → l .full ≡ false → l ≡ partOf l
 unfolding partOf
@@ -50,7 +50,7 @@ part-fits l f = record { wide = f .wide; high = f .high; across = go (l .full); 
     go-down true = omega arith
     go-down false = f .down
 
--- the length of the slice, by the part
+-- the length of the slice, from that layout
 pub part-length : (n : ℕ) (s : Setup) → resultLength n s ≡ n * partOf (layout s) .height * partOf (layout s) .width
 unfolding partOf layoutOf
 part-length n s = go (fullPlanes s)
@@ -60,7 +60,7 @@ part-length n s = go (fullPlanes s)
     go true = refl
     go false = refl
 
--- ---- a turn over rows, and one over planes
+-- ---- an iteration of the loop over rows, and of the loop over planes
 module _ (l : Layout) (src : List Float) where
   pub row-next : (out a b : List Float) (from at y row o : ℕ) → a ≡ rowsFill out at (l .width) (l .width) y (rowsOf l from src)
       → row ≡ from + y * l .image .width → o ≡ at + y * l .width → b ≡ fill a o (l .width) (λ (x : ℕ). getD src (row + l .left + x) nan)
@@ -81,7 +81,7 @@ module _ (l : Layout) (src : List Float) where
       planes-turn (l .width) (l .height) 0 (l .width) 0 (l .height) (inner l src) out a b c p
       (h ∙ rw start (rows-cong a ((c * l .height + 0) * l .width + 0) (l .width) (l .width) (l .height) (rowsOf l from src) (λ i x. inner l src c x i) same))
 
--- ---- all planes written anew
+-- ---- all planes overwritten
 
 pub whole-set : (n w h : ℕ) (v : Picture) (d : List Float) → length d ≡ n * h * w → planesFill w h 0 w 0 h v d n ≡ setOf n w h v
 unfolding inRect
@@ -98,7 +98,7 @@ pub result-copied : (n : ℕ) (l : Layout) (src out b : List Float) → length o
 unfolding resultOf inner partOf
 result-copied n l src out b e h = h ∙ whole-set n (resultWidth l) (resultHeight l) (inner (partOf l) src) out e
 
--- ---- for a setup that fits: a is the answer about its layout, and p the part of that
+-- ---- for a setup in range: a is the answer about its layout, and p the layout of the result region
 module _ (s : Setup) (f : SetupFits s) (full : Bool) (u : full ≡ fullPlanes s) (a : LayoutAnswer) (e : a ≡ layoutOutcome (s .image) (s .filter) full) (p : Layout) (q : p ≡ partOf (a .layout)) where
   part-is : p ≡ partOf (layout s)
   part-is =

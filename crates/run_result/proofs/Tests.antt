@@ -1,4 +1,4 @@
--- What the code's tests say of the result's outcome. Assumes nothing.
+-- The code's tests agree with the outcome of the result call. Assumes nothing.
 use mathlib.Core.Path.{_≡_, refl, sym, _∙_}
 use mathlib.Core.Bool.{Bool, true, false, cond, not, _&&_}
 use mathlib.Core.List.{List}
@@ -22,12 +22,12 @@ use Rattle.run_record.proofs.Laws.{fits-setup-of}
 use Rattle.run_outcomes.specs.Band.{readsFirst, setCheck}
 use Rattle.run_outcomes.specs.Result.{ResultOutcome, sliceCheck, resultChecks, resultNumber, resultOf, resultOutcome}
 
--- a record that gives no number fits
+-- a record whose number is 0 is valid
 fits-of : (a b : Bool) → cond (true && not a) outOfRange (cond (true && not b) passNotDone 0) ≡ 0 → a ≡ true
 fits-of true b e = refl
 fits-of false b e = absurd (omega arith)
 
--- what is given to a result that is accepted
+-- the arguments of an accepted result call
 pub record Lent (n : ℕ) (s : Setup) (first second out : List Float) : Type 0 where
   pub setup : SetupFits s
   pub one : length first ≡ setLength n s

@@ -1,4 +1,5 @@
-// The result of a finished run: its part of the set that a next pass would read, copied plane after plane (Specification 12.11).
+// The result of a finished run: the result region of the set that the next pass would read, copied plane by plane
+// (Specification 12.11).
 use planes::Layout;
 use planes::copy_run;
 use planes_layout::layout_of;
@@ -23,7 +24,8 @@ ghost use Rattle.run_result.specs.Part.{partOf, rowsOf};
 
 const PLANES: usize = 3;
 
-// The filter region's rows of one plane, from the image's row that starts at index `from` on, to index `at` on.
+// Copies the filter region's rows of one plane. In `src` the image row of the first one starts at index `from`; in
+// `out` they start at index `at`.
 fn copy_rows(src: &[f32], from: usize, out: &mut [f32], at: usize, l: Layout)
     requires { ⌜ LayoutFits l × (from + l .height * l .image .width ≤ length (now src)) × (at + l .height * l .width ≤ length (now out)) ⌝ }
     ensures { λ _. ⌜ now (out .exit) ≡ rowsFill (now (out .entry)) at (l .width) (l .width) (l .height) (rowsOf l from (now (src .entry))) ⌝ }
@@ -39,7 +41,7 @@ fn copy_rows(src: &[f32], from: usize, out: &mut [f32], at: usize, l: Layout)
     }
 }
 
-// The filter region of n planes.
+// Copies the filter region of n planes.
 fn copy_planes(src: &[f32], out: &mut [f32], l: Layout, n: usize)
     requires { ⌜ LayoutFits l ⌝ }
     requires { ⌜ (n ≤ 3) × (length (now src) ≡ n * l .image .height * l .image .width) × (length (now out) ≡ n * l .height * l .width) ⌝ }
@@ -54,7 +56,7 @@ fn copy_planes(src: &[f32], out: &mut [f32], l: Layout, n: usize)
     }
 }
 
-// The result as the filter region of a layout: the full planes, or the filter region itself.
+// The layout with the result region in place of the filter region.
 fn part_of(l: Layout) -> Layout
     ensures { λ p. ⌜ p ≡ partOf l ⌝ }
 {
@@ -82,7 +84,8 @@ fn copy_result(s: Setup, src: &[f32], out: &mut [f32])
     copy_planes(src, out, part, PLANES)
 }
 
-// Copies the result of a finished run into `out`, from the set that a next pass would read; 7, 9 or 11, and nothing written.
+// Copies the result of a finished run to `out`, from the set that the next pass would read. A refused call (7, 9 or
+// 11) writes nothing.
 pub fn result(run: Run, first: &[f32], second: &[f32], out: &mut [f32]) -> u32
     ensures { λ r. ⌜ _≡_ {A = ResultOutcome} (record { number = r; out = now (out .exit) }) (resultOutcome 3 run (now (first .entry)) (now (second .entry)) (now (out .entry))) ⌝ }
 {

@@ -1,4 +1,4 @@
--- What a setup in range has: its regions, and the band of each row. Assumes nothing.
+-- What a setup in range has: its regions, and a band for each row. Assumes nothing.
 use mathlib.Core.Path.{_≡_}
 use mathlib.Core.Bool.{Bool, true, false, cond, _&&_}
 use Prim.Native.Nat.{ℕ, _+_, _-_, _*_, _/_, _%_, _<_, _≤_}
@@ -97,17 +97,17 @@ module _ (s : Setup) (f : SetupFits s) where
       go true = image-sized
       go false = filter-sized
 
-  -- neither 4 nor 5
+  -- neither 4 nor 5 applies
   pub placed-accepted : firstOf (placedChecks (s .image) (s .filter)) ≡ 0
   placed-accepted = placed-inside (s .image) (s .filter) (is-true (pictured (s .image)) (f .image)) (is-true (pictured (s .filter)) (f .filter)) (is-true (inside (s .image) (s .filter)) (f .contained))
 
-  -- its layout has the filter region inside the image region
+  -- in its layout the filter region lies inside the image region
   pub setup-layout : Accepted (layout s)
   setup-layout = layout-accepted (s .image) (s .filter) (fullPlanes s) placed-accepted
 
 -- ---- bands
 
--- each row of the result lies in a band
+-- each row of the result region lies in a band
 pub record InBand (s : Setup) (k y : ℕ) : Type 0 where
   pub from : bandFrom s k ≤ y
   pub to : y < bandTo s k

@@ -1,4 +1,4 @@
--- What the code's tests say of the definitions. Assumes nothing.
+-- The code's tests agree with the definitions. Assumes nothing.
 use mathlib.Core.Path.{_≡_, refl, sym, ap, _∙_}
 use mathlib.Core.Bool.{Bool, true, false, cond, not, _&&_, and-false}
 use Prim.Native.Nat.{_-_, _*_, _<_, _≤_}

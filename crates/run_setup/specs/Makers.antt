@@ -1,4 +1,5 @@
--- Setups (Specification 12.1, 12.7) are made here alone: zeros, and the same with some of it changed. A field that is added gets its value here. Definitions only.
+-- The only place where setups (Specification 12.1, 12.7) are made: zeros, and functions that change some fields. A new field gets its value
+-- here. Definitions only.
 use Prim.Native.Nat.{ℕ}
 use Rattle.region.specs.declared.Region.{Region}
 use Rattle.region.specs.Regions.{zeroRegion}
@@ -13,7 +14,7 @@ noSetup = record { image = zeroRegion; filter = zeroRegion; «preserve_outside»
 abbrev pub withRegions : Region → Region → Setup → Setup
 withRegions image filter s = record { image = image; filter = filter; «preserve_outside» = s .«preserve_outside»; settings = s .settings; «band_height» = s .«band_height» }
 
--- whether the result is the full planes, a flag
+-- the flag `preserve_outside`
 abbrev pub withFull : ℕ → Setup → Setup
 withFull full s = record { image = s .image; filter = s .filter; «preserve_outside» = full; settings = s .settings; «band_height» = s .«band_height» }
 
@@ -23,6 +24,6 @@ withSettings settings s = record { image = s .image; filter = s .filter; «prese
 abbrev pub withBandHeight : ℕ → Setup → Setup
 withBandHeight height s = record { image = s .image; filter = s .filter; «preserve_outside» = s .«preserve_outside»; settings = s .settings; «band_height» = height }
 
--- with all that these change
+-- all fields at once
 abbrev pub setupWith : Region → Region → ℕ → Settings → ℕ → Setup
 setupWith image filter full settings height = withBandHeight height (withSettings settings (withFull full (withRegions image filter noSetup)))

@@ -8,7 +8,7 @@ use Rattle.run_passes.specs.Plan.{gaborFits}
 use Rattle.run_setup.specs.declared.Setup.{Setup}
 use Rattle.run_setup.specs.Setup.{maxBands, fullFits, epfOn, bandCount}
 
--- what start would not refuse under 4, 5, 6 and 9
+-- a setup that start would not refuse under 4, 5, 6 and 9
 pub record SetupFits (s : Setup) : Type 0 where
   pub image : T (pictured (s .image))
   pub filter : T (pictured (s .filter))

@@ -1,4 +1,4 @@
-// What start is told and no call of a run changes: which of it is in range, and the rows and bands of the result.
+// The setup of a run: which values are in range, and the rows and bands of the result region.
 use refusals::ACCEPTED;
 use refusals::flag_fits;
 use refusals::flag_set;
@@ -18,7 +18,9 @@ const MAX_AREA: u32 = 16777216;
 
 pub const MAX_BANDS: usize = 256;
 
-// What start is told and no call changes. `preserve_outside` is a flag: the result is the full planes. `band_height` is in rows of the result.
+// The setup of a run; no call changes it. `preserve_outside` is a flag: the result region is the image region if it
+// is 1, the filter region if it is 0. `band_height` is the number of rows of the result region in a band; the last
+// band may have fewer.
 #[repr(C)]
 pub struct Setup {
     pub image: Region,
@@ -28,7 +30,7 @@ pub struct Setup {
     pub band_height: u32,
 }
 
-// Sides of 1 to 16,384 and an area of at most 16,777,216.
+// Whether a region's sides are 1 to 16,384 and its area at most 16,777,216 (Specification 4.3).
 pub fn sized(r: Region) -> bool
     ensures { λ b. ⌜ b ≡ sized r ⌝ }
 {
@@ -47,7 +49,7 @@ pub fn sized(r: Region) -> bool
     r.width * r.height <= MAX_AREA
 }
 
-// The rows of the result.
+// The number of rows of the result region.
 pub fn row_count(s: Setup) -> usize
     ensures { λ r. ⌜ (r ≡ rowCount s) × (r < 4294967296) ⌝ }
 {
@@ -57,7 +59,7 @@ pub fn row_count(s: Setup) -> usize
     s.filter.height as usize
 }
 
-// Bands of a pass.
+// The number of bands of a pass.
 pub fn band_count(s: Setup) -> usize
     ensures { λ r. ⌜ r ≡ bandCount s ⌝ }
 {
@@ -86,7 +88,7 @@ fn height_fits(s: Setup) -> bool
     s.band_height <= MAX_SIDE
 }
 
-// Whether the iterations, both flags, the band height and the count of bands are in range.
+// Whether the iterations, both flags, the band height and the number of bands are in range.
 pub fn numbers_fit(s: Setup) -> bool
     ensures { λ r. ⌜ r ≡ numbersFit s ⌝ }
 {
@@ -105,7 +107,7 @@ pub fn numbers_fit(s: Setup) -> bool
     band_count(s) <= MAX_BANDS
 }
 
-// Whether start would refuse none of it under 4, 5, 6 and 9.
+// Whether start would not refuse the setup under 4, 5, 6 or 9.
 pub fn setup_fits(s: Setup) -> bool
     ensures { λ r. ⌜ r ≡ setupFits s ⌝ }
 {

@@ -1,4 +1,4 @@
--- A table of checks whose numbers ascend, taken apart: its number is the lower of its parts'. Assumes nothing.
+-- A table of checks with ascending numbers, split into two: its number is the lower of theirs. Assumes nothing.
 use mathlib.Core.Path.{_≡_, refl, sym}
 use mathlib.Core.Bool.{Bool, true, false, cond, _&&_}
 use mathlib.Core.List.{List, [], _∷_}
@@ -11,7 +11,7 @@ use Rattle.refusals.specs.Checks.{Check, applies, firstOf}
 use Rattle.planes.proofs.Stored.{and-first, and-second}
 use Rattle.run_start.specs.Lowest.{lowest}
 
--- from k on, no row's number is lower than the one before
+-- numbers ascend from k on
 abbrev pub ascending : ℕ → List Check → Bool
 ascending k [] = true
 ascending k (c ∷ cs) = leb k (c .number) && ascending (c .number) cs
@@ -22,11 +22,11 @@ pub data Parted : List Check → List Check → List Check → Type 0 where
   left : {c : Check} {cs ls rs : List Check} → Parted cs ls rs → Parted (c ∷ cs) (c ∷ ls) rs
   right : {c : Check} {cs ls rs : List Check} → Parted cs ls rs → Parted (c ∷ cs) ls (c ∷ rs)
 
--- no number, or one that is at least k
+-- 0, or at least k
 abbrev pub From : ℕ → ℕ → Type 0
 From k n = (n ≡ 0 → ⊥) → k ≤ n
 
--- ---- laws of the lower number
+-- ---- laws of the lower of two numbers
 
 pub lowest-none : (a b : ℕ) → lowest a b ≡ 0 → (a ≡ 0) × (b ≡ 0)
 unfolding lowest
@@ -70,7 +70,7 @@ lowest-right a b p f = go (ℕ-discrete a 0)
 
 -- ---- laws of tables
 
--- a table whose numbers ascend from k on gives no lower one
+-- a table whose numbers ascend from k on has no lower number
 pub ascending-from : (k : ℕ) (cs : List Check) → ascending k cs ≡ true → From k (firstOf cs)
 ascending-from k [] e z = absurd (z refl)
 ascending-from k (c ∷ cs) e z =
@@ -80,7 +80,7 @@ ascending-from k (c ∷ cs) e z =
     row true l f z = l
     row false l f z = omega (arith, l, f z)
 
--- the number of the whole is the lower of the parts', and neither is lower than k
+-- the number of the whole table is the lower of the parts', and neither is below k
 pub record Taken (k whole ls rs : ℕ) : Type 0 where
   pub lower : whole ≡ lowest ls rs
   pub left-from : From k ls
@@ -97,7 +97,7 @@ on-right : (t : Bool) (k n whole ls rs : ℕ) → 0 < k → k ≤ n → Taken n 
 on-right true k n whole ls rs p l h = record { lower = sym (lowest-right ls n (omega arith) (h .left-from)); left-from = later k n ls l (h .left-from); right-from = λ z. l }
 on-right false k n whole ls rs p l h = record { lower = h .lower; left-from = later k n ls l (h .left-from); right-from = later k n rs l (h .right-from) }
 
--- A table whose numbers ascend, taken apart.
+-- A table with ascending numbers, split into two.
 taken : (k : ℕ) {cs ls rs : List Check} → Parted cs ls rs → 0 < k → ascending k cs ≡ true → Taken k (firstOf cs) (firstOf ls) (firstOf rs)
 unfolding lowest
 taken k none p e = record { lower = refl; left-from = λ z. absurd (z refl); right-from = λ z. absurd (z refl) }

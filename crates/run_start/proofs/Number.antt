@@ -1,4 +1,4 @@
--- The picture's number is the lowest of its pieces', start's number is that or else the tail's, and so what the pieces answer is start's outcome. Assumes nothing.
+-- The lowest number of the parts is the number of start's checks, so the code's answer is start's outcome. Assumes nothing.
 use mathlib.Core.Path.{_≡_, refl, sym, ap, subst, _∙_}
 use mathlib.Core.Bool.{Bool, true, false, cond, not, _&&_}
 use mathlib.Core.List.{List, [], _∷_}
@@ -41,7 +41,7 @@ use Rattle.run_start.specs.Lowest.{lowest}
 use Rattle.run_start.proofs.LowestLaws.{Parted, none, left, right, first-lowest, lowest-left, lowest-none, ascending-from}
 use Rattle.run_start.specs.Pieces.{epfFlag, sigmasAsked, ownChecks, numberOf, toldChecks}
 
--- ---- a region of a picture, as the pieces judge it
+-- ---- a region, as the parts check it
 
 module _ (r : Region) (e : pictured r ≡ true) where
   fits : T (pictured r)
@@ -70,13 +70,13 @@ blocks-good s e =
       le-ltb 131072 (ahead (r .top) / 8) u,
     )
 
--- ---- rows, by their tests
+-- ---- rows of the table, by the code's tests
 
 count-same : (s : Setup) → blocksDown (blocksOf s) * blocksAcross (blocksOf s) ≡ blockRows (layout s) * blockColumns (layout s)
 unfolding layoutOf
 count-same s = rw (blocks-same (s .filter .height), blocks-same (s .filter .width))
 
--- whether the edge filter runs, as a flag
+-- whether the EPF runs, as a flag
 flag-fits : (b : Bool) → flagFits (cond b 1 0) ≡ true
 flag-fits true = refl
 flag-fits false = refl
@@ -85,7 +85,7 @@ flag-set : (b : Bool) → flagSet (cond b 1 0) ≡ b
 flag-set true = refl
 flag-set false = refl
 
--- the row of the block sigmas' length, and that of 8
+-- the row of the block sigmas' length, and the row of number 8
 sigmas-row : (iters on : Bool) (k c d : ℕ) → c ≡ d → not (eqb (cond iters k 0) (cond (iters && on) c 0)) ≡ (iters && not (eqb k (cond on d 0)))
 sigmas-row true on k c d e = rw e
 sigmas-row false on k c d e = refl
@@ -96,11 +96,11 @@ held-row true false some = refl
 held-row false true some = refl
 held-row false false some = refl
 
--- what accepted block sigmas are, iterations being in range
+-- the block sigmas of an accepted start, if the iterations are in range
 left-is : (number : ℕ) (set iters on : Bool) (defined lent : List Float) → number ≡ 0 → set ≡ (iters && on) → iters ≡ true → leftIn number set defined lent ≡ cond on defined lent
 left-is number set iters on defined lent p y q = rw (p, y, q)
 
--- ---- the rows of start's table that each piece judges
+-- ---- the rows of start's table that each part checks
 
 module _ (n : ℕ) (h : Handed) where
   abbrev s : Setup
@@ -130,7 +130,7 @@ module _ (n : ℕ) (h : Handed) where
       ∷ presences f t
       ∷ []
 
-  -- all but these: where the regions lie, then `ownRows`
+  -- all other rows: the regions, then `ownRows`
   abbrev placedRows : List Check
   placedRows =
       regionSides s
@@ -148,7 +148,7 @@ module _ (n : ℕ) (h : Handed) where
   unfolding pictureChecks
   rows-lowest = first-lowest whole refl ∙ ap (λ (k : ℕ). lowest k (firstOf groupRows)) (first-lowest placed-own refl)
 
-  -- with regions of pictures the pieces judge these rows
+  -- if the regions are within the limits, the parts check these rows
   own-number : pictured (s .image) ≡ true → firstOf ownRows ≡ firstOf (ownChecks n s (length (h .first)) (length (h .second)))
   own-number e = rw (is-sized (s .image) e)
 
@@ -159,7 +159,7 @@ module _ (n : ℕ) (h : Handed) where
   groups-number e =
       rw (blocks-good s e, flag-fits (runsEpf s), flag-set (runsEpf s), sigmas-row (itersFit s) (epfOn s) (length (h .sigmas)) _ _ (count-same s), held-row (tableRead f t) (runsEpf s) (someNotHeld f (blocksOf s) t))
 
-  -- ---- the picture's number is the lowest of the pieces'
+  -- ---- the number of the table is the lowest of the parts'
 
   abbrev number : ℕ
   number = numberOf n s f t (h .grids) (length (h .first)) (length (h .second)) (length (h .sigmas))
@@ -181,7 +181,7 @@ module _ (n : ℕ) (h : Handed) where
 
   -- ---- start's number, and its outcome
 
-  -- the tail has no row
+  -- there are no further checks
   number-same : startNumber n h ≡ number
   number-same = start-parts n h ∙ or-zero (firstOf (pictureChecks n h)) ∙ picture-same
 
@@ -195,7 +195,7 @@ module _ (n : ℕ) (h : Handed) where
     refused z r q = rw (number-is, ne-eqb k 0 z, q)
 
     module _ (z : k ≡ 0) where
-      -- no piece gives a number
+      -- every part's number is 0
       pieces : (firstOf (ownChecks n s (length (h .first)) (length (h .second))) ≡ 0) × (groupsNumber (sigmasAsked s (length (h .sigmas))) ≡ 0)
       unfolding numberOf
       pieces = let b = lowest-none _ _ (sym e ∙ z) in (lowest-none _ _ (b .0) .1, b .1)

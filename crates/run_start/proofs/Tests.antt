@@ -1,4 +1,4 @@
--- What the code's tests and calls say of the pieces. Assumes nothing.
+-- The code's tests and calls agree with the parts. Assumes nothing.
 use mathlib.Core.Path.{_≡_, refl, _∙_}
 use mathlib.Core.Bool.{Bool, true, false, cond, not, _&&_}
 use mathlib.Core.List.{List}
@@ -14,7 +14,7 @@ use Rattle.run_setup.specs.declared.Setup.{Setup}
 use Rattle.run_outcomes.specs.Start.{Handed, blocksOf}
 use Rattle.run_start.specs.Pieces.{epfFlag, sigmasAsked}
 
--- the last five rows of what is told, by one test
+-- the last five rows, of the setup's settings, as one test
 pub told-row : (iters full gabor height count : Bool)
     → cond (not (iters && (full && (gabor && (height && count))))) outOfRange 0
     ≡ cond (not iters) outOfRange (cond (not full) outOfRange (cond (not gabor) outOfRange (cond (not height) outOfRange (cond ((full && height) && not count) outOfRange 0))))
@@ -25,12 +25,12 @@ told-row true true false height count = refl
 told-row true false gabor height count = refl
 told-row false full gabor height count = refl
 
--- left and top over 8
+-- left and top divided by 8
 pub same-blocks : (s : Setup) (x y : ℕ) → x ≡ ahead (s .filter .left) → y ≡ ahead (s .filter .top)
     → _≡_ {A = Blocks} (record { left = x / 8; top = y / 8; width = s .filter .width; height = s .filter .height }) (blocksOf s)
 same-blocks s x y p q = rw (p, q)
 
--- equal inputs get equal numbers, and leave equal block sigmas
+-- equal inputs give equal numbers and equal block sigmas
 pub same-groups : (s : Setup) (f : Frame) (t : List ℕ) (grids : List Float) (sigmas : ℕ) (n on : ℕ) (b : Blocks) (asked : ℕ)
     → n ≡ sigmaNumber on f b t grids asked → on ≡ epfFlag s → b ≡ blocksOf s → asked ≡ sigmasAsked s sigmas
     → n ≡ sigmaNumber (epfFlag s) f (blocksOf s) t grids (sigmasAsked s sigmas)

@@ -1,4 +1,4 @@
--- The number that some starts get, computed from the table. Assumes nothing.
+-- The numbers of some starts, computed from the table of checks. Assumes nothing.
 use mathlib.Core.Path.{_≡_, refl}
 use mathlib.Core.List.{[], _∷_}
 use Prim.Native.Nat.{ℕ}
@@ -21,7 +21,7 @@ use Rattle.run_setup.specs.Makers.{setupWith}
 use Rattle.run_setup.specs.Setup.{bandCount}
 use Rattle.run_outcomes.specs.Start.{Handed, pictureChecks, startChecks, startNumber}
 
--- an image of 8 by 8 samples whose filter region has the given left and width, with the result's flag and Gabor's
+-- an image of 8 × 8 samples whose filter region has the given left and width, with `preserve_outside` and Gabor's flag
 abbrev flagged : ℕ → ℕ → ℤ → ℕ → ℕ → ℕ → Setup
 flagged full enabled left width iters height =
     setupWith
@@ -31,11 +31,11 @@ flagged full enabled left width iters height =
     (withIters iters (withGabor (gaborOf enabled (evenWeights b0 b0)) noSettings))
     height
 
--- full planes, Gabor off
+-- `preserve_outside` is 1, Gabor is off
 abbrev setup : ℤ → ℕ → ℕ → ℕ → Setup
 setup = flagged 1 0
 
--- in a frame of one group whose grid is missing, with sets of a length and so many block sigmas
+-- in a frame of one group whose grid is missing, with the given lengths of the sets and of the block sigmas
 abbrev handed : Setup → ℕ → ℕ → Handed
 handed s set sigmas = record {
   setup = s;
@@ -47,27 +47,28 @@ handed s set sigmas = record {
   sigmas = replicate sigmas nan;
 }
 
--- one block and one band, or eight; and any corner with the edge filter off
+-- accepted: one block and one band, or eight bands; any corner if the EPF is off
 accepted : (startNumber 3 (handed (setup (pos 0) 8 3 8) 192 1) ≡ 0) × (startNumber 3 (handed (setup (pos 0) 8 1 1) 192 1) ≡ 0) × (startNumber 3 (handed (setup (pos 4) 4 0 8) 192 0) ≡ 0)
 unfolding startChecks pictureChecks inside pictured measured place side badSides badSettings tableFits sizesOf someBelow badGrid gridsFit gridStart cells someNotHeld notHeld lacks layoutOf bandCount
 accepted = (refl, refl, refl)
 
--- outside the image; and also too wide, or empty
+-- 5: outside the image; and also too wide, or empty
 placed : (startNumber 3 (handed (setup (pos 0) 9 3 8) 192 2) ≡ 5) × (startNumber 3 (handed (setup (pos 0) 16385 3 8) 192 2) ≡ 4) × (startNumber 3 (handed (setup (pos 0) 0 3 8) 192 0) ≡ 4)
 unfolding startChecks pictureChecks inside pictured measured place side badSides badSettings tableFits sizesOf someBelow badGrid gridsFit gridStart cells someNotHeld notHeld lacks layoutOf bandCount
 placed = (refl, refl, refl)
 
--- a corner that is no multiple of 8, though the sets are short; with faulty iterations this and the block sigmas' length are passed over
+-- 6: a corner that is not a multiple of 8, though the sets are too short; if the iterations are out of range, it and the length of the
+-- block sigmas are passed over
 corner : (startNumber 3 (handed (setup (pos 4) 4 1 8) 191 1) ≡ 6) × (startNumber 3 (handed (setup (pos 4) 4 4 8) 191 7) ≡ 7) × (startNumber 3 (handed (setup (pos 4) 4 4 8) 192 7) ≡ 9)
 unfolding startChecks pictureChecks inside pictured measured place side badSides badSettings tableFits sizesOf someBelow badGrid gridsFit gridStart cells someNotHeld notHeld lacks layoutOf bandCount
 corner = (refl, refl, refl)
 
--- block sigmas passed with the edge filter off, though the band height is 0
+-- 7: block sigmas given though the EPF is off, and the band height is 0
 lengths : (startNumber 3 (handed (setup (pos 0) 8 0 0) 192 1) ≡ 7) × (startNumber 3 (handed (setup (pos 0) 8 0 0) 192 0) ≡ 9)
 unfolding startChecks pictureChecks inside pictured measured place side badSides badSettings tableFits sizesOf someBelow badGrid gridsFit gridStart cells someNotHeld notHeld lacks layoutOf bandCount
 lengths = (refl, refl)
 
--- a flag of 2: the result's, or Gabor's; 0 and 1 are both in range, and a wrong length comes before
+-- 9: a flag of 2, `preserve_outside` or Gabor's; 0 and 1 are in range, and a wrong length comes first
 flags : (startNumber 3 (handed (flagged 2 0 (pos 0) 8 0 8) 192 0) ≡ 9) × (startNumber 3 (handed (flagged 0 2 (pos 0) 8 0 8) 192 0) ≡ 9) × (startNumber 3 (handed (flagged 0 1 (pos 0) 8 0 8) 192 0) ≡ 0) × (startNumber 3 (handed (flagged 2 2 (pos 0) 8 0 8) 191 0) ≡ 7)
 unfolding startChecks pictureChecks inside pictured measured place side badSides badSettings tableFits sizesOf someBelow badGrid gridsFit gridStart cells someNotHeld notHeld lacks layoutOf bandCount
 flags = (refl, refl, refl, refl)

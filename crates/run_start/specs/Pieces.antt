@@ -1,4 +1,5 @@
--- The pieces that the picture's number is computed from. Definitions only; Number.antt shows that their lowest number is that of start's checks but for the tail's.
+-- The parts from which the code computes start's number. Definitions only; proofs/Number.antt shows that the lowest of them is the number
+-- of the checks of Specification 12.6.
 use mathlib.Core.Bool.{cond}
 use mathlib.Core.List.{List, [], _∷_}
 use Prim.Native.Nat.{ℕ}
@@ -13,15 +14,15 @@ use Rattle.run_outcomes.specs.Band.{setCheck}
 use Rattle.run_outcomes.specs.Start.{blocksOf, runsEpf, filterOnBlocks, itersInRange, fullInRange, gaborInRange, heightInRange, countInRange}
 use Rattle.run_start.specs.Lowest.{lowest}
 
--- whether the edge filter runs, as a flag
+-- whether the iterations are in range and the EPF is on, as a flag
 abbrev pub epfFlag : Setup → ℕ
 epfFlag s = cond (runsEpf s) 1 0
 
--- the block sigmas' length; with faulty iterations none, which is what is asked with the edge filter off
+-- the length of the block sigmas; 0, as required with the EPF off, if the iterations are out of range
 abbrev pub sigmasAsked : Setup → ℕ → ℕ
 sigmasAsked s sigmas = cond (itersFit s) sigmas 0
 
--- what is told: iterations, both flags, band height and number of bands
+-- the settings of the setup: iterations, both flags, band height and number of bands
 abbrev pub toldChecks : Setup → List Check
 toldChecks s =
     itersInRange s
@@ -31,14 +32,14 @@ toldChecks s =
     ∷ countInRange s
     ∷ []
 
--- the corner, both sets' lengths, and the settings that the record holds
+-- the corner, the lengths of both sets, and the settings of the setup
 abbrev pub ownChecks : ℕ → Setup → ℕ → ℕ → List Check
 ownChecks n s first second =
     filterOnBlocks s
     ∷ setCheck n s first second
     ∷ toldChecks s
 
--- the lowest of where the regions lie, of those, and of frame, table, grids and block sigmas
+-- the lowest number of the regions, of those, and of frame, table, grids and block sigmas
 unfoldable pub numberOf : ℕ → Setup → Frame → List ℕ → List Float → ℕ → ℕ → ℕ → ℕ
 numberOf n s f t grids first second sigmas =
     lowest (lowest (firstOf (placedChecks (s .image) (s .filter))) (firstOf (ownChecks n s first second)))

@@ -1,4 +1,4 @@
-// Start: everything is checked before anything is written, and the record of the run is made.
+// Start: checks all arguments before anything is written, and makes the record of the run.
 use frame::Frame;
 use header_epf_sigma::EpfSigma;
 use refusals::ACCEPTED;
@@ -36,7 +36,7 @@ ghost use Rattle.run_start.specs.Pieces.{epfFlag, sigmasAsked, ownChecks
 
 const BLOCK_DIM: usize = 8;
 
-// The lower of two numbers; 0 is none.
+// The lower of two numbers, where 0 means that no check applies.
 fn lowest(a: u32, b: u32) -> u32
     ensures { λ r. ⌜ r ≡ lowest a b ⌝ }
 {
@@ -52,7 +52,7 @@ fn lowest(a: u32, b: u32) -> u32
     a
 }
 
-// Whether the edge filter runs: iterations in range, and some.
+// Whether the iterations are in range and the EPF is on.
 fn runs_epf(s: Setup) -> bool
     ensures { λ r. ⌜ r ≡ runsEpf s ⌝ }
 {
@@ -66,7 +66,7 @@ const YES: u32 = 1;
 
 const NO: u32 = 0;
 
-// The same, as `block_sigmas` is told it.
+// The same as a flag, for `block_sigmas`.
 fn epf_flag(s: Setup) -> u32
     ensures { λ r. ⌜ r ≡ epfFlag s ⌝ }
 {
@@ -76,7 +76,7 @@ fn epf_flag(s: Setup) -> u32
     NO
 }
 
-// The filter region on blocks.
+// The filter region in blocks.
 fn blocks_of(s: Setup) -> Blocks
     ensures { λ r. ⌜ r ≡ blocksOf s ⌝ }
 {
@@ -88,7 +88,7 @@ fn blocks_of(s: Setup) -> Blocks
     }
 }
 
-// The block sigmas' length, where iterations in range ask for one.
+// The length of the block sigmas, or 0 if the iterations are out of range: then it is not checked.
 fn sigmas_asked(s: Setup, sigmas: usize) -> usize
     ensures { λ r. ⌜ r ≡ sigmasAsked s sigmas ⌝ }
 {
@@ -107,7 +107,7 @@ fn off_blocks(s: Setup) -> bool
     false
 }
 
-// What is told by itself, and both sets: 6, 7 or 9.
+// The number of the setup alone and of both sets: 6, 7, 9 or 0.
 fn own_number(s: Setup, first: usize, second: usize) -> u32
     ensures { λ r. ⌜ r ≡ firstOf (ownChecks 3 s first second) ⌝ }
 {
@@ -123,7 +123,7 @@ fn own_number(s: Setup, first: usize, second: usize) -> u32
     ACCEPTED
 }
 
-// The frame, its group table and grids, and the block sigmas: 4, 7, 8 or 9.
+// The number of the frame, its group table and grids, and the block sigmas: 4, 7, 8, 9 or 0.
 fn groups_number(s: Setup, frame: Frame, table: &[u32], grids: &[f32], sigmas: usize) -> u32
     ensures { λ r. ⌜ r ≡ sigmaNumber (epfFlag s) frame (blocksOf s) (now (table .entry)) (now (grids .entry)) (sigmasAsked s sigmas) ⌝ }
 {
@@ -131,7 +131,7 @@ fn groups_number(s: Setup, frame: Frame, table: &[u32], grids: &[f32], sigmas: u
     check(epf_flag(s), frame, blocks_of(s), table, grids, asked)
 }
 
-// The lowest of the picture's numbers. A check that is not among them comes after: start has none yet.
+// The lowest number of the checks of Specification 12.6.
 fn picture_number(
     s: Setup,
     frame: Frame,
@@ -198,7 +198,7 @@ fn no_settings() -> Settings
     }
 }
 
-// The record of a refusal: zeros.
+// The record that a refused call returns: zeros.
 fn no_run() -> Run
     ensures { λ r. ⌜ r ≡ noRun ⌝ }
 {
@@ -212,7 +212,7 @@ fn no_run() -> Run
     started(setup)
 }
 
-// The record of a run, its block sigmas filled; or a number, and nothing written.
+// Starts a run: fills the block sigmas and returns the record. A refused call writes nothing.
 pub fn start(
     setup: Setup,
     frame: Frame,

@@ -1,4 +1,4 @@
--- `epf::epf_band` meets its contract. What lies outside the filter region is copied, then its rows are filtered. Assumes nothing.
+-- `epf::epf_band` meets its contract. Samples outside the filter region are copied, then its rows are filtered. Assumes nothing.
 use mathlib.Core.Path.{_∙_}
 use native.Mathlib.Omega.{arith}
 use borrow.Author.Needs.{needs}

@@ -1,4 +1,5 @@
--- `epf::epf_pass` meets its contract. Each test gives its number and leaves `dst`, and else the band is what the definition says. Assumes nothing.
+-- `epf::epf_pass` meets its contract. If a test fails, its number is returned and `dst` is unchanged; otherwise the band is that of the
+-- definition. Assumes nothing.
 use mathlib.Core.Path.{_≡_, sym, ap, _∙_}
 use native.Mathlib.Omega.{arith}
 use borrow.Author.Needs.{needs}
@@ -22,12 +23,12 @@ module _ (c : tie.After-layout-of) where
   laid : c .layout-of .result ≡ layoutOutcome (start .args .image) (start .args .filter) (flagSet (start .args .preserve-outside))
   laid = rw (c .before .flag-set .ensures) at (c .layout-of .ensures)
 
--- the regions are placed
+-- the filter region lies inside the image region
 module _ (c : tie.Else1) where
   held : Accepted (c .before .layout-of .result .layout)
   held = let s = start (c .before) .args in layout-held (s .image) (s .filter) (s .preserve-outside) (s .s) (now (s .sigmas)) (s .from) (s .to) (now (s .src)) (now (s .dst)) (c .before .layout-of .result) (laid (c .before)) (c .if1 .left)
 
--- and every other test held
+-- and every other test passes
 module _ (c : tie.Else2) where
   abbrev placed : tie.After-layout-of
   placed = c .before .before .before .before .before

@@ -1,4 +1,4 @@
--- `epf::judged` meets its contract. Each test gives its number. Assumes nothing.
+-- `epf::judged` meets its contract. Each failed test returns its number. Assumes nothing.
 use mathlib.Core.Path.{_≡_, sym, _∙_}
 use mathlib.Core.Bool.{true}
 use Prim.Native.Nat.{_*_}

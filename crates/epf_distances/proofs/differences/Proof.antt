@@ -1,4 +1,4 @@
--- `epf_distances::differences` meets its contract. The invariant: i of n are there. Assumes nothing.
+-- `epf_distances::differences` meets its contract. The invariant: i of n are written. Assumes nothing.
 use Prim.Native.Nat.{ℕ, _+_, _-_}
 use native.Mathlib.Omega.{arith}
 use borrow.Author.Needs.{needs}

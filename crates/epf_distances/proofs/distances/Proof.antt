@@ -1,4 +1,4 @@
--- `epf_distances::distances` meets its contract. Where there are too many planes or rows the fields are as they were. Assumes nothing.
+-- `epf_distances::distances` meets its contract. If there are too many planes or rows, the fields are unchanged. Assumes nothing.
 use mathlib.Core.Path.{sym, _∙_}
 use native.Mathlib.Omega.{arith}
 use Rattle.epf_distances.proofs.Fields.{many-planes, no-rows, many-rows, distances-done}

@@ -1,4 +1,4 @@
--- `epf_distances::fill_fields` meets its contract. The invariant: h fields are there. Assumes nothing.
+-- `epf_distances::fill_fields` meets its contract. The invariant: h fields are written. Assumes nothing.
 use mathlib.Core.Path.{_≡_, refl}
 use Prim.Native.Nat.{ℕ, _-_, _≤_, _<_}
 use native.Mathlib.Omega.{arith}
@@ -23,7 +23,7 @@ loop-holds : tie.Need-loop-holds Inv-loop μ-loop
 unfolding fieldsFill
 loop-holds c = (omega arith, refl, refl)
 
--- in a turn: the field is one of six, and its places lie at most 128 apart
+-- in an iteration: the field is one of six, and the indices that it compares lie at most 128 apart
 record Among (h k : ℕ) : Type 0 where
   pub few : h < 6
   pub least : 1 ≤ k

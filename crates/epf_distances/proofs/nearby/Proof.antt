@@ -1,4 +1,4 @@
--- `epf_distances::nearby` meets its contract. The five differences stand in the step's order. Assumes nothing.
+-- `epf_distances::nearby` meets its contract. The five differences are in the step's order. Assumes nothing.
 use mathlib.Core.Path.{_≡_, refl}
 use Prim.Native.Nat.{ℕ, zero, suc, _+_, _-_, _<_}
 use native.Mathlib.Omega.{arith}

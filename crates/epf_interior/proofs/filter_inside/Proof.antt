@@ -1,4 +1,4 @@
--- `epf_interior::filter_inside` meets its contract. Where a test fails `dst` is as it was. Assumes nothing.
+-- `epf_interior::filter_inside` meets its contract. If a test fails, `dst` is unchanged. Assumes nothing.
 use mathlib.Core.Path.{_≡_, sym, _∙_}
 use mathlib.Core.Bool.{true}
 use native.Mathlib.Omega.{arith}
@@ -13,7 +13,7 @@ use Rattle.epf_interior.proofs.Inside.{no-rect, no-source, many-columns
 use Rattle.epf_interior.proofs.filter_inside.Statement.{statement}
 use Rattle.epf_interior.proofs.filter_inside.Tie as tie
 
--- every test held
+-- every test passes
 module _ (c : tie.Else4) where
   abbrev start : tie.Start
   start = c .before .before .before .before .before .before .before .before .before

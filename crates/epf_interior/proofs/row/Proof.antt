@@ -1,4 +1,4 @@
--- `epf_interior::row` meets its contract. The invariant: i samples of each plane are there. Assumes nothing.
+-- `epf_interior::row` meets its contract. The invariant: i samples of each plane are written. Assumes nothing.
 use mathlib.Core.Path.{_≡_, refl, _∙_}
 use Prim.Native.Nat.{ℕ, _+_, _-_, _*_, _≤_, _<_}
 use native.Mathlib.Omega.{arith}

@@ -1,4 +1,4 @@
--- `epf_interior::rows_of` meets its contract. The invariant: r rows are there. Assumes nothing.
+-- `epf_interior::rows_of` meets its contract. The invariant: r rows are written. Assumes nothing.
 use mathlib.Core.Path.{_≡_, refl, _∙_}
 use Prim.Native.Nat.{_-_, _≤_}
 use native.Mathlib.Nat.{mul-le-mul}
@@ -18,7 +18,7 @@ Inv-loop dst₀ src l scales slopes top rect stride plane above rows offset r₀
 abbrev μ-loop : tie.MeasureT-loop
 μ-loop dst₀ src l scales slopes top rect stride plane above rows offset r₀ dst r = rows - r
 
--- in a turn
+-- in an iteration
 module _ (c : tie.In-loop Inv-loop μ-loop) where
   abbrev start : tie.Start Inv-loop μ-loop
   start = c .before .before .before .before .before .before .before

@@ -1,4 +1,4 @@
--- `epf_lanes::add_four` meets its contract. The invariant: i lanes have four neighbours more. Assumes nothing.
+-- `epf_lanes::add_four` meets its contract. The invariant: i lanes have four more neighbours. Assumes nothing.
 use Prim.Native.Nat.{ℕ, _+_, _-_}
 use native.Mathlib.Omega.{arith}
 use denote.Ref.{now}

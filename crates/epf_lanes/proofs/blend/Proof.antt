@@ -19,7 +19,7 @@ Inv-loop out₀ at stored win c r step base n q₀ out q = (q ≤ n) × (q % 4 �
 abbrev μ-loop : tie.MeasureT-loop
 μ-loop out₀ at stored win c r step base n q₀ out q = n - q
 
--- in a turn
+-- in an iteration
 module _ (c : tie.In-loop Inv-loop μ-loop) where
   abbrev start : tie.Start Inv-loop μ-loop
   start = c .before .before .before .before .before .before .before .before
@@ -27,7 +27,7 @@ module _ (c : tie.In-loop Inv-loop μ-loop) where
   abbrev at : tie.At-loop Inv-loop μ-loop
   at = c .before
 
-  -- there are four neighbours more
+  -- there are four more neighbours
   more : at .loop .q + 4 ≤ length (kernel (start .args .step))
   more = omega (arith, c .loop-test .taken, at .loop .inv .0, at .loop .inv .1, c .before .before .kernel-len .ensures, kernel-few (start .args .step))
 

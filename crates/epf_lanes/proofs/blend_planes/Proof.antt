@@ -1,4 +1,4 @@
--- `epf_lanes::blend_planes` meets its contract. The invariant: c planes are there. Assumes nothing.
+-- `epf_lanes::blend_planes` meets its contract. The invariant: c planes are written. Assumes nothing.
 use mathlib.Core.Path.{_≡_, refl, _∙_}
 use Prim.Native.Nat.{ℕ, _-_, _≤_}
 use native.Mathlib.Omega.{arith}

@@ -1,4 +1,4 @@
--- `epf_lanes::filter_rows` meets its contract. The invariant: r rows are there. Assumes nothing.
+-- `epf_lanes::filter_rows` meets its contract. The invariant: r rows are written. Assumes nothing.
 use mathlib.Core.Path.{_≡_, refl, _∙_}
 use Prim.Native.Nat.{ℕ, _+_, _-_, _≤_}
 use native.Mathlib.Omega.{arith}

@@ -1,4 +1,4 @@
--- `epf_lanes::filter_tile` meets its contract. Where a test fails the tile is as it was. Assumes nothing.
+-- `epf_lanes::filter_tile` meets its contract. If a test fails, the tile is unchanged. Assumes nothing.
 use mathlib.Core.Path.{sym, _∙_}
 use native.Mathlib.Omega.{arith}
 use borrow.Author.Needs.{needs}

@@ -1,4 +1,4 @@
--- `epf_lanes::ones` meets its contract. The invariant: i lanes are there. Assumes nothing.
+-- `epf_lanes::ones` meets its contract. The invariant: i lanes are written. Assumes nothing.
 use mathlib.Core.Path.{refl}
 use Prim.Native.Nat.{ℕ, _-_}
 use native.Mathlib.Omega.{arith}

@@ -19,7 +19,7 @@ Inv-loop t₀ sum₀ e slopes step r first n q₀ t sum q = (q ≤ n) × Weighed
 abbrev μ-loop : tie.MeasureT-loop
 μ-loop t₀ sum₀ e slopes step r first n q₀ t sum q = n - q
 
--- in a turn
+-- in an iteration
 module _ (c : tie.After-neighbour Inv-loop μ-loop) where
   abbrev start : tie.Start Inv-loop μ-loop
   start = c .before .before .before .before .before .before

@@ -1,4 +1,4 @@
--- `epf_rects::copy_rect` meets its contract. Where a test fails `dst` is as it was. Assumes nothing.
+-- `epf_rects::copy_rect` meets its contract. If a test fails, `dst` is unchanged. Assumes nothing.
 use mathlib.Core.Path.{sym, _∙_}
 use native.Mathlib.Omega.{arith}
 use borrow.Author.Needs.{needs}

@@ -1,4 +1,4 @@
--- `epf_rects::store_tile` meets its contract. Where a test fails `dst` is as it was. Assumes nothing.
+-- `epf_rects::store_tile` meets its contract. If a test fails, `dst` is unchanged. Assumes nothing.
 use mathlib.Core.Path.{sym, _∙_}
 use native.Mathlib.Omega.{arith}
 use borrow.Author.Needs.{needs}
@@ -10,7 +10,7 @@ use Rattle.epf_rects.proofs.Rects.{rect-facts, not-stored, no-tile, man
 use Rattle.epf_rects.proofs.store_tile.Statement.{statement}
 use Rattle.epf_rects.proofs.store_tile.Tie as tie
 
--- every test held
+-- every test passes
 module _ (c : tie.Else4) where
   abbrev start : tie.Start
   start = c .before .before .before .before .before .before .before .before .before

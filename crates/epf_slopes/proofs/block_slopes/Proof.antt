@@ -1,4 +1,4 @@
--- `epf_slopes::block_slopes` meets its contract. The invariant: i columns of eight are there. Assumes nothing.
+-- `epf_slopes::block_slopes` meets its contract. The invariant: i columns of eight are written. Assumes nothing.
 use Prim.Native.Nat.{ℕ, _-_}
 use native.Mathlib.Omega.{arith}
 use borrow.Author.Needs.{needs}

@@ -1,4 +1,4 @@
--- `epf_slopes::row_slopes` meets its contract. The invariant: b blocks are there. Assumes nothing.
+-- `epf_slopes::row_slopes` meets its contract. The invariant: b blocks are written. Assumes nothing.
 use mathlib.Core.Path.{_≡_, refl}
 use Prim.Native.Nat.{_-_, _*_, _≤_}
 use native.Mathlib.Omega.{arith}

@@ -1,4 +1,5 @@
--- `epf_slopes::tile_slopes` meets its contract. Both kinds of rows, one after the other; where a test fails the slopes are as they were. Assumes nothing.
+-- `epf_slopes::tile_slopes` meets its contract. Both kinds of rows, one after the other; if a test fails, the slopes are unchanged. Assumes
+-- nothing.
 use mathlib.Core.Path.{sym, _∙_}
 use native.Mathlib.Omega.{arith}
 use denote.Ref.{now}

@@ -1,4 +1,4 @@
--- `epf_window::load` meets its contract. Where a test fails the window is as it was. Assumes nothing.
+-- `epf_window::load` meets its contract. If a test fails, the window is unchanged. Assumes nothing.
 use mathlib.Core.Path.{sym, _∙_}
 use native.Mathlib.Omega.{arith}
 use borrow.Author.Needs.{needs}
@@ -10,7 +10,7 @@ use Rattle.epf_window.proofs.Window.{no-source, no-column, no-row, no-t
 use Rattle.epf_window.proofs.load.Statement.{statement}
 use Rattle.epf_window.proofs.load.Tie as tie
 
--- every test held
+-- every test passes
 module _ (c : tie.Else7) where
   abbrev start : tie.Start
   start = c .before .before .before .before .before .before .before .before .before .before .before

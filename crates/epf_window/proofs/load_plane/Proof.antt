@@ -1,4 +1,4 @@
--- `epf_window::load_plane` meets its contract. The invariant: i rows are there. Assumes nothing.
+-- `epf_window::load_plane` meets its contract. The invariant: i rows are written. Assumes nothing.
 use mathlib.Core.Path.{_≡_, refl}
 use Prim.Native.Nat.{ℕ, _+_, _-_, _*_, _≤_}
 use native.Mathlib.Omega.{arith}
@@ -23,7 +23,7 @@ loop-holds : tie.Need-loop-holds Inv-loop μ-loop
 unfolding rowsFill
 loop-holds c = (omega arith, refl)
 
--- the row at the mirrored place lies in the list
+-- the row at the mirrored index lies inside the list
 fits : (at start stride w h x y rows cols len k : ℕ) (z : ℤ) → PlaneFits at start stride w h x y rows cols len → k ≡ mirror z h → start + k * stride + w ≤ len
 fits at start stride w h x y rows cols len k z p e = row-room start stride w h len k (p .ends) (rw e (mirror-lt z h (omega (arith, p .row))))
 

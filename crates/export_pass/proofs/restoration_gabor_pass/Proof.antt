@@ -1,4 +1,4 @@
--- `restoration_gabor_pass` passes on what `gabor_pass` answers and leaves. Assumes nothing.
+-- `restoration_gabor_pass` returns and writes what `gabor_pass` does. Assumes nothing.
 use borrow.Author.Needs.{needs}
 use Rattle.export_pass.proofs.restoration_gabor_pass.Statement.{statement}
 use Rattle.export_pass.proofs.restoration_gabor_pass.Tie as tie

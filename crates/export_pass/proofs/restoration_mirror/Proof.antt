@@ -1,4 +1,4 @@
--- `restoration_mirror` passes on what `mirror` answers. Assumes nothing.
+-- `restoration_mirror` returns what `mirror` does. Assumes nothing.
 use borrow.Author.Needs.{needs}
 use mir.Facts.{toZ-ofZ}
 use Rattle.export_pass.proofs.restoration_mirror.Statement.{statement}

@@ -1,4 +1,4 @@
--- `restoration_region_translate` passes on what `Region::translate` answers. Assumes nothing.
+-- `restoration_region_translate` returns what `Region::translate` does. Assumes nothing.
 use borrow.Author.Needs.{needs}
 use mir.Facts.{toZ-ofZ}
 use Rattle.export_region.proofs.restoration_region_translate.Statement.{statement}

@@ -8,7 +8,7 @@ use Rattle.run_band.proofs.Accepted.{room, number-is, band-refused, ban
 use Rattle.run_band.proofs.band.Statement.{statement}
 use Rattle.run_band.proofs.band.Tie as tie
 
--- what is given
+-- the arguments
 abbrev lent : tie.Start → State
 lent s = record { run = s .args .run; sigmas = now (s .args .sigmas); first = now (s .args .first); second = now (s .args .second) }
 

@@ -10,14 +10,14 @@ use Rattle.run_band.proofs.Accepted.{Room, room, first-rows, second-row
 use Rattle.run_band.proofs.filter_band.Statement.{statement}
 use Rattle.run_band.proofs.filter_band.Tie as tie
 
--- what is given
+-- the arguments
 abbrev lent : tie.Start → State
 lent s = record { run = s .args .run; sigmas = now (s .args .sigmas); first = now (s .args .first); second = now (s .args .second) }
 
 fits : (s : tie.Start) → Room (lent s) (s .args .k) (s .pre)
 fits s = room (lent s) (s .args .k) (s .pre)
 
--- the row past the band's last
+-- the first row after the band
 to-is : (c : tie.After-smaller) → c .smaller .result ≡ bandTo (c .before .before .before .before .before .args .run .setup) (c .before .before .before .before .before .args .k)
 to-is c = c .smaller .ensures ∙ ap (min (c .before .before .before .before .before .args .k * c .before .before .before .before .before .args .run .setup .«band_height» + c .before .before .before .before .before .args .run .setup .«band_height»)) (c .before .row-count .ensures .0)
 

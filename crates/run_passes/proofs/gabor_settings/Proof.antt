@@ -1,4 +1,5 @@
--- `run_passes::gabor_settings` meets its contract, by a walk of its code: the struct is built of the flag and the array of arrays in the result's place. Assumes nothing.
+-- `run_passes::gabor_settings` meets its contract, by a proof over its code: the struct is built in the result's memory from the flag and
+-- the array of arrays. Assumes nothing.
 use mathlib.Core.Path.{refl, sym, ap, subst}
 use Prim.Native.Nat.{ℕ, _<_, _^_}
 use mathlib.Core.List.{[], _∷_, List, map}
@@ -54,7 +55,7 @@ module _ {M : Type 1} (𝓤 : URA M) (H : Heap 𝓤) (A : Atoms 𝓤) (W : Given
   abbrev mach : Val
   mach = vstruct (vcons (vint w32 b) (vcons u vnil))
 
-  -- what whoever returns the record owes
+  -- what a return of the record must show
   made : Is P w (u ∷ []) → Is T.the-row h (mach ∷ [])
   made is = ((vint w32 b ∷ [], (u ∷ [], tt)), (refl, ((refl, fits), (subst (λ (xs : List (List Float)). Is P xs (u ∷ [])) (sym (same w)) is, tt))))
 

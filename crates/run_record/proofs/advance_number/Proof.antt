@@ -9,7 +9,7 @@ use Rattle.run_record.proofs.Laws.{fits-setup-of}
 use Rattle.run_record.proofs.advance_number.Statement.{statement}
 use Rattle.run_record.proofs.advance_number.Tie as tie
 
--- the record fits and the run goes on
+-- the record is valid and the run is not finished
 module _ (c : tie.Else2) where
   fits : runFits (c .before .before .before .before .args .r) ≡ true
   fits = sym (c .before .before .before .run-fits .ensures) ∙ not-false _ (c .before .before .if1 .left)

@@ -25,7 +25,7 @@ loop-holds : tie.Need-loop-holds Inv-loop μ-loop
 unfolding planesFill
 loop-holds c = (omega arith, refl, refl)
 
--- rows of plane c, in numbers of the machine and within the n planes of either slice
+-- rows of plane c, in machine integers and within the n planes of either slice
 record Room (c n : ℕ) (l : Layout) : Type 0 where
   pub read : PlaneRoom l n c
   pub written : c * l .height ≤ 49152
@@ -46,7 +46,7 @@ room c n l p q f =
       stored = omega (arith, add-mul (c * l .height) (l .height) (l .width), mul-le-mul-right (l .width) k);
     }
 
--- in a turn
+-- in an iteration
 here : (c : tie.In-loop Inv-loop μ-loop) → Room (c .before .loop .c) (c .before .before .before .before .args .n) (c .before .before .before .before .args .l)
 here c = let s = c .before .before .before .before in room (c .before .loop .c) (s .args .n) (s .args .l) (c .loop-test .taken) (s .pre .1 .0) (s .pre .0)
 

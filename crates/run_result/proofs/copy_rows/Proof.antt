@@ -26,7 +26,7 @@ loop-holds : tie.Need-loop-holds Inv-loop μ-loop
 unfolding rowsFill
 loop-holds c = (omega arith, omega arith, omega arith, refl, refl)
 
--- in a turn
+-- in an iteration
 record Turn (l : Layout) (y : ℕ) : Type 0 where
   pub source : y * l .image .width + l .image .width ≤ l .height * l .image .width
   pub target : y * l .width + l .width ≤ l .height * l .width

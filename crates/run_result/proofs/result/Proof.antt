@@ -1,4 +1,5 @@
--- `run_result::result` meets its contract: each test gives its number and leaves `out`, and else it has the result's part of the set that is read. Assumes nothing.
+-- `run_result::result` meets its contract: if a test fails, its number is returned and `out` is unchanged; otherwise `out` has the result
+-- region of the set that is read. Assumes nothing.
 use mathlib.Core.Path.{_≡_, sym, _∙_}
 use mathlib.Core.Bool.{false}
 use borrow.Author.Needs.{needs}
@@ -22,7 +23,7 @@ module _ (c : tie.Else2) where
   slice : false ≡ applies (sliceCheck 3 (start .args .run .setup) (length (now (start .args .out))))
   slice = sym (c .if2 .left) ∙ c .before .slice-wrong .ensures
 
--- and the record gives no number
+-- and the record's number is 0
 module _ (c : tie.Else3) where
   abbrev begun : tie.Start
   begun = start (c .before .before)

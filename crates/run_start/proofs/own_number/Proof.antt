@@ -21,7 +21,7 @@ module _ (c : tie.Else2) where
   sets : applies (setCheck 3 (c .before .before .before .before .args .s) (c .before .before .before .before .args .first) (c .before .before .before .before .args .second)) ≡ false
   sets = sym (c .before .sets-wrong .ensures) ∙ c .if2 .left
 
--- the rows of what is told
+-- the rows of the setup's settings
 told : (c : tie.After-numbers-fit) (b : Bool) → not (c .numbers-fit .result) ≡ b → let s = c .before .before .before .before .before .args .s in
     cond b outOfRange 0
     ≡ cond (not (itersFit s)) outOfRange (cond (not (fullFits s)) outOfRange (cond (not (gaborFits (s .settings))) outOfRange (cond (not (heightFits s)) outOfRange (cond ((fullFits s && heightFits s) && not (countFits s)) outOfRange 0))))

@@ -1,4 +1,4 @@
--- `epf_tiles::strips::filter_region` meets its contract. Where a test fails `dst` is as it was. Assumes nothing.
+-- `epf_tiles::strips::filter_region` meets its contract. If a test fails, `dst` is unchanged. Assumes nothing.
 use mathlib.Core.Path.{_≡_, sym, _∙_}
 use mathlib.Core.Bool.{true}
 use Prim.Native.Nat.{_*_}
@@ -34,7 +34,7 @@ module _ (c : tie.After-blocks-of2) where
   counted : c .before .blocks-of .result * c .blocks-of2 .result ≡ blockRows (start (c .before .before) .args .l) * blockColumns (start (c .before .before) .args .l)
   counted = rw (c .before .blocks-of .ensures, c .blocks-of2 .ensures)
 
--- every test held
+-- every test passes
 module _ (c : tie.Else7) where
   abbrev held : tie.Else2
   held = c .before .before .before .before .before .before .before .before .before

@@ -1,4 +1,4 @@
--- `epf_tiles::strips::strip` meets its contract. The invariant: x columns are there. Assumes nothing.
+-- `epf_tiles::strips::strip` meets its contract. The invariant: x columns are written. Assumes nothing.
 use mathlib.Core.Path.{_≡_, refl, _∙_}
 use Prim.Native.Nat.{ℕ, _+_, _-_, _*_, _/_, _%_, _≤_, _<_}
 use native.Mathlib.Omega.{arith}
@@ -23,7 +23,7 @@ Inv-loop dst₀ src l n s sigmas top y rows win₀ fields₀ slopes₀ lanes₀ 
 abbrev μ-loop : tie.MeasureT-loop
 μ-loop dst₀ src l n s sigmas top y rows win₀ fields₀ slopes₀ lanes₀ x₀ dst win fields slopes lanes x = l .width - x
 
--- in a turn
+-- in an iteration
 module _ (c : tie.After-at-most Inv-loop μ-loop) where
   abbrev start : tie.Start Inv-loop μ-loop
   start = c .before .before .before .before .before .before .before .before .before

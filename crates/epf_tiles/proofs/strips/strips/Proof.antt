@@ -1,4 +1,4 @@
--- `epf_tiles::strips::strips` meets its contract. The invariant: the rows above y are there. Assumes nothing.
+-- `epf_tiles::strips::strips` meets its contract. The invariant: the rows above y are written. Assumes nothing.
 use mathlib.Core.Path.{_≡_, refl, sym, _∙_}
 use Prim.Native.Nat.{ℕ, _+_, _-_, _≤_}
 use native.Mathlib.Omega.{arith}
@@ -20,7 +20,7 @@ Inv-loop dst₀ src l n s sigmas top from to win₀ fields₀ slopes₀ lanes₀
 abbrev μ-loop : tie.MeasureT-loop
 μ-loop dst₀ src l n s sigmas top from to win₀ fields₀ slopes₀ lanes₀ y₀ dst win fields slopes lanes y = to - y
 
--- in a turn
+-- in an iteration
 module _ (c : tie.After-at-most Inv-loop μ-loop) where
   abbrev start : tie.Start Inv-loop μ-loop
   start = c .before .before .before .before .before .before

@@ -1,4 +1,5 @@
--- `epf_tiles::tile::filter_window` meets its contract. The windows are loaded, so what each lane sees is what the definition sees. Assumes nothing.
+-- `epf_tiles::tile::filter_window` meets its contract. The windows are loaded, so each lane sees the samples of the definition. Assumes
+-- nothing.
 use native.Mathlib.Omega.{arith}
 use borrow.Author.Needs.{needs}
 use denote.Ref.{now}

@@ -7,7 +7,7 @@ use Rattle.epf_tiles.specs.Blocks.{blockColumns}
 use Rattle.epf_tiles.proofs.tile.first_sigma.Statement.{statement}
 use Rattle.epf_tiles.proofs.tile.first_sigma.Tie as tie
 
--- the rows of blocks above, in numbers of the machine
+-- the rows of blocks above, in machine integers
 small : (s : tie.Start) → s .args .rect .y / 8 * blockColumns (s .args .l) ≤ 2048 * 2048
 small s =
     let a : s .args .rect .y / 8 ≤ 2048 = omega (arith, s .pre) in

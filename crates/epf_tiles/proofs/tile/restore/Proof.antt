@@ -1,4 +1,4 @@
--- `epf_tiles::tile::restore` meets its contract. The invariant: b blocks are told apart. Assumes nothing.
+-- `epf_tiles::tile::restore` meets its contract. The invariant: b blocks are restored if they are copied. Assumes nothing.
 use mathlib.Core.Path.{_≡_, refl, sym, _∙_}
 use Prim.Native.Nat.{ℕ, _-_, _*_, _≤_, _<_}
 use native.Mathlib.Omega.{arith}
@@ -17,7 +17,7 @@ Inv-loop dst₀ src l n sigmas first limit rect blocks b₀ dst b = (b ≤ block
 abbrev μ-loop : tie.MeasureT-loop
 μ-loop dst₀ src l n sigmas first limit rect blocks b₀ dst b = blocks - b
 
--- in a turn
+-- in an iteration
 module _ (c : tie.In-loop Inv-loop μ-loop) where
   abbrev start : tie.Start Inv-loop μ-loop
   start = c .before .before .before .before .before .before

@@ -1,4 +1,4 @@
--- `epf_window::row::copy_mirrored` meets its contract. The invariant: j samples of n are there. Assumes nothing.
+-- `epf_window::row::copy_mirrored` meets its contract. The invariant: j samples of n are written. Assumes nothing.
 use mathlib.Core.Path.{_≡_}
 use Prim.Native.Nat.{ℕ, _-_, _<_}
 use native.Mathlib.Omega.{arith}
@@ -17,7 +17,7 @@ Inv-loop win₀ at src row x w n j₀ win j = Written win₀ at n (rowSample src
 abbrev μ-loop : tie.MeasureT-loop
 μ-loop win₀ at src row x w n j₀ win j = n - j
 
--- the place lies in the row
+-- the index lies in the row
 inside : (z : ℤ) (w k : ℕ) → 0 < w → k ≡ mirror z w → k < w
 inside z w k p e = rw e (mirror-lt z w p)
 

@@ -1,4 +1,4 @@
--- `epf_window::row::copy_row` meets its contract. Mirrored left of the row, as it stands inside, mirrored right of it. Assumes nothing.
+-- `epf_window::row::copy_row` meets its contract. Mirrored left of the row, copied inside it, mirrored right of it. Assumes nothing.
 use mathlib.Core.Path.{refl, ap, _∙_}
 use Prim.Native.Nat.{_-_}
 use native.Mathlib.Omega.{arith}

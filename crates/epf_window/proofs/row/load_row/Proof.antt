@@ -1,5 +1,6 @@
--- `epf_window::row::load_row` meets its contract: a walk of its MIR, by hand, as a local holds a reference inside a struct.
--- The view is made and `load_view` is called at the window's own lifetime, share and ghost name: what that says of the last window is what is said here. Assumes nothing.
+-- `epf_window::row::load_row` meets its contract: a proof over its MIR, written by hand because a local holds a reference inside a struct.
+-- The input row is made and `load_view` is called at the window's own lifetime, share and ghost name: so its contract for the final window
+-- is the one proved here. Assumes nothing.
 use mathlib.Core.Path.{_≡_, refl}
 use Prim.Native.Nat.{ℕ, _<_, _^_}
 use mathlib.Core.List.{List, [], _∷_}
@@ -52,7 +53,7 @@ use Rattle.epf_window.proofs.row.load_row as load-row
 use Rattle.epf_window.proofs.row.load_row.Statement as stated
 use Rattle.epf_window.proofs.row.load_row.Code as code
 
--- of the parameters the window alone is told of at exit
+-- at exit the contract speaks only of the window
 abbrev stayed : Stays (load-row.ended .signature .params) (load-row.ended .kept)
 stayed = (
   gave-ref (0 ∷ []) tt win,
@@ -80,14 +81,14 @@ module _ {M : Type 1} (𝓤 : URA M) (H : Heap 𝓤) (A : Atoms 𝓤) (W : Given
   abbrev vals : Vals load-row.signature κs
   vals = (pv ∷ [], (vint w64 at ∷ [], (sv ∷ [], (vint w64 row ∷ [], (vint w64 x ∷ [], (vint w64 w ∷ [], (vint w64 cols ∷ [], tt)))))))
 
-  -- what the window is to hold
+  -- the expected contents of the window
   abbrev last : List Float
   last = fill (p .now) at cols (rowSample (s .now) row x w)
 
   abbrev Post : Val → SProp 𝓤
   Post = walkOf 𝓤 H A load-row.ended stayed (load-row.clauses 𝓤 H A mem run) .post ((κs, (q, (q′, tt)), tt, a, vals), tt)
 
-  -- the view, and what the callee is passed
+  -- the input row, and the arguments of the callee
   abbrev d : EpfInputRow
   d = record { plane = s; place = row; width = w }
 
@@ -104,7 +105,7 @@ module _ {M : Type 1} (𝓤 : URA M) (H : Heap 𝓤) (A : Atoms 𝓤) (W : Given
   goes fits =
       qed W ((‵ (flft κ q) ⊛ ‵ (flft κ′ q′) ⊛ ‵ ftrue) ∷ ‵ (owns (MutRef (named 0) κ Win ∷ usize ∷ ShrSlice (named 1) κ′ f32 ∷ usize ∷ usize ∷ usize ∷ usize ∷ []) a vals) ∷ []) ∵ says ! fits $ frame ! $
       fsplit ! $ move ! (1 ∷ []) $ fsplit ! $ move ! (1 ∷ []) $ fsplit ! $
-      -- [what src owns; the four numbers after it; at; win]: with place and width it is what the view owns
+      -- [what src owns; the four numbers after it; at; win]: with start and width it is what the input row owns
       keep ! (0 ∷ 3 ∷ []) $ nothing ! $ owned ! usize (Is usize) (uint-makes 𝓤 H A W w64) w _ (refl, w-fits) $ fjoin ! $ owned ! usize (Is usize) (uint-makes 𝓤 H A W w64) row _ (refl, row-fits) $ fjoin ! $ move ! (1 ∷ 0 ∷ []) $ fjoin ! $
       use1 W (‵ (B κs .own d (T′.lowered d ∷ []))) (own-shut 𝓤 H A W (D κs) (L κs) (s, (row, (w, tt)))) $
       nothing ! $ owned ! usize (Is usize) (uint-makes 𝓤 H A W w64) cols _ (refl, cols-fit) $ fjoin ! $ owned ! usize (Is usize) (uint-makes 𝓤 H A W w64) x _ (refl, x-fits) $ fjoin ! $ move ! (1 ∷ 0 ∷ []) $ fjoin ! $
@@ -130,10 +131,10 @@ module _ {M : Type 1} (𝓤 : URA M) (H : Heap 𝓤) (A : Atoms 𝓤) (W : Given
         move ! (22 ∷ []) $ use1 W (raw (LoadView 𝓤 H A mem run .pre to)) (goes fits) $
         calls-at ! fm (LoadView 𝓤 H A mem run) known to (and-then ! (load ! (from ! (stop !)) (look ! 3 refl)) (and-then ! (load ! (from ! (stop !)) (look ! 17 refl)) (and-then ! (load ! (from ! (stop !)) (look ! 1 refl)) (and-then ! (load ! (from ! (stop !)) (look ! 11 refl)) (and-then ! (load ! (from ! (stop !)) (look ! 7 refl)) (no-more !)))))) (λ u.
         use1 W (later (some (λ (r : Unit {0}). ((‵ (flft κ q) ⊛ ‵ (flft κ′ q′) ⊛ ‵ ftrue) ⊛ ‵ (unit .own r (u ∷ []))) ⊛ raw (ensured 𝓤 H A view.ended (view.clauses 𝓤 H A mem run) κs b tt r)))) (id⊢ 𝓤 _) $ await ! tt $ pick ! (λ r. split ! $ move ! (1 ∷ []) $
-        -- what `load_view` ensures, at some last window
+        -- what `load_view` ensures, at some final window
         use1 W (some (λ (zs : List Float × (Unit {0} × (Unit {0} × (Unit {0} × (Unit {0} × Unit {0}))))). ‵ (lasts view.ended κs b zs) ⊛ raw (fact 𝓤 (zs .0 ≡ last)))) (id⊢ 𝓤 _) $ pick ! (λ zs. split ! $ move ! (1 ∷ []) $ heard ! (zs .0 ≡ last) (λ e. fsplit ! $
         move ! (2 ∷ []) $ split ! $ move ! (1 ∷ []) $ peeks ! unit (Is unit) (shows 𝓤 H A unit) r (u ∷ []) (λ is.
-        -- [the result; the tokens; the last window; …; _10; …]
+        -- [the result; the tokens; the final window; …; _10; …]
         land ! (from ! (stop !)) (init ! 8 refl (nothing-lawful 𝓤 H A W .typed r _ is .0)) $
         assigns ! (of-opd ! (unit-lit !)) (from ! (stop !)) (init ! 24 refl (tt, tt)) $
         returns ! (look ! 24 refl) $ forget ! 4 refl $ forget ! 6 refl $ forget ! 8 refl $ forget ! 10 refl $ forget ! 12 refl $ forget ! 14 refl $ forget ! 16 refl $ forget ! 18 refl $ forget ! 20 refl $ forget ! 22 refl $ forget ! 24 refl $

@@ -1,5 +1,6 @@
--- `epf_window::row::load_view` meets its contract: a walk of its MIR, by hand, as a parameter holds a reference inside a struct.
--- The view is taken apart and `copy_row` is called at the window's own lifetime, share and ghost name: what that says of the last window is what is said here. Assumes nothing.
+-- `epf_window::row::load_view` meets its contract: a proof over its MIR, written by hand because a parameter holds a reference inside a
+-- struct. The input row is taken apart and `copy_row` is called at the window's own lifetime, share and ghost name: so its contract for the
+-- final window is the one proved here. Assumes nothing.
 use mathlib.Core.Path.{_≡_, refl}
 use Prim.Native.Nat.{ℕ, _<_, _^_}
 use mathlib.Core.List.{List, [], _∷_}
@@ -54,7 +55,7 @@ use Rattle.epf_window.proofs.row.load_view as view
 use Rattle.epf_window.proofs.row.load_view.Statement as stated
 use Rattle.epf_window.proofs.row.load_view.Code as code
 
--- of the parameters the window alone is told of at exit
+-- at exit the contract speaks only of the window
 abbrev stayed : Stays (view.ended .signature .params) (view.ended .kept)
 stayed = (gave-ref (0 ∷ []) tt win, (stay-dropped (plain (λ _. usize)) yes, (stay-dropped (plain B) yes, (stay-dropped (plain (λ _. usize)) yes, (stay-dropped (plain (λ _. usize)) yes, tt)))))
 
@@ -75,14 +76,14 @@ module _ {M : Type 1} (𝓤 : URA M) (H : Heap 𝓤) (A : Atoms 𝓤) (W : Given
   abbrev vals : Vals view.signature κs
   vals = (pv ∷ [], (vint w64 at ∷ [], (T′.lowered d ∷ [], (vint w64 x ∷ [], (vint w64 cols ∷ [], tt)))))
 
-  -- what the window is to hold
+  -- the expected contents of the window
   abbrev last : List Float
   last = fill (p .now) at cols (rowSample (d .plane .now) (d .place) x (d .width))
 
   abbrev Post : Val → SProp 𝓤
   Post = walkOf 𝓤 H A view.ended stayed (view.clauses 𝓤 H A mem run) .post ((κs, (q, (q′, tt)), tt, a, vals), tt)
 
-  -- what the callee is passed
+  -- the arguments of the callee
   abbrev b : Args copy.signature κs
   b = (p, (at, (d .plane, (d .place, (x, (d .width, (cols, tt)))))))
 
@@ -97,7 +98,7 @@ module _ {M : Type 1} (𝓤 : URA M) (H : Heap 𝓤) (A : Atoms 𝓤) (W : Given
       qed W ((‵ (flft κ q) ⊛ ‵ (flft κ′ q′) ⊛ ‵ ftrue) ∷ ‵ (owns (MutRef (named 0) κ Win ∷ usize ∷ B κs ∷ usize ∷ usize ∷ []) a vals) ∷ []) ∵ says ! fits $ frame ! $
       fsplit ! $ move ! (1 ∷ []) $ fsplit ! $ move ! (1 ∷ []) $ fsplit ! $
       use1 W (given (T′.lowered d ∷ [] ≡ T′.lowered d ∷ []) (‵ (all-own (D κs .parts) (L κs) (d .plane, (d .place, (d .width, tt)))))) (own-open 𝓤 H A W (D κs) (L κs) (d .plane, (d .place, (d .width, tt))) (T′.lowered d)) $ learn ! (λ _. fsplit ! $
-      -- [what plane owns; place and width; x and cols; at; win]
+      -- [what plane owns; start and width; x and cols; at; win]
       keep ! (0 ∷ 4 ∷ []) $ nothing ! $ owned ! usize (Is usize) (uint-makes 𝓤 H A W w64) cols _ (refl, cols-fit) $ fjoin ! $ owned ! usize (Is usize) (uint-makes 𝓤 H A W w64) (d .width) _ (refl, width-fits) $ fjoin ! $
       owned ! usize (Is usize) (uint-makes 𝓤 H A W w64) x _ (refl, x-fits) $ fjoin ! $ owned ! usize (Is usize) (uint-makes 𝓤 H A W w64) (d .place) _ (refl, place-fits) $ fjoin ! $ move ! (1 ∷ 0 ∷ []) $ fjoin ! $
       owned ! usize (Is usize) (uint-makes 𝓤 H A W w64) at _ (refl, at-fits) $ fjoin ! $ move ! (1 ∷ 0 ∷ []) $ fjoin ! $ done !)
@@ -123,10 +124,10 @@ module _ {M : Type 1} (𝓤 : URA M) (H : Heap 𝓤) (A : Atoms 𝓤) (W : Given
         move ! (22 ∷ []) $ use1 W (raw (CopyRow 𝓤 H A mem run .pre to)) (goes (wt .1 .1 .0 .fits) (wt .1 .1 .1 .0 .fits) fits) $
         calls-at ! fm (CopyRow 𝓤 H A mem run) known to (and-then ! (load ! (from ! (stop !)) (look ! 7 refl)) (and-then ! (load ! (from ! (stop !)) (look ! 17 refl)) (and-then ! (load ! (from ! (stop !)) (look ! 5 refl)) (and-then ! (load ! (from ! (stop !)) (look ! 3 refl)) (and-then ! (load ! (from ! (stop !)) (look ! 13 refl)) (and-then ! (load ! (from ! (stop !)) (look ! 1 refl)) (and-then ! (load ! (from ! (stop !)) (look ! 11 refl)) (no-more !)))))))) (λ u.
         use1 W (later (some (λ (r : Unit {0}). ((‵ (flft κ q) ⊛ ‵ (flft κ′ q′) ⊛ ‵ ftrue) ⊛ ‵ (unit .own r (u ∷ []))) ⊛ raw (ensured 𝓤 H A copy.ended (copy.clauses 𝓤 H A mem run) κs b tt r)))) (id⊢ 𝓤 _) $ await ! tt $ pick ! (λ r. split ! $ move ! (1 ∷ []) $
-        -- what `copy_row` ensures, at some last window
+        -- what `copy_row` ensures, at some final window
         use1 W (some (λ (zs : List Float × (Unit {0} × (Unit {0} × (Unit {0} × (Unit {0} × (Unit {0} × (Unit {0} × Unit {0}))))))). ‵ (lasts copy.ended κs b zs) ⊛ raw (fact 𝓤 (zs .0 ≡ last)))) (id⊢ 𝓤 _) $ pick ! (λ zs. split ! $ move ! (1 ∷ []) $ heard ! (zs .0 ≡ last) (λ e. fsplit ! $
         move ! (2 ∷ []) $ split ! $ move ! (1 ∷ []) $ peeks ! unit (Is unit) (shows 𝓤 H A unit) r (u ∷ []) (λ is.
-        -- [the result; the tokens; the last window; …; _10; …]
+        -- [the result; the tokens; the final window; …; _10; …]
         land ! (from ! (stop !)) (init ! 12 refl (nothing-lawful 𝓤 H A W .typed r _ is .0)) $
         assigns ! (of-opd ! (unit-lit !)) (from ! (stop !)) (init ! 24 refl (tt, tt)) $
         returns ! (look ! 24 refl) $ forget ! 4 refl $ forget ! 6 refl $ forget ! 8 refl $ forget ! 10 refl $ forget ! 12 refl $ forget ! 14 refl $ forget ! 16 refl $ forget ! 18 refl $ forget ! 20 refl $ forget ! 22 refl $ forget ! 24 refl $
