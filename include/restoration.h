@@ -33,7 +33,7 @@ enum {
     RESTORATION_BITS_RUN_OUT = 1, // the header's bits run out
     RESTORATION_HALF_NOT_FINITE = 2, // a half-precision number of the header is not finite
     RESTORATION_KERNEL_NEAR_ZERO = 3, // the weights of a channel and its centre's 1 add up to nearly 0
-    RESTORATION_OUT_OF_MEASURE = 4, // a side, area, left or top is out of range
+    RESTORATION_OUT_OF_LIMITS = 4, // a side, area, left or top is out of range
     RESTORATION_NOT_INSIDE = 5, // the filter region is not inside the image region
     RESTORATION_NOT_ON_BLOCKS = 6, // the filter region's left or top is negative or no multiple of 8
     RESTORATION_WRONG_LENGTH = 7, // a slice has a wrong length
@@ -158,7 +158,7 @@ typedef struct RestorationAnswer {
 
 typedef struct RestorationMirrorAnswer {
     uint32_t number;
-    size_t place;
+    size_t index;
 } RestorationMirrorAnswer;
 
 // The Gabor-like filter. `enabled` is a flag: 1 is on, 0 is off. `weights` has two weights for each of the channels
@@ -366,11 +366,11 @@ RestorationAnswer restoration_read_filters_modular(const uint8_t *bytes, size_t 
 
 // == The C boundary of the mirror and of single passes
 
-// Computes the mirrored index, `place`, of `offset` in a row of `len` samples: the sample that a filter reads there,
+// Computes the mirrored index of `offset` in a row of `len` samples: the sample that a filter reads there,
 // also beyond an edge. With m = offset mod (2 * len), 0 <= m < 2 * len, the index is m if m < len and
 // 2 * len - 1 - m otherwise, so the edge sample is repeated.
 // Numbers: 0; 9 if `len` is outside 1 to 16,384 or `offset` is outside -1,048,576 to 1,048,576. A refused call
-// returns place 0.
+// returns index 0.
 RestorationMirrorAnswer restoration_mirror(ptrdiff_t offset, size_t len);
 
 // Applies the Gabor-like filter to rows `from` up to, not including, `to` of the result region. The result region is
@@ -569,7 +569,7 @@ static_assert(offsetof(RestorationAnswer, filter) == 4, "filter");
 static_assert(offsetof(RestorationAnswer, next) == 104, "next");
 static_assert(sizeof(RestorationMirrorAnswer) == 16, "RestorationMirrorAnswer");
 static_assert(offsetof(RestorationMirrorAnswer, number) == 0, "number");
-static_assert(offsetof(RestorationMirrorAnswer, place) == 8, "place");
+static_assert(offsetof(RestorationMirrorAnswer, index) == 8, "index");
 static_assert(sizeof(RestorationGaborSettings) == 28, "RestorationGaborSettings");
 static_assert(offsetof(RestorationGaborSettings, enabled) == 0, "enabled");
 static_assert(offsetof(RestorationGaborSettings, weights) == 4, "weights");

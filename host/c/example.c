@@ -66,13 +66,13 @@ static const uint32_t table[GROUP];
 
 static void regions(void)
 {
-    REFUSED(RestorationBoolAnswer, restoration_region_is_empty(wide), RESTORATION_OUT_OF_MEASURE, !a.holds);
-    REFUSED(RestorationEdgeAnswer, restoration_region_right(wide), RESTORATION_OUT_OF_MEASURE, a.edge == 0);
-    REFUSED(RestorationEdgeAnswer, restoration_region_bottom(wide), RESTORATION_OUT_OF_MEASURE, a.edge == 0);
-    REFUSED(RestorationBoolAnswer, restoration_region_contains(image, wide), RESTORATION_OUT_OF_MEASURE, !a.holds);
-    REFUSED(RestorationRegionAnswer, restoration_region_translate(image, 0, 1048577), RESTORATION_OUT_OF_MEASURE, ZEROS(a.region));
-    REFUSED(RestorationRegionAnswer, restoration_region_intersection(image, wide), RESTORATION_OUT_OF_MEASURE, ZEROS(a.region));
-    REFUSED(RestorationRegionAnswer, restoration_region_pad(image, 16384), RESTORATION_OUT_OF_MEASURE, ZEROS(a.region));
+    REFUSED(RestorationBoolAnswer, restoration_region_is_empty(wide), RESTORATION_OUT_OF_LIMITS, !a.holds);
+    REFUSED(RestorationEdgeAnswer, restoration_region_right(wide), RESTORATION_OUT_OF_LIMITS, a.edge == 0);
+    REFUSED(RestorationEdgeAnswer, restoration_region_bottom(wide), RESTORATION_OUT_OF_LIMITS, a.edge == 0);
+    REFUSED(RestorationBoolAnswer, restoration_region_contains(image, wide), RESTORATION_OUT_OF_LIMITS, !a.holds);
+    REFUSED(RestorationRegionAnswer, restoration_region_translate(image, 0, 1048577), RESTORATION_OUT_OF_LIMITS, ZEROS(a.region));
+    REFUSED(RestorationRegionAnswer, restoration_region_intersection(image, wide), RESTORATION_OUT_OF_LIMITS, ZEROS(a.region));
+    REFUSED(RestorationRegionAnswer, restoration_region_pad(image, 16384), RESTORATION_OUT_OF_LIMITS, ZEROS(a.region));
     REFUSED(RestorationRegionAnswer, restoration_region_downsample(image, 17), RESTORATION_OUT_OF_RANGE, ZEROS(a.region));
     REFUSED(RestorationRegionAnswer, restoration_region_container_aligned(image, 3), RESTORATION_OUT_OF_RANGE, ZEROS(a.region));
     // Accepted calls whose answers depend on the order of the parameters.
@@ -87,20 +87,20 @@ static void frames(void)
     RestorationFrame empty = {.width = 0};
     RestorationBlocks blocks = {.width = SIDE, .height = SIDE};
     float sigmas[] = {5, 5};
-    REFUSED(RestorationFrameAnswer, restoration_group_sizes(empty), RESTORATION_OUT_OF_MEASURE, ZEROS(a.sizes));
+    REFUSED(RestorationFrameAnswer, restoration_group_sizes(empty), RESTORATION_OUT_OF_LIMITS, ZEROS(a.sizes));
     REFUSED(RestorationSplitAnswer, restoration_split_block(0, 4), RESTORATION_OUT_OF_RANGE, a.group == 0 && a.inner == 0);
     RestorationSplitAnswer split = restoration_split_block(300, 0);
     COMPARE(split.group == 2 && split.inner == 44);
     REFUSED_NUMBER(restoration_block_sigmas(1, frame, blocks, table, GROUP, NULL, 0, 1, sigmas, 2), RESTORATION_WRONG_LENGTH, sigmas);
-    // A present grid 2,000 wide is out of measure, but no entry of a table of wrong length is read (Specification 7.4).
+    // A present grid 2,000 wide is beyond the limit, but no entry of a table of wrong length is read (Specification 7.4).
     static const uint32_t too_wide[2 * GROUP] = {1, 2000, 1};
-    REFUSED_NUMBER(restoration_block_sigmas(1, frame, blocks, too_wide, GROUP, NULL, 0, 1, sigmas, 1), RESTORATION_OUT_OF_MEASURE, sigmas);
+    REFUSED_NUMBER(restoration_block_sigmas(1, frame, blocks, too_wide, GROUP, NULL, 0, 1, sigmas, 1), RESTORATION_OUT_OF_LIMITS, sigmas);
     REFUSED_NUMBER(restoration_block_sigmas(1, frame, blocks, too_wide, 2 * GROUP, NULL, 0, 1, sigmas, 1), RESTORATION_WRONG_LENGTH, sigmas);
     // The last left in measure, and the first that is not (Specification 7.9).
     blocks.left = 131072;
     REFUSED_NUMBER(restoration_block_sigmas(1, frame, blocks, table, GROUP, NULL, 0, 1, sigmas, 1), RESTORATION_BLOCK_NOT_HELD, sigmas);
     blocks.left = 131073;
-    REFUSED_NUMBER(restoration_block_sigmas(1, frame, blocks, table, GROUP, NULL, 0, 1, sigmas, 1), RESTORATION_OUT_OF_MEASURE, sigmas);
+    REFUSED_NUMBER(restoration_block_sigmas(1, frame, blocks, table, GROUP, NULL, 0, 1, sigmas, 1), RESTORATION_OUT_OF_LIMITS, sigmas);
 }
 
 static void headers(void)
@@ -122,8 +122,8 @@ static void passes(void)
     RestorationEpfStep step = {.step = 3};
     RestorationSettings settings = {.gabor = gabor, .epf = {.iters = 4}};
     float from[SAMPLES] = {0}, to[SAMPLES] = {5}, sigma = 1;
-    REFUSED(RestorationMirrorAnswer, restoration_mirror(-1, 0), RESTORATION_OUT_OF_RANGE, a.place == 0);
-    COMPARE(restoration_mirror(-3, 2).place == 1);
+    REFUSED(RestorationMirrorAnswer, restoration_mirror(-1, 0), RESTORATION_OUT_OF_RANGE, a.index == 0);
+    COMPARE(restoration_mirror(-3, 2).index == 1);
     REFUSED(RestorationMarginAnswer, restoration_margin(settings), RESTORATION_OUT_OF_RANGE, a.margin == 0);
     settings.epf.iters = 3;
     COMPARE(restoration_margin(settings).margin == 7);

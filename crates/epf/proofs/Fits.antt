@@ -15,7 +15,7 @@ use Rattle.refusals.specs.Checks.{firstOf}
 use Rattle.refusals.specs.Flags.{flagFits, flagSet}
 use Rattle.region.specs.declared.Region.{Region}
 use Rattle.region.specs.Regions.{inside}
-use Rattle.region.specs.Measures.{pictured}
+use Rattle.region.specs.Measures.{pictureFits}
 use Rattle.region_placement.specs.Placed.{placedChecks}
 use Rattle.planes.specs.declared.Layout.{Layout}
 use Rattle.planes.specs.Picture.{Picture}
@@ -29,7 +29,7 @@ use Rattle.planes_layout.proofs.Fits.{Accepted, layout-accepted, placed-or, the
 use Rattle.epf_tiles.specs.Blocks.{blockColumns, blockRows}
 use Rattle.epf_tiles.proofs.Region.{BlocksRoom, blocks-room}
 use Rattle.epf.specs.declared.EpfStep.{EpfStep}
-use Rattle.region_placement.specs.Blocks.{ahead, onBlocks}
+use Rattle.region_placement.specs.Blocks.{clampToZero, onBlocks}
 use Rattle.epf.specs.Outcome.{epfOver, stepChecks, epfChecks, epfOutcome}
 
 -- ---- the tests of a filter region inside the image region
@@ -141,7 +141,7 @@ module _ (image filter : Region) (full : ℕ) (s : EpfStep) (sigmas : List Float
 
   pub not-placed : (a .number ≡ 0 → ⊥) → Outcome (a .number) dst
   unfolding epfOutcome epfChecks
-  not-placed h = pass-refused (a .number) _ _ dst (placed-or (pictured image) (pictured filter) (inside image filter) (a .number) _ (answer-number image filter (flagSet full) a e) h) h
+  not-placed h = pass-refused (a .number) _ _ dst (placed-or (pictureFits image) (pictureFits filter) (inside image filter) (a .number) _ (answer-number image filter (flagSet full) a e) h) h
 
   module _ (z : a .number ≡ 0) where
     ok : firstOf (placedChecks image filter) ≡ 0
@@ -156,12 +156,12 @@ module _ (image filter : Region) (full : ℕ) (s : EpfStep) (sigmas : List Float
     module _ (k : ℕ) (p : k ≡ firstOf (stepChecks 3 (a .layout) filter full (s .step) from to (length sigmas) (length src) (length dst))) where
       number-is : k ≡ firstOf (epfChecks image filter full s sigmas from to src dst)
       unfolding epfChecks
-      number-is = rw l-is at p ∙ then (pictured image) (pictured filter) (inside image filter) _ ok
+      number-is = rw l-is at p ∙ then (pictureFits image) (pictureFits filter) (inside image filter) _ ok
 
       pub refused : (k ≡ 0 → ⊥) → Outcome k dst
       unfolding epfOutcome
       refused h = pass-refused k _ _ dst number-is h
 
-      pub done : k ≡ 0 → (b : List Float) → b ≡ passed 3 (a .layout) from to (epfOver 3 (a .layout) s (ahead (filter .top)) sigmas src) src dst → Outcome 0 b
+      pub done : k ≡ 0 → (b : List Float) → b ≡ passed 3 (a .layout) from to (epfOver 3 (a .layout) s (clampToZero (filter .top)) sigmas src) src dst → Outcome 0 b
       unfolding epfOutcome
       done h b q = pass-done _ _ dst b (sym h ∙ number-is) (rw l-is at q)

@@ -18,7 +18,7 @@ use Rattle.planes_layout.specs.Outcome.{layoutOf, PassOutcome, passOutcome}
 use Rattle.epf_step.specs.Steps.{scaled, standardLimit, EpfPass, epfPass}
 use Rattle.epf_tiles.specs.Blocks.{blockColumns, sigmaOf, blockRows}
 use Rattle.epf.specs.declared.EpfStep.{EpfStep}
-use Rattle.region_placement.specs.Blocks.{ahead, onBlocks}
+use Rattle.region_placement.specs.Blocks.{clampToZero, onBlocks}
 
 -- the settings that a step reads, for n planes, with the copying limit (Specification 11.4)
 abbrev pub settingsOf : ℕ → EpfStep → EpfPass
@@ -48,4 +48,4 @@ epfChecks image filter full s sigmas from to src dst =
 unfoldable pub epfOutcome : Region → Region → ℕ → EpfStep → List Float → ℕ → ℕ → List Float → List Float → PassOutcome
 epfOutcome image filter full s sigmas from to src dst =
     passOutcome (firstOf (epfChecks image filter full s sigmas from to src dst))
-    (passed 3 (layoutOf image filter (flagSet full)) from to (epfOver 3 (layoutOf image filter (flagSet full)) s (ahead (filter .top)) sigmas src) src dst) dst
+    (passed 3 (layoutOf image filter (flagSet full)) from to (epfOver 3 (layoutOf image filter (flagSet full)) s (clampToZero (filter .top)) sigmas src) src dst) dst

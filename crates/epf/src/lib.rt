@@ -17,7 +17,7 @@ use refusals::WRONG_LENGTH;
 use refusals::flag_fits;
 use refusals::flag_set;
 use region::Region;
-use region_placement::ahead;
+use region_placement::clamp_to_zero;
 use region_placement::on_blocks;
 ghost use mathlib.Core.Path.{_≡_};
 ghost use Prim.Native.Nat.{_≤_};
@@ -45,7 +45,7 @@ pub struct EpfStep {
 }
 
 // The number for the filter region's corner, the lengths, the step, the flag and the rows: 6, 7, 9 or 0.
-fn judged(
+fn check_pass(
     l: Layout,
     filter: Region,
     preserve_outside: u32,
@@ -154,7 +154,7 @@ pub fn epf_pass(
     let step = s.step as usize;
     let first = from as usize;
     let last = to as usize;
-    let number = judged(
+    let number = check_pass(
         l,
         filter,
         preserve_outside,
@@ -176,7 +176,7 @@ pub fn epf_pass(
         PLANES,
         settings,
         sigmas,
-        ahead(filter.top),
+        clamp_to_zero(filter.top),
         first,
         last,
     );

@@ -10,8 +10,8 @@ use epf_sizes::WINDOWS;
 use epf_slopes::SLOPES;
 use epf_step::LAST_STEP;
 use limits::BLOCK;
+use limits::min;
 use planes::Layout;
-use planes::at_most;
 use planes::set_fits;
 ghost use mathlib.Core.Path.{_≡_};
 ghost use Prim.Native.Nat.{ℕ, _+_, _-_, _*_, _<_, _≤_};
@@ -48,7 +48,7 @@ fn strip(
 {
     let mut x = 0;
     while x < l.width {
-        let cols = at_most(l.width - x, LANES);
+        let cols = min(l.width - x, LANES);
         let rect = Rect { x, y, rows, cols };
         tile(
             dst,
@@ -92,7 +92,7 @@ fn strips(
     let mut lanes = [0.0; TILE];
     let mut y = from;
     while y < to {
-        let rows = at_most(to - y, BLOCK - y % BLOCK);
+        let rows = min(to - y, BLOCK - y % BLOCK);
         strip(
             dst,
             src,

@@ -15,9 +15,9 @@ use epf_step::LAST_STEP;
 use epf_step::copied;
 use epf_window::load;
 use limits::BLOCK;
+use limits::min;
 use planes::Layout;
 use planes::PLANES;
-use planes::at_most;
 ghost use mathlib.Core.Path.{_≡_};
 ghost use mathlib.Core.Bool.{cond, true};
 ghost use Prim.Native.Nat.{ℕ, _+_, _-_, _*_, _/_, _<_, _≤_};
@@ -92,7 +92,7 @@ fn restore(
             x: rect.x + i,
             y: rect.y,
             rows: rect.rows,
-            cols: at_most(rect.cols - i, BLOCK),
+            cols: min(rect.cols - i, BLOCK),
         };
         restore_block(dst, src, l, n, sigmas[first + b], limit, block);
         b += 1;

@@ -1,8 +1,8 @@
 // Loads a row of a window from a row of a plane.
 use crate::LEFT;
 use epf_sizes::WINDOWS;
+use limits::min;
 use mirror::mirrored;
-use planes::at_most;
 use planes::copy_run;
 ghost use mathlib.Core.Path.{_≡_};
 ghost use Prim.Native.Nat.{ℕ, _+_, _-_, _<_, _≤_};
@@ -64,7 +64,7 @@ fn copy_row(
     ensures { λ _. ⌜ now (win .exit) ≡ fill (now (win .entry)) at cols (rowSample (now (src .entry)) row x w) ⌝ }
 {
     let low = short_of(x, LEFT);
-    let high = at_most(w + LEFT - x, cols);
+    let high = min(w + LEFT - x, cols);
     copy_mirrored(win, at, src, row, x, w, low);
     copy_run(win, at + low, src, row + (x + low - LEFT), high - low);
     copy_mirrored(win, at + high, src, row, x + high, w, cols - high);

@@ -10,11 +10,11 @@ ghost use Rattle.gabor.specs.Outcome.{gaborOutcome};
 ghost use Rattle.planes_layout.specs.Outcome.{PassOutcome};
 ghost use Rattle.mirror.specs.Outcome.{mirrorOutcome};
 
-// Computes the mirrored index, `place`, of `offset` in a row of `len` samples: the sample that a filter reads there,
+// Computes the mirrored index of `offset` in a row of `len` samples: the sample that a filter reads there,
 // also beyond an edge. With m = offset mod (2 * len), 0 <= m < 2 * len, the index is m if m < len and
 // 2 * len - 1 - m otherwise, so the edge sample is repeated.
 // Numbers: 0; 9 if `len` is outside 1 to 16,384 or `offset` is outside -1,048,576 to 1,048,576. A refused call
-// returns place 0.
+// returns index 0.
 #[no_mangle]
 pub extern "C" fn restoration_mirror(offset: isize, len: usize) -> MirrorAnswer
     ensures { λ a. ⌜ a ≡ mirrorOutcome offset len ⌝ }

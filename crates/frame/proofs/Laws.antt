@@ -10,7 +10,7 @@ use borrow.Author.Tests.{ltb-false, le-ltb, eq-eqb, ne-eqb}
 use lib.Dec.{ltb}
 use lib.Pow.{pow-pos, pow-add, pow-mono}
 use lib.Count.{trailingZeros}
-use Rattle.refusals.specs.Numbers.{outOfMeasure, outOfRange}
+use Rattle.refusals.specs.Numbers.{outOfLimits, outOfRange}
 use Rattle.refusals.specs.Checks.{always, firstOf}
 use Rattle.frame.specs.declared.Frame.{Frame}
 use Rattle.frame.specs.declared.GroupSizes.{GroupSizes}
@@ -120,7 +120,7 @@ upsampling-range u h = (low (decLe 1 u), high (decLe u 8))
         (rw (ne-eqb u 1 (λ e. omega arith), ne-eqb u 2 (λ e. omega arith), ne-eqb u 4 (λ e. omega arith), ne-eqb u 8 (λ e. omega arith)) at h)))
 
 -- no check applies
-none : (s t : Bool) → firstOf (always outOfMeasure s ∷ always outOfRange t ∷ []) ≡ 0 → (s ≡ false) × (t ≡ false)
+none : (s t : Bool) → firstOf (always outOfLimits s ∷ always outOfRange t ∷ []) ≡ 0 → (s ≡ false) × (t ≡ false)
 none false false e = (refl, refl)
 none false true e = absurd (omega arith)
 none true t e = absurd (omega arith)

@@ -3,7 +3,7 @@ use mathlib.Core.Bool.{Bool, cond, not, _||_}
 use mathlib.Core.List.{List, [], _∷_}
 use Prim.Native.Nat.{ℕ}
 use lib.Dec.{ltb, eqb}
-use Rattle.refusals.specs.Numbers.{outOfMeasure, outOfRange}
+use Rattle.refusals.specs.Numbers.{outOfLimits, outOfRange}
 use Rattle.refusals.specs.Checks.{Check, always, firstOf}
 use Rattle.frame.specs.declared.Frame.{Frame}
 use Rattle.frame.specs.declared.GroupSizes.{GroupSizes}
@@ -28,7 +28,7 @@ unfoldable pub badSettings : Frame → Bool
 badSettings f = badUpsampling (f .upsampling) || ltb 4 (f .«lf_level») || ltb 3 (f .«group_size_shift»)
 
 abbrev pub frameChecks : Frame → List Check
-frameChecks f = always outOfMeasure (badSides f) ∷ always outOfRange (badSettings f) ∷ []
+frameChecks f = always outOfLimits (badSides f) ∷ always outOfRange (badSettings f) ∷ []
 
 -- the sizes in a refusal: zeros
 abbrev pub noSizes : GroupSizes

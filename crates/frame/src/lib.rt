@@ -130,7 +130,7 @@ fn check(f: Frame) -> u32
     ensures { λ r. ⌜ r ≡ firstOf (frameChecks f) ⌝ }
 {
     if bad_sides(f) {
-        return refusals::OUT_OF_MEASURE;
+        return refusals::OUT_OF_LIMITS;
     }
     if bad_settings(f) {
         return refusals::OUT_OF_RANGE;

@@ -16,8 +16,8 @@ use Rattle.header_gabor.specs.declared.GaborAnswer.{GaborAnswer}
 use Rattle.header_epf.specs.declared.EdgePreservingFilter.{EdgePreservingFilter}
 use Rattle.header_epf.specs.declared.EpfAnswer.{EpfAnswer}
 use Rattle.header_fields.proofs.Rows.{read-nested}
-use Rattle.header_fields.proofs.Numbered.{Numbered, read-told}
-use Rattle.header_epf_tables.proofs.Told.{is-accepted, is-refused}
+use Rattle.header_fields.proofs.Numbered.{Numbered, read-above-zero}
+use Rattle.header_epf_tables.proofs.Answers.{is-accepted, is-refused}
 
 -- ---- the tables of both bundles
 numbered-gabor : Numbered gaborFields
@@ -41,7 +41,7 @@ module _ (s : List ℕ) (p : ℕ) where
   module _ (a : GaborAnswer) (is : a ≡ gaborAnswer (read gaborFields s p)) where
     pub gabor-accepted : a .number ≡ 0 → read gaborFields s p ≡ accepted (a .gabor) (a .next)
     gabor-accepted h =
-        is-accepted gaborOff (read gaborFields s p) (read-told gaborFields numbered-gabor s p) (sym (ap (λ (b : GaborAnswer). b .number) is) ∙ h)
+        is-accepted gaborOff (read gaborFields s p) (read-above-zero gaborFields numbered-gabor s p) (sym (ap (λ (b : GaborAnswer). b .number) is) ∙ h)
         ∙ sym (ap (λ (b : GaborAnswer). accepted (b .gabor) (b .next)) is)
 
     pub gabor-refused : (a .number ≡ 0 → ⊥) → read gaborFields s p ≡ refused (a .number)
@@ -51,7 +51,7 @@ module _ (s : List ℕ) (p : ℕ) where
   module _ (e : Encoding) (a : EpfAnswer) (is : a ≡ epfAnswer (read (epfFields e) s p)) where
     pub epf-accepted : a .number ≡ 0 → read (epfFields e) s p ≡ accepted (a .epf) (a .next)
     epf-accepted h =
-        is-accepted epfOff (read (epfFields e) s p) (read-told (epfFields e) (numbered-epf e) s p) (sym (ap (λ (b : EpfAnswer). b .number) is) ∙ h)
+        is-accepted epfOff (read (epfFields e) s p) (read-above-zero (epfFields e) (numbered-epf e) s p) (sym (ap (λ (b : EpfAnswer). b .number) is) ∙ h)
         ∙ sym (ap (λ (b : EpfAnswer). accepted (b .epf) (b .next)) is)
 
     pub epf-refused : (a .number ≡ 0 → ⊥) → read (epfFields e) s p ≡ refused (a .number)

@@ -5,7 +5,7 @@ use lib.Dec.{ltb}
 use lib.ListN.{length, getD}
 use Rattle.refusals.specs.Numbers.{bitsRunOut, wrongLength}
 use Rattle.refusals.specs.Checks.{Check, always, firstOf}
-use Rattle.header_bits.specs.Outcome.{Outcome, accepted, refused, judged}
+use Rattle.header_bits.specs.Outcome.{Outcome, accepted, refused, checked}
 use Rattle.header_bits.specs.declared.Bits.{Bits}
 use Rattle.header_bits.specs.declared.Bits.the-variants.{Value, Refused}
 
@@ -24,7 +24,7 @@ fieldChecks s p n = always wrongLength (ltb 65536 (length s)) ∷ always bitsRun
 
 -- u(n) of ISO/IEC 18181-1, read from bit p
 unfoldable pub u : ℕ → List ℕ → ℕ → Outcome ℕ
-u n s p = judged (firstOf (fieldChecks s p n)) (field s p n) (p + n)
+u n s p = checked (firstOf (fieldChecks s p n)) (field s p n) (p + n)
 
 -- the outcome for each case of the code's enum (Specification 1.5)
 abbrev pub bitsOutcome : Bits → Outcome ℕ

@@ -21,8 +21,8 @@ next (accepted a n) = n
 next (refused n) = 0
 
 -- a reading is accepted if its number is 0 and refused with it otherwise
-abbrev pub judged : {A : Type 0} → ℕ → A → ℕ → Outcome A
-judged n a next = cond (eqb n 0) (accepted a next) (refused n)
+abbrev pub checked : {A : Type 0} → ℕ → A → ℕ → Outcome A
+checked n a next = cond (eqb n 0) (accepted a next) (refused n)
 
 -- one reading after another: the second starts where the first ends, and a refusal ends the sequence
 abbrev pub andThen : {A B : Type 0} → Outcome A → (A → ℕ → Outcome B) → Outcome B

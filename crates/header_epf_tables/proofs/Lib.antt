@@ -1,3 +1,3 @@
-pub mod Told
+pub mod Answers
 mod Halves
 mod Cases

@@ -9,7 +9,7 @@ use lib.Dec.{eqb}
 use lib.ListN.{length}
 use lib.Ieee.{Float}
 use Rattle.refusals.specs.Checks.{firstOf}
-use Rattle.header_bits.specs.Outcome.{Outcome, accepted, refused, andThen, judged}
+use Rattle.header_bits.specs.Outcome.{Outcome, accepted, refused, andThen, checked}
 use Rattle.header_bits.specs.Bits.{u, field, fieldChecks}
 use Rattle.header_half.specs.Value.{halfOf}
 use Rattle.header_half.specs.Half.{f16, finite, halfChecks}
@@ -23,43 +23,43 @@ Numbered (refuse c n t) = (0 < n) × Numbered t
 Numbered (bundle a) = Unit
 
 -- an outcome that is accepted, or is refused with a number above 0
-abbrev pub Told : {A : Type 0} → Outcome A → Type 0
-Told (accepted a q) = Unit
-Told (refused n) = 0 < n
+abbrev pub RefusedAboveZero : {A : Type 0} → Outcome A → Type 0
+RefusedAboveZero (accepted a q) = Unit
+RefusedAboveZero (refused n) = 0 < n
 
-told-then : {A B : Type 0} (o : Outcome A) (f : A → ℕ → Outcome B) → Told o → ((a : A) (q : ℕ) → Told (f a q)) → Told (andThen o f)
-told-then (accepted a q) f h k = k a q
-told-then (refused n) f h k = h
+above-zero-then : {A B : Type 0} (o : Outcome A) (f : A → ℕ → Outcome B) → RefusedAboveZero o → ((a : A) (q : ℕ) → RefusedAboveZero (f a q)) → RefusedAboveZero (andThen o f)
+above-zero-then (accepted a q) f h k = k a q
+above-zero-then (refused n) f h k = h
 
-judged-told : {A : Type 0} (n : ℕ) (a : A) (q : ℕ) → Told (judged n a q)
-judged-told n a q = by (eqb n 0) refl
+checked-numbered : {A : Type 0} (n : ℕ) (a : A) (q : ℕ) → RefusedAboveZero (checked n a q)
+checked-numbered n a q = by (eqb n 0) refl
   where
-    by : (b : Bool) → eqb n 0 ≡ b → Told (cond b (accepted a q) (refused n))
+    by : (b : Bool) → eqb n 0 ≡ b → RefusedAboveZero (cond b (accepted a q) (refused n))
     by true e = tt
     by false e = pos-of-ne-zero (eqb-false n 0 e)
 
-told-if : {A : Type 0} (c : Bool) (o : Outcome A) (d : A) (p : ℕ) → Told o → Told (ifThere c o d p)
-told-if true o d p h = h
-told-if false o d p h = tt
+above-zero-if : {A : Type 0} (c : Bool) (o : Outcome A) (d : A) (p : ℕ) → RefusedAboveZero o → RefusedAboveZero (ifThere c o d p)
+above-zero-if true o d p h = h
+above-zero-if false o d p h = tt
 
-u-told : (n : ℕ) (s : List ℕ) (p : ℕ) → Told (u n s p)
+u-above-zero : (n : ℕ) (s : List ℕ) (p : ℕ) → RefusedAboveZero (u n s p)
 unfolding u
-u-told n s p = judged-told (firstOf (fieldChecks s p n)) (field s p n) (p + n)
+u-above-zero n s p = checked-numbered (firstOf (fieldChecks s p n)) (field s p n) (p + n)
 
-f16-told : (s : List ℕ) (p : ℕ) → Told (f16 s p)
+f16-above-zero : (s : List ℕ) (p : ℕ) → RefusedAboveZero (f16 s p)
 unfolding f16
-f16-told s p = told-then (u 16 s p) finite (u-told 16 s p) (λ h q. judged-told (firstOf (halfChecks h)) (halfOf h) q)
+f16-above-zero s p = above-zero-then (u 16 s p) finite (u-above-zero 16 s p) (λ h q. checked-numbered (firstOf (halfChecks h)) (halfOf h) q)
 
-f16s-told : (n : ℕ) (s : List ℕ) (p : ℕ) → Told (f16s n s p)
+f16s-above-zero : (n : ℕ) (s : List ℕ) (p : ℕ) → RefusedAboveZero (f16s n s p)
 unfolding f16s
-f16s-told zero s p = tt
-f16s-told (suc n) s p = told-then (f16s n s p) _ (f16s-told n s p) (λ vs q. told-then (f16 s q) _ (f16-told s q) (λ v r. tt))
+f16s-above-zero zero s p = tt
+f16s-above-zero (suc n) s p = above-zero-then (f16s n s p) _ (f16s-above-zero n s p) (λ vs q. above-zero-then (f16 s q) _ (f16-above-zero s q) (λ v r. tt))
 
-pub read-told : {A : Type 0} (t : Fields A) → Numbered t → (s : List ℕ) (p : ℕ) → Told (read t s p)
+pub read-above-zero : {A : Type 0} (t : Fields A) → Numbered t → (s : List ℕ) (p : ℕ) → RefusedAboveZero (read t s p)
 unfolding Numbered read
-read-told (bits c n d k) h s p = told-then (ifThere c (u n s p) d p) _ (told-if c _ d p (u-told n s p)) (λ v q. read-told (k v) (h v) s q)
-read-told (half c d k) h s p = told-then (ifThere c (f16 s p) d p) _ (told-if c _ d p (f16-told s p)) (λ v q. read-told (k v) (h v) s q)
-read-told (halves c d k) h s p = told-then (ifThere c (f16s (length d) s p) d p) _ (told-if c _ d p (f16s-told (length d) s p)) (λ v q. read-told (k v) (h v) s q)
-read-told (refuse true n t) h s p = h .0
-read-told (refuse false n t) h s p = read-told t (h .1) s p
-read-told (bundle a) h s p = tt
+read-above-zero (bits c n d k) h s p = above-zero-then (ifThere c (u n s p) d p) _ (above-zero-if c _ d p (u-above-zero n s p)) (λ v q. read-above-zero (k v) (h v) s q)
+read-above-zero (half c d k) h s p = above-zero-then (ifThere c (f16 s p) d p) _ (above-zero-if c _ d p (f16-above-zero s p)) (λ v q. read-above-zero (k v) (h v) s q)
+read-above-zero (halves c d k) h s p = above-zero-then (ifThere c (f16s (length d) s p) d p) _ (above-zero-if c _ d p (f16s-above-zero (length d) s p)) (λ v q. read-above-zero (k v) (h v) s q)
+read-above-zero (refuse true n t) h s p = h .0
+read-above-zero (refuse false n t) h s p = read-above-zero t (h .1) s p
+read-above-zero (bundle a) h s p = tt

@@ -1,6 +1,6 @@
 -- The first refusals of a table whose first field is always present. Assumes nothing.
 use mathlib.Core.Path.{sym}
-use Rattle.header_bits.proofs.Judged.{u-long, u-short}
+use Rattle.header_bits.proofs.Checked.{u-long, u-short}
 use Rattle.header_fields.specs.Fields.{read}
 use Rattle.header_fields.specs.Order.{TooLong, RunsOut}
 

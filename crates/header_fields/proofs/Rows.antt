@@ -21,8 +21,8 @@ assoc (accepted a q) f g = refl
 assoc (refused n) f g = refl
 
 -- from the result of a call to the definition in its contract
-pub told : {E A : Type 0} (f : E → Outcome A) {r v : E} {o : Outcome A} → r ≡ v → f r ≡ o → o ≡ f v
-told f e h = sym h ∙ ap f e
+pub answer-is : {E A : Type 0} (f : E → Outcome A) {r v : E} {o : Outcome A} → r ≡ v → f r ≡ o → o ≡ f v
+answer-is f e h = sym h ∙ ap f e
 
 -- ---- a Bool() field
 pub is-yes : (v : ℕ) → (v ≡ 0 → ⊥) → true ≡ yes v

@@ -27,7 +27,7 @@ fn near_zero(w0: f32, w1: f32) -> bool
     kernel < EPSILON
 }
 
-fn judged_channel(w0: f32, w1: f32, next: usize) -> Channel
+fn check_channel(w0: f32, w1: f32, next: usize) -> Channel
     ensures { λ r. ⌜ channelOutcome r ≡ cond (nearZero w0 w1) (refused kernelNearZero) (accepted (w0 ∷ w1 ∷ []) next) ⌝ }
 {
     if near_zero(w0, w1) {
@@ -42,7 +42,7 @@ pub fn read_channel(bytes: &[u8], at: usize) -> Channel
 {
     match header_half::read_f16_as_f32(bytes, at) {
         Half::Value(w0, at) => match header_half::read_f16_as_f32(bytes, at) {
-            Half::Value(w1, next) => judged_channel(w0, w1, next),
+            Half::Value(w1, next) => check_channel(w0, w1, next),
             Half::Refused(number) => Channel::Refused(number),
         },
         Half::Refused(number) => Channel::Refused(number),

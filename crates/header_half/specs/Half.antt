@@ -5,7 +5,7 @@ use lib.Dec.{eqb}
 use lib.Ieee.{Float, ofBits, binary32}
 use Rattle.refusals.specs.Numbers.{halfNotFinite}
 use Rattle.refusals.specs.Checks.{Check, always, firstOf}
-use Rattle.header_bits.specs.Outcome.{Outcome, accepted, refused, judged, andThen, number, value, next}
+use Rattle.header_bits.specs.Outcome.{Outcome, accepted, refused, checked, andThen, number, value, next}
 use Rattle.header_bits.specs.Bits.{u}
 use Rattle.header_half.specs.Value.{exponentOf, halfOf}
 use Rattle.header_half.specs.declared.Half.{Half}
@@ -18,7 +18,7 @@ halfChecks h = always halfNotFinite (eqb (exponentOf h) 31) ∷ []
 
 -- 16 bits as a half-precision number, refused if it is not finite
 abbrev pub finite : ℕ → ℕ → Outcome Float
-finite h next = judged (firstOf (halfChecks h)) (halfOf h) next
+finite h next = checked (firstOf (halfChecks h)) (halfOf h) next
 
 -- F16() of ISO/IEC 18181-1, read from bit p
 unfoldable pub f16 : List ℕ → ℕ → Outcome Float

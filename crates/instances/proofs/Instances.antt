@@ -3,10 +3,10 @@ use mathlib.Core.Path.{refl}
 use lib.Ieee.{ofBits, lt, add, sub, mul, div}
 use Rattle.mirror.specs.Mirror.{mirror}
 use Rattle.region_interval.specs.Interval.{powerBelow}
-use Rattle.region_axis.specs.Measures.{place, side}
+use Rattle.region_axis.specs.Measures.{cornerFits, sideFits}
 use Rattle.region.specs.Regions.{regionOf, inside}
 use Rattle.region_arithmetic.specs.Arithmetic.{shrunkBy, alignedTo}
-use Rattle.region.specs.Measures.{measured, pictured}
+use Rattle.region.specs.Measures.{boundsFit, pictureFits}
 use Rattle.region_arithmetic.specs.Answers.{regionAnswer}
 use Rattle.header_bits.specs.Bits.{u, field}
 use Rattle.header_half.specs.Value.{valueOf, halfOf}
@@ -28,14 +28,14 @@ use Rattle.sigma.specs.Sigma.{sigmaIn, frameSigma, aboveAt, blockSigma, blockSi
 use Rattle.planes_layout.specs.Outcome.{layoutOf}
 use Rattle.run_passes.specs.Pass.{pass}
 use Rattle.run_passes.specs.Plan.{scaleOf, stepOf, steps, plan}
-use Rattle.run_setup.specs.Setup.{bandCount, sized, numbersFit, setupFits}
-use Rattle.run_record.specs.Record.{isDone, started, marked, bandMissing, strayDone, runFits}
+use Rattle.run_setup.specs.Setup.{bandCount, sizeFits, numbersFit, setupFits}
+use Rattle.run_record.specs.Record.{isDone, started, marked, bandMissing, badDone, runFits}
 use Rattle.run_outcomes.specs.Band.{readsFirst, bandChecks, banded, bandOutcome, advanceOutcome}
 use Rattle.instances.specs.Instances.{bytesOf, Table}
 use Rattle.instances.proofs.Any.{copied-below, nan-sigma}
 
 pub table : Table
-unfolding ofBits lt add sub mul div mirror powerBelow place side regionOf shrunkBy alignedTo inside measured pictured regionAnswer u field valueOf halfOf f16 nested read nearZero channelFields channelsFields weightFields gaborFields bytesOf around of setOf tab inRect inFilter written inner passed stands evaluate formula alone gaborBy gaborPass magnitude kernel dists along scaledFrom apart distance positive weightBy copied weightAt blend divisor epf border multiplier epfPass sizesOf cells gridStart someBelow sigmaIn frameSigma aboveAt blockSigma blockSigmas layoutOf pass scaleOf stepOf steps plan bandCount sized numbersFit setupFits isDone started marked bandMissing strayDone runFits readsFirst bandChecks banded bandOutcome advanceOutcome
+unfolding ofBits lt add sub mul div mirror powerBelow cornerFits sideFits regionOf shrunkBy alignedTo inside boundsFit pictureFits regionAnswer u field valueOf halfOf f16 nested read nearZero channelFields channelsFields weightFields gaborFields bytesOf around of setOf tab inRect inFilter written inner passed stands evaluate formula alone gaborBy gaborPass magnitude kernel dists along scaledFrom apart distance positive weightBy copied weightAt blend divisor epf border multiplier epfPass sizesOf cells gridStart someBelow sigmaIn frameSigma aboveAt blockSigma blockSigmas layoutOf pass scaleOf stepOf steps plan bandCount sizeFits numbersFit setupFits isDone started marked bandMissing badDone runFits readsFirst bandChecks banded bandOutcome advanceOutcome
 table = record {
   mirrorOfOne = refl;
   mirrorOfTwo = refl;

@@ -3,9 +3,9 @@ use mathlib.Core.Path.{refl}
 use Rattle.header_bits.specs.Bits.{u}
 use Rattle.mirror.specs.Mirror.{mirror}
 use Rattle.region_interval.specs.Interval.{powerBelow}
-use Rattle.region_axis.specs.Measures.{place, side}
+use Rattle.region_axis.specs.Measures.{cornerFits, sideFits}
 use Rattle.region.specs.Regions.{regionOf, inside}
-use Rattle.region.specs.Measures.{measured, pictured}
+use Rattle.region.specs.Measures.{boundsFit, pictureFits}
 use Rattle.region_arithmetic.specs.Arithmetic.{shrunkBy, alignedTo}
 use Rattle.region_arithmetic.specs.Answers.{regionAnswer}
 use Rattle.frame.specs.Sizes.{sizesOf}
@@ -18,15 +18,15 @@ use Rattle.sigma_groups.specs.Outcome.{tableFits, gridsFit}
 use Rattle.planes_layout.specs.Outcome.{layoutOf, passOutcome}
 use Rattle.epf.specs.Outcome.{stepChecks, epfChecks, epfOutcome}
 use Rattle.run_passes.specs.Plan.{steps, plan, stepMargin, marginChecks, marginOutcome}
-use Rattle.run_setup.specs.Setup.{bandCount, sized, numbersFit, setupFits}
-use Rattle.run_record.specs.Record.{isDone, started, bandMissing, strayDone, runFits}
+use Rattle.run_setup.specs.Setup.{bandCount, sizeFits, numbersFit, setupFits}
+use Rattle.run_record.specs.Record.{isDone, started, bandMissing, badDone, runFits}
 use Rattle.run_outcomes.specs.Start.{pictureChecks, startChecks, startOutcome}
 use Rattle.run_outcomes.specs.Band.{bandChecks, bandOutcome, advanceOutcome}
 use Rattle.run_outcomes.specs.Result.{resultChecks, resultOutcome}
 use Rattle.instances.specs.Limits.{Limits}
 
 pub limits : Limits
-unfolding u mirror powerBelow place side regionOf inside measured pictured shrunkBy alignedTo regionAnswer sizesOf badSides badSettings badBlocks badGrid cells gridStart lacks someBelow noEntries notHeld someNotHeld tableFits gridsFit layoutOf passOutcome stepChecks epfChecks epfOutcome steps plan stepMargin marginChecks marginOutcome bandCount sized numbersFit setupFits isDone started bandMissing strayDone runFits pictureChecks startChecks startOutcome bandChecks bandOutcome advanceOutcome resultChecks resultOutcome
+unfolding u mirror powerBelow cornerFits sideFits regionOf inside boundsFit pictureFits shrunkBy alignedTo regionAnswer sizesOf badSides badSettings badBlocks badGrid cells gridStart lacks someBelow noEntries notHeld someNotHeld tableFits gridsFit layoutOf passOutcome stepChecks epfChecks epfOutcome steps plan stepMargin marginChecks marginOutcome bandCount sizeFits numbersFit setupFits isDone started bandMissing badDone runFits pictureChecks startChecks startOutcome bandChecks bandOutcome advanceOutcome resultChecks resultOutcome
 limits = record {
   regionSide = (refl, refl);
   regionRight = (refl, refl);

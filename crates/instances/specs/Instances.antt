@@ -63,8 +63,8 @@ tiny = bits 0x3380_0000
 
 -- ---- mirror and regions
 
-abbrev pub place : ℕ → MirrorAnswer
-place p = record { number = 0; place = p }
+abbrev pub indexOf : ℕ → MirrorAnswer
+indexOf p = record { number = 0; index = p }
 
 -- left and top −3, sides 5
 abbrev pub square : Region
@@ -208,10 +208,10 @@ blockRow grids modular y =
 
 pub record Table : Type 0 where
   -- ★ mirror: −1 among 1 is 0; −3 among 2 is 1; 5 among 4 is 2; 7 among 3 is 1
-  pub mirrorOfOne : mirrorOutcome (negsuc 0) 1 ≡ place 0
-  pub mirrorOfTwo : mirrorOutcome (negsuc 2) 2 ≡ place 1
-  pub mirrorOfFour : mirrorOutcome (pos 5) 4 ≡ place 2
-  pub mirrorOfThree : mirrorOutcome (pos 7) 3 ≡ place 1
+  pub mirrorOfOne : mirrorOutcome (negsuc 0) 1 ≡ indexOf 0
+  pub mirrorOfTwo : mirrorOutcome (negsuc 2) 2 ≡ indexOf 1
+  pub mirrorOfFour : mirrorOutcome (pos 5) 4 ≡ indexOf 2
+  pub mirrorOfThree : mirrorOutcome (pos 7) 3 ≡ indexOf 1
   -- ★ border multiplier: all of rows 7 and 8; in rows 6 and 9 only the columns that are 0 or 7 modulo 8
   pub borderSix : across 6 ≡ atColumns
   pub borderSeven : across 7 ≡ everywhere

@@ -59,15 +59,15 @@ frameNumber side upsampling level shift =
     frameOutcome (record { width = side; height = side; upsampling = upsampling; «lf_level» = level; «group_size_shift» = shift }) .number
 
 -- a setup: image and filter region, `preserve_outside`, Gabor's flag, iterations and band height
-abbrev pub told : Region → Region → ℕ → ℕ → ℕ → ℕ → Setup
-told image filter full gabor iters height =
+abbrev pub setupWith : Region → Region → ℕ → ℕ → ℕ → ℕ → Setup
+setupWith image filter full gabor iters height =
     let s = begun .run .setup in
     let g = gaborOf gabor (s .settings .gabor .weights) in
     withBandHeight height (withSettings (withGabor g (withIters iters (s .settings))) (withFull full (withRegions image filter s)))
 
 -- advance on a record of w × h samples with these iterations and this band height, as start returns it: 9, or 11 since no band is done
 abbrev pub recordNumber : ℕ → ℕ → ℕ → ℕ → ℕ
-recordNumber w h iters height = advanceOutcome (started (told (sides w h) (sides w h) 1 0 iters height)) .number
+recordNumber w h iters height = advanceOutcome (started (setupWith (sides w h) (sides w h) 1 0 iters height)) .number
 
 -- ---- lengths that depend on the record: 7 if its sides are in range, otherwise 9
 
@@ -77,15 +77,15 @@ single = b0 ∷ b0 ∷ b0 ∷ []
 
 -- a band with an image of w × h samples, both sets empty
 abbrev pub setsNumber : ℕ → ℕ → ℕ
-setsNumber w h = bandOutcome 3 (record { run = started (told (sides w h) (sides 1 1) 1 0 0 1); sigmas = []; first = []; second = [] }) 0 .number
+setsNumber w h = bandOutcome 3 (record { run = started (setupWith (sides w h) (sides 1 1) 1 0 0 1); sigmas = []; first = []; second = [] }) 0 .number
 
 -- a band with a filter region of w × h samples, no block sigmas
 abbrev pub noSigmasNumber : ℕ → ℕ → ℕ
-noSigmasNumber w h = bandOutcome 3 (record { run = started (told (sides 1 1) (sides w h) 1 0 1 1); sigmas = []; first = single; second = single }) 0 .number
+noSigmasNumber w h = bandOutcome 3 (record { run = started (setupWith (sides 1 1) (sides w h) 1 0 1 1); sigmas = []; first = single; second = single }) 0 .number
 
 -- the result of a filter region of w × h samples, with an empty slice
 abbrev pub sliceNumber : ℕ → ℕ → ℕ
-sliceNumber w h = resultOutcome 3 (started (told (sides 1 1) (sides w h) 0 0 0 1)) single single [] .number
+sliceNumber w h = resultOutcome 3 (started (setupWith (sides 1 1) (sides w h) 0 0 0 1)) single single [] .number
 
 -- ---- an image of 16 × 8 samples, a filter region of 8 × 8 in it, and one group with a grid of one cell
 
@@ -99,7 +99,7 @@ planesOf = replicate 384 b0
 abbrev pub startNumber : ℕ → ℕ → ℕ → ℕ → ℕ
 startNumber left full gabor presence =
     startOutcome 3 (record {
-      setup = told (sides 16 8) (eightFrom left) full gabor 1 8;
+      setup = setupWith (sides 16 8) (eightFrom left) full gabor 1 8;
       frame = record { width = 16; height = 8; upsampling = 1; «lf_level» = 0; «group_size_shift» = 0 };
       table = presence ∷ 1 ∷ 1 ∷ [];
       grids = b1 ∷ [];
@@ -122,7 +122,7 @@ sigmasNumber left on presence =
 -- ---- the margin, with Gabor's flag and the iterations
 
 abbrev pub marginOf : ℕ → ℕ → MarginAnswer
-marginOf gabor iters = marginOutcome (told (sides 1 1) (sides 1 1) 1 gabor iters 1 .settings)
+marginOf gabor iters = marginOutcome (setupWith (sides 1 1) (sides 1 1) 1 gabor iters 1 .settings)
 
 -- the sample width of a frame 1,000 wide at an LF level
 abbrev pub columnsAt : ℕ → ℕ

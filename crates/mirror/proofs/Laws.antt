@@ -185,8 +185,8 @@ mirror-odd n k p e =
         ap (λ (q : ℕ). q * n) h ∙ suc-mul (k / n / 2 * 2) n ∙ ap (λ (t : ℕ). t + n) (mul-assoc (k / n / 2) 2 n)
 
 -- x - back if it is not negative
-pub mirror-ahead : (n x back : ℕ) → back ≤ x → mirror (pos (x - back)) n ≡ mirror (subℕ x back) n
-mirror-ahead n x back h = rw (le-ltb x back h)
+pub mirror-not-negative : (n x back : ℕ) → back ≤ x → mirror (pos (x - back)) n ≡ mirror (subℕ x back) n
+mirror-not-negative n x back h = rw (le-ltb x back h)
 
 -- x - back if it is negative
 pub mirror-back : (n x back : ℕ) → x < back → mirror (pos (back - x - 1)) n ≡ mirror (subℕ x back) n

@@ -21,7 +21,7 @@ mirrorChecks offset len =
 
 -- a refusal has the index 0
 abbrev pub mirrorAnswered : ℕ → ℕ → MirrorAnswer
-mirrorAnswered number place = record { number = number; place = cond (eqb number 0) place 0 }
+mirrorAnswered number index = record { number = number; index = cond (eqb number 0) index 0 }
 
 -- the number of the first check that applies, and the mirrored index if none does
 abbrev pub mirrorOutcome : ℤ → ℕ → MirrorAnswer

@@ -14,21 +14,21 @@ const MAX_OFFSET: isize = 1_048_576;
 #[repr(C)]
 pub struct MirrorAnswer {
     pub number: u32,
-    pub place: usize,
+    pub index: usize,
 }
 
 // The mirrored index of a number that is not negative. Runs of n indices ascend and descend alternately.
-fn place(ahead: usize, n: usize) -> usize
-    ensures { λ r. ⌜ r ≡ mirror (pos ahead) n ⌝ }
+fn reflected(index: usize, n: usize) -> usize
+    ensures { λ r. ⌜ r ≡ mirror (pos index) n ⌝ }
 {
-    if ahead < n {
-        return ahead;
+    if index < n {
+        return index;
     }
     if n == 0 {
         return 0;
     }
-    let run = ahead / n;
-    let inner = ahead % n;
+    let run = index / n;
+    let inner = index % n;
     if run % 2 == 0 { inner } else { n - 1 - inner }
 }
 
@@ -37,9 +37,9 @@ pub fn mirrored(x: usize, back: usize, n: usize) -> usize
     ensures { λ r. ⌜ r ≡ mirror (subℕ x back) n ⌝ }
 {
     if back <= x {
-        return place(x - back, n);
+        return reflected(x - back, n);
     }
-    place(back - x - 1, n)
+    reflected(back - x - 1, n)
 }
 
 // The offset, or -1 - offset if it is negative: both have the same mirrored index.
@@ -57,7 +57,7 @@ fn refused() -> MirrorAnswer
 {
     MirrorAnswer {
         number: refusals::OUT_OF_RANGE,
-        place: 0,
+        index: 0,
     }
 }
 
@@ -79,6 +79,6 @@ pub fn mirror(offset: isize, len: usize) -> MirrorAnswer
     }
     MirrorAnswer {
         number: refusals::ACCEPTED,
-        place: place(unsigned(offset), len),
+        index: reflected(unsigned(offset), len),
     }
 }

@@ -54,12 +54,12 @@ pub record SetFits (l : Layout) (n len : ℕ) : Type 0 where
 
 pub set-facts : (l : Layout) (n len : ℕ) → setFits l n len ≡ true → SetFits l n len
 set-facts l n len e =
-    let sized = eqb len (n * l .image .height * l .image .width) in
-    let few = and-second (layoutFits l) (leb n 3 && sized) e in
+    let sizeFits = eqb len (n * l .image .height * l .image .width) in
+    let few = and-second (layoutFits l) (leb n 3 && sizeFits) e in
     record {
-      layout = layout-fits l (and-first (layoutFits l) (leb n 3 && sized) e);
-      planes = leb-true _ _ (and-first (leb n 3) sized few);
-      size = eqb-true _ _ (and-second (leb n 3) sized few);
+      layout = layout-fits l (and-first (layoutFits l) (leb n 3 && sizeFits) e);
+      planes = leb-true _ _ (and-first (leb n 3) sizeFits few);
+      size = eqb-true _ _ (and-second (leb n 3) sizeFits few);
     }
 
 pub set-true : (l : Layout) (n len : ℕ) → SetFits l n len → setFits l n len ≡ true

@@ -2,7 +2,7 @@
 // and rows fit it.
 use limits::MAX_SIDE;
 ghost use mathlib.Core.Path.{_≡_};
-ghost use Prim.Native.Nat.{ℕ, _+_, _≤_, min};
+ghost use Prim.Native.Nat.{ℕ, _+_, _≤_};
 ghost use lib.Dec.{leb};
 ghost use lib.ListN.{length, getD};
 ghost use lib.Ieee.{nan};
@@ -28,16 +28,6 @@ pub struct Layout {
     pub width: usize,
     pub height: usize,
     pub full: bool,
-}
-
-// The minimum of two numbers.
-pub fn at_most(x: usize, k: usize) -> usize
-    ensures { λ r. ⌜ r ≡ min x k ⌝ }
-{
-    if x < k {
-        return x;
-    }
-    k
 }
 
 // Whether n samples from index `at` end at `end` or before.

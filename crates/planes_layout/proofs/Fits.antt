@@ -11,15 +11,15 @@ use lib.IntN.{ℤ, pos, natAbs, _+ℤ_, _-ℤ_}
 use lib.Ieee.{Float}
 use lib.Ieee.Fits.{and-l, and-r}
 use lib.Signed.{leZ}
-use Rattle.refusals.specs.Numbers.{outOfMeasure, notInside, wrongLength, outOfRange}
+use Rattle.refusals.specs.Numbers.{outOfLimits, notInside, wrongLength, outOfRange}
 use Rattle.refusals.specs.Checks.{firstOf}
 use Rattle.refusals.specs.Flags.{flagFits, flagSet}
 use Rattle.region_overlap.specs.Overlap.{covers}
-use Rattle.region_interval.proofs.Order.{le-to, sum-is, difference-is, size-is, ahead}
+use Rattle.region_interval.proofs.Order.{le-to, sum-is, difference-is, size-is, not-negative-difference}
 use Rattle.region.specs.declared.Region.{Region}
 use Rattle.region.specs.Regions.{columns, rows, inside}
-use Rattle.region.specs.Measures.{pictured}
-use Rattle.region.proofs.Laws.{pictured-measured, pictured-width, pictured-height, measured-width, measured-height}
+use Rattle.region.specs.Measures.{pictureFits}
+use Rattle.region.proofs.Laws.{picture-bounds, picture-width, picture-height, bounds-width, bounds-height}
 use Rattle.region_placement.specs.declared.PlacedAnswer.{PlacedAnswer}
 use Rattle.region_placement.specs.Placed.{placedChecks, placedOutcome}
 use Rattle.planes.specs.declared.Layout.{Layout}
@@ -31,11 +31,11 @@ use Rattle.planes_layout.specs.Outcome.{layoutOf, noLayout, layoutAnswer
 -- containment on one axis
 part-fits : (a b : ℤ) (n m : ℕ) → T (leZ a b) → T (leZ (b +ℤ pos m) (a +ℤ pos n)) → natAbs (b -ℤ a) + m ≤ n
 part-fits a b n m h k =
-    omega (arith, le-to a b h, le-to (b +ℤ pos m) (a +ℤ pos n) k, sum-is a (pos n), sum-is b (pos m), difference-is b a, size-is (b -ℤ a), ahead a b (le-to a b h))
+    omega (arith, le-to a b h, le-to (b +ℤ pos m) (a +ℤ pos n) k, sum-is a (pos n), sum-is b (pos m), difference-is b a, size-is (b -ℤ a), not-negative-difference a b (le-to a b h))
 
 -- ---- the tests that number 0 implies
 
-pub zero-is : (a b c : Bool) → cond (true && not (a && b)) outOfMeasure (cond (true && not c) notInside 0) ≡ 0 → T a × T b × T c
+pub zero-is : (a b c : Bool) → cond (true && not (a && b)) outOfLimits (cond (true && not c) notInside 0) ≡ 0 → T a × T b × T c
 zero-is true true true e = (tt, tt, tt)
 zero-is true true false e = absurd (omega arith)
 zero-is true false c e = absurd (omega arith)
@@ -50,14 +50,14 @@ module _ (image filter : Region) (full : Bool) (ok : firstOf (placedChecks image
   pub layout-accepted : Accepted (layoutOf image filter full)
   unfolding layoutOf inside
   layout-accepted =
-      let z = zero-is (pictured image) (pictured filter) (inside image filter) ok in
-      let m = pictured-measured image (z .0) in
+      let z = zero-is (pictureFits image) (pictureFits filter) (inside image filter) ok in
+      let m = picture-bounds image (z .0) in
       let i = and-l (covers (columns image) (columns filter)) (covers (rows image) (rows filter)) (z .2) in
       let j = and-r (covers (columns image) (columns filter)) (covers (rows image) (rows filter)) (z .2) in
       record {
         fits = record {
-          wide = measured-width image m;
-          high = measured-height image m;
+          wide = bounds-width image m;
+          high = bounds-height image m;
           across = part-fits (image .left) (filter .left) (image .width) (filter .width)
               (and-l (leZ (image .left) (filter .left)) (leZ (columns filter .end) (columns image .end)) i)
               (and-r (leZ (image .left) (filter .left)) (leZ (columns filter .end) (columns image .end)) i);
@@ -65,8 +65,8 @@ module _ (image filter : Region) (full : Bool) (ok : firstOf (placedChecks image
               (and-l (leZ (image .top) (filter .top)) (leZ (rows filter .end) (rows image .end)) j)
               (and-r (leZ (image .top) (filter .top)) (leZ (rows filter .end) (rows image .end)) j);
         };
-        wide = pictured-width filter (z .1);
-        high = pictured-height filter (z .1);
+        wide = picture-width filter (z .1);
+        high = picture-height filter (z .1);
       }
 
   layout-true : layoutFits (layoutOf image filter full) ≡ true
@@ -76,21 +76,21 @@ module _ (image filter : Region) (full : Bool) (ok : firstOf (placedChecks image
       rw (le-leb (l .image .width) 16384 (f .wide), le-leb (l .image .height) 16384 (f .high), le-leb (l .left + l .width) (l .image .width) (f .across), le-leb (l .top + l .height) (l .image .height) (f .down))
 
   -- in an accepted layout, whether a slice is a set depends on its length alone
-  length-judged : (n len : ℕ) → n ≤ 3 → setFits (layoutOf image filter full) n len ≡ eqb len (n * image .height * image .width)
+  length-checked : (n len : ℕ) → n ≤ 3 → setFits (layoutOf image filter full) n len ≡ eqb len (n * image .height * image .width)
   unfolding layoutOf
-  length-judged n len few = rw (layout-true, le-leb n 3 few)
+  length-checked n len few = rw (layout-true, le-leb n 3 few)
 
 -- ---- the number of a pass: 4 and 5 come first
 
-pub placed-or : (a b c : Bool) (k m : ℕ) → k ≡ cond (true && not (a && b)) outOfMeasure (cond (true && not c) notInside 0) → (k ≡ 0 → ⊥)
-    → k ≡ cond (true && not (a && b)) outOfMeasure (cond (true && not c) notInside m)
+pub placed-or : (a b c : Bool) (k m : ℕ) → k ≡ cond (true && not (a && b)) outOfLimits (cond (true && not c) notInside 0) → (k ≡ 0 → ⊥)
+    → k ≡ cond (true && not (a && b)) outOfLimits (cond (true && not c) notInside m)
 placed-or true true true k m e n = absurd (n e)
 placed-or true true false k m e n = e
 placed-or true false c k m e n = e
 placed-or false b c k m e n = e
 
-pub then : (a b c : Bool) (m : ℕ) → cond (true && not (a && b)) outOfMeasure (cond (true && not c) notInside 0) ≡ 0
-    → m ≡ cond (true && not (a && b)) outOfMeasure (cond (true && not c) notInside m)
+pub then : (a b c : Bool) (m : ℕ) → cond (true && not (a && b)) outOfLimits (cond (true && not c) notInside 0) ≡ 0
+    → m ≡ cond (true && not (a && b)) outOfLimits (cond (true && not c) notInside m)
 then true true true m e = refl
 then true true false m e = absurd (omega arith)
 then true false c m e = absurd (omega arith)
@@ -109,40 +109,40 @@ module _ (image filter : Region) (full n from to : ℕ) (src dst : List Float) w
 
   pub not-placed : (k : ℕ) → k ≡ firstOf (placedChecks image filter) → (k ≡ 0 → ⊥) → Number k
   unfolding passChecks
-  not-placed k e h = placed-or (pictured image) (pictured filter) (inside image filter) k _ e h
+  not-placed k e h = placed-or (pictureFits image) (pictureFits filter) (inside image filter) k _ e h
 
   module _ (ok : firstOf (placedChecks image filter) ≡ 0) (few : n ≤ 3) where
     pub wrong-source : setFits at-full n (length src) ≡ false → Number wrongLength
     unfolding passChecks
     wrong-source e =
-        let z : eqb (length src) (n * image .height * image .width) ≡ false = sym (length-judged image filter (flagSet full) ok n (length src) few) ∙ e in
-        rw z (then (pictured image) (pictured filter) (inside image filter) wrongLength ok)
+        let z : eqb (length src) (n * image .height * image .width) ≡ false = sym (length-checked image filter (flagSet full) ok n (length src) few) ∙ e in
+        rw z (then (pictureFits image) (pictureFits filter) (inside image filter) wrongLength ok)
 
     pub wrong-target : setFits at-full n (length dst) ≡ false → Number wrongLength
     unfolding passChecks
     wrong-target e =
-        let z : eqb (length dst) (n * image .height * image .width) ≡ false = sym (length-judged image filter (flagSet full) ok n (length dst) few) ∙ e in
-        rw z (not-both (eqb (length src) (n * image .height * image .width)) _ ∙ then (pictured image) (pictured filter) (inside image filter) _ ok)
+        let z : eqb (length dst) (n * image .height * image .width) ≡ false = sym (length-checked image filter (flagSet full) ok n (length dst) few) ∙ e in
+        rw z (not-both (eqb (length src) (n * image .height * image .width)) _ ∙ then (pictureFits image) (pictureFits filter) (inside image filter) _ ok)
 
     module _ (s : setFits at-full n (length src) ≡ true) (t : setFits at-full n (length dst) ≡ true) where
       source-is : eqb (length src) (n * image .height * image .width) ≡ true
-      source-is = sym (length-judged image filter (flagSet full) ok n (length src) few) ∙ s
+      source-is = sym (length-checked image filter (flagSet full) ok n (length src) few) ∙ s
 
       target-is : eqb (length dst) (n * image .height * image .width) ≡ true
-      target-is = sym (length-judged image filter (flagSet full) ok n (length dst) few) ∙ t
+      target-is = sym (length-checked image filter (flagSet full) ok n (length dst) few) ∙ t
 
       pub wrong-flag : flagFits full ≡ false → Number outOfRange
       unfolding passChecks
-      wrong-flag e = rw (source-is, target-is, e) (then (pictured image) (pictured filter) (inside image filter) outOfRange ok)
+      wrong-flag e = rw (source-is, target-is, e) (then (pictureFits image) (pictureFits filter) (inside image filter) outOfRange ok)
 
       module _ (f : flagFits full ≡ true) where
         pub wrong-rows : rowsFit at-full from to ≡ false → Number outOfRange
         unfolding passChecks
-        wrong-rows e = rw (source-is, target-is, f, e) (then (pictured image) (pictured filter) (inside image filter) outOfRange ok)
+        wrong-rows e = rw (source-is, target-is, f, e) (then (pictureFits image) (pictureFits filter) (inside image filter) outOfRange ok)
 
         pub pass-accepted : rowsFit at-full from to ≡ true → Number 0
         unfolding passChecks
-        pass-accepted e = rw (source-is, target-is, f, e) (then (pictured image) (pictured filter) (inside image filter) 0 ok)
+        pass-accepted e = rw (source-is, target-is, f, e) (then (pictureFits image) (pictureFits filter) (inside image filter) 0 ok)
 
 -- ---- the answer
 

@@ -17,8 +17,8 @@ abbrev pub kernelNearZero : ℕ
 kernelNearZero = 3
 
 -- a left, top, side or area exceeds its limits
-abbrev pub outOfMeasure : ℕ
-outOfMeasure = 4
+abbrev pub outOfLimits : ℕ
+outOfLimits = 4
 
 -- the filter region is not inside the image region
 abbrev pub notInside : ℕ

@@ -13,7 +13,7 @@ pub const HALF_NOT_FINITE: u32 = 2;
 pub const KERNEL_NEAR_ZERO: u32 = 3;
 
 // From the description of a picture.
-pub const OUT_OF_MEASURE: u32 = 4;
+pub const OUT_OF_LIMITS: u32 = 4;
 
 pub const NOT_INSIDE: u32 = 5;
 

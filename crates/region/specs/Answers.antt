@@ -4,9 +4,9 @@ use mathlib.Core.List.{List, [], _∷_}
 use Prim.Native.Nat.{ℕ}
 use lib.Dec.{eqb}
 use lib.IntN.{ℤ, pos}
-use Rattle.refusals.specs.Numbers.{outOfMeasure}
+use Rattle.refusals.specs.Numbers.{outOfLimits}
 use Rattle.refusals.specs.Checks.{Check, always, firstOf}
-use Rattle.region.specs.Measures.{measured}
+use Rattle.region.specs.Measures.{boundsFit}
 use Rattle.region.specs.Regions.{columns, rows, isEmpty, contains}
 use Rattle.region.specs.declared.Region.{Region}
 use Rattle.region.specs.declared.BoolAnswer.{BoolAnswer}
@@ -21,10 +21,10 @@ edgeAnswer n z = record { number = n; edge = cond (eqb n 0) z (pos 0) }
 -- ---- tables of checks, for each given region
 
 abbrev pub givenChecks : Region → List Check
-givenChecks r = always outOfMeasure (not (measured r)) ∷ []
+givenChecks r = always outOfLimits (not (boundsFit r)) ∷ []
 
 abbrev pub pairChecks : Region → Region → List Check
-pairChecks a b = always outOfMeasure (not (measured a && measured b)) ∷ []
+pairChecks a b = always outOfLimits (not (boundsFit a && boundsFit b)) ∷ []
 
 -- ---- the outcome of each public method, for every input
 

@@ -1,7 +1,7 @@
 // Regions and tests on them (region.rs of the original). Each method checks the given regions against the limits of
 // Specification 4.1.
 use refusals::ACCEPTED;
-use refusals::OUT_OF_MEASURE;
+use refusals::OUT_OF_LIMITS;
 use region_interval::Span;
 ghost use mathlib.Core.Path.{_≡_};
 ghost use mathlib.Core.Bool.{false};
@@ -10,8 +10,8 @@ ghost use lib.Dec.{T};
 ghost use lib.IntN.{pos};
 ghost use lib.Signed.{mag};
 ghost use Rattle.refusals.specs.Checks.{firstOf};
-ghost use Rattle.region_axis.specs.Measures.{measured as measuredSpan};
-ghost use Rattle.region.specs.Measures.{measured};
+ghost use Rattle.region_axis.specs.Measures.{spanFits};
+ghost use Rattle.region.specs.Measures.{boundsFit};
 ghost use Rattle.region.specs.Regions.{columns, rows, isEmpty, inside, contains};
 ghost use Rattle.region.specs.Answers.{boolAnswer, edgeAnswer, givenChecks, isEmptyOutcome, rightOutcome, bottomOutcome, containsOutcome};
 
@@ -48,14 +48,14 @@ fn rows(r: Region) -> Span
 }
 
 fn within(s: Span) -> bool
-    ensures { λ b. ⌜ b ≡ measuredSpan s ⌝ }
+    ensures { λ b. ⌜ b ≡ spanFits s ⌝ }
 {
-    region_axis::judge(s).ok
+    region_axis::check_span(s).ok
 }
 
 // Whether a region is within the limits of region arithmetic: sides may be 0, and the area has no limit.
-pub fn measured(r: Region) -> bool
-    ensures { λ b. ⌜ b ≡ measured r ⌝ }
+pub fn bounds_fit(r: Region) -> bool
+    ensures { λ b. ⌜ b ≡ boundsFit r ⌝ }
 {
     if !within(columns(r)) {
         return false;
@@ -72,7 +72,7 @@ fn empty(r: Region) -> bool
     r.height == 0
 }
 
-fn told(holds: bool) -> BoolAnswer
+fn bool_answer(holds: bool) -> BoolAnswer
     ensures { λ r. ⌜ r ≡ boolAnswer 0 holds ⌝ }
 {
     BoolAnswer {
@@ -81,7 +81,7 @@ fn told(holds: bool) -> BoolAnswer
     }
 }
 
-fn untold(number: u32) -> BoolAnswer
+fn bool_refused(number: u32) -> BoolAnswer
     ensures { λ r. ⌜ r ≡ record { number = number; holds = false } ⌝ }
 {
     BoolAnswer {
@@ -108,11 +108,11 @@ fn no_edge(number: u32) -> EdgeAnswer
 
 // The end of a span of r, if r is within the limits.
 fn edge_of(r: Region, s: Span) -> EdgeAnswer
-    requires { ⌜ (T (measured r) → mag (s .end) < 0x8000_0000) ⌝ }
+    requires { ⌜ (T (boundsFit r) → mag (s .end) < 0x8000_0000) ⌝ }
     ensures { λ a. ⌜ a ≡ edgeAnswer (firstOf (givenChecks r)) (s .end) ⌝ }
 {
-    if !measured(r) {
-        return no_edge(OUT_OF_MEASURE);
+    if !bounds_fit(r) {
+        return no_edge(OUT_OF_LIMITS);
     }
     edge_at(s)
 }
@@ -122,10 +122,10 @@ impl Region {
     pub fn is_empty(self) -> BoolAnswer
         ensures { λ r. ⌜ r ≡ isEmptyOutcome self ⌝ }
     {
-        if !measured(self) {
-            return untold(OUT_OF_MEASURE);
+        if !bounds_fit(self) {
+            return bool_refused(OUT_OF_LIMITS);
         }
-        told(empty(self))
+        bool_answer(empty(self))
     }
 
     // left + width, or refusal 4.
@@ -146,13 +146,13 @@ impl Region {
     pub fn contains(self, target: Region) -> BoolAnswer
         ensures { λ r. ⌜ r ≡ containsOutcome self target ⌝ }
     {
-        if !measured(self) {
-            return untold(OUT_OF_MEASURE);
+        if !bounds_fit(self) {
+            return bool_refused(OUT_OF_LIMITS);
         }
-        if !measured(target) {
-            return untold(OUT_OF_MEASURE);
+        if !bounds_fit(target) {
+            return bool_refused(OUT_OF_LIMITS);
         }
-        told(holds(self, target))
+        bool_answer(holds(self, target))
     }
 }
 

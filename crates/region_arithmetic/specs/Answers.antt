@@ -4,10 +4,10 @@ use mathlib.Core.List.{List, [], _∷_}
 use Prim.Native.Nat.{ℕ}
 use lib.Dec.{eqb, leb}
 use lib.IntN.{ℤ}
-use Rattle.refusals.specs.Numbers.{outOfMeasure, outOfRange}
+use Rattle.refusals.specs.Numbers.{outOfLimits, outOfRange}
 use Rattle.refusals.specs.Checks.{Check, always, given, firstOf}
 use Rattle.region_interval.specs.Interval.{powerBelow}
-use Rattle.region.specs.Measures.{measured}
+use Rattle.region.specs.Measures.{boundsFit}
 use Rattle.region.specs.Regions.{zeroRegion}
 use Rattle.region.specs.Answers.{givenChecks, pairChecks}
 use Rattle.region.specs.declared.Region.{Region}
@@ -20,12 +20,12 @@ regionAnswer n r = record { number = n; region = cond (eqb n 0) r zeroRegion }
 -- ---- tables of checks: the given regions, then the result
 
 abbrev pub madeChecks : Region → Region → List Check
-madeChecks r made = always outOfMeasure (not (measured r)) ∷ always outOfMeasure (not (measured made)) ∷ []
+madeChecks r made = always outOfLimits (not (boundsFit r)) ∷ always outOfLimits (not (boundsFit made)) ∷ []
 
 -- the result is checked only if the setting that it needs is in range
 abbrev pub settingChecks : Region → Bool → Region → List Check
 settingChecks r sound made =
-    always outOfMeasure (not (measured r)) ∷ given sound outOfMeasure (not (measured made)) ∷ always outOfRange (not sound) ∷ []
+    always outOfLimits (not (boundsFit r)) ∷ given sound outOfLimits (not (boundsFit made)) ∷ always outOfRange (not sound) ∷ []
 
 -- downsampling factors: 0 to 16
 abbrev pub isFactor : ℕ → Bool
@@ -36,8 +36,8 @@ abbrev pub isAlignment : ℕ → Bool
 isAlignment d = powerBelow 14 d
 
 -- the number of a resulting region: 4 if it exceeds the limits
-unfoldable pub judgedNumber : Region → ℕ
-judgedNumber r = firstOf (givenChecks r)
+unfoldable pub regionNumber : Region → ℕ
+regionNumber r = firstOf (givenChecks r)
 
 -- ---- the outcome of each public function, for every input
 

@@ -1,20 +1,20 @@
 // Operations that return a region (region.rs of the original). Each function checks the given regions and its result
 // against the limits of Specification 4.1.
 use refusals::ACCEPTED;
-use refusals::OUT_OF_MEASURE;
+use refusals::OUT_OF_LIMITS;
 use refusals::OUT_OF_RANGE;
 use region::Region;
-use region::measured;
+use region::bounds_fit;
 use region_interval::LARGEST_EXPONENT;
 use region_interval::Span;
 ghost use mathlib.Core.Path.{_≡_};
 ghost use lib.Dec.{T};
 ghost use Rattle.region_interval.specs.Interval.{spanOf};
 ghost use Rattle.region_overlap.specs.Overlap.{meet};
-ghost use Rattle.region.specs.Measures.{measured};
+ghost use Rattle.region.specs.Measures.{boundsFit};
 ghost use Rattle.region.specs.Regions.{regionOf, zeroRegion};
 ghost use Rattle.region_arithmetic.specs.Arithmetic.{intersected};
-ghost use Rattle.region_arithmetic.specs.Answers.{regionAnswer, judgedNumber, isAlignment, translateOutcome, intersectionOutcome, padOutcome, downsampleOutcome, alignedOutcome};
+ghost use Rattle.region_arithmetic.specs.Answers.{regionAnswer, regionNumber, isAlignment, translateOutcome, intersectionOutcome, padOutcome, downsampleOutcome, alignedOutcome};
 
 #[repr(C)]
 pub struct RegionAnswer {
@@ -39,16 +39,16 @@ fn refused(number: u32) -> RegionAnswer
 }
 
 // The region of these columns and rows if it is within the limits, or refusal 4.
-fn judged(x: Span, y: Span) -> RegionAnswer
-    ensures { λ r. ⌜ r ≡ regionAnswer (judgedNumber (regionOf x y)) (regionOf x y) ⌝ }
+fn check_made(x: Span, y: Span) -> RegionAnswer
+    ensures { λ r. ⌜ r ≡ regionAnswer (regionNumber (regionOf x y)) (regionOf x y) ⌝ }
 {
-    let across = region_axis::judge(x);
-    let down = region_axis::judge(y);
+    let across = region_axis::check_span(x);
+    let down = region_axis::check_span(y);
     if !across.ok {
-        return refused(OUT_OF_MEASURE);
+        return refused(OUT_OF_LIMITS);
     }
     if !down.ok {
-        return refused(OUT_OF_MEASURE);
+        return refused(OUT_OF_LIMITS);
     }
     RegionAnswer {
         number: ACCEPTED,
@@ -75,10 +75,10 @@ fn is_alignment(grid_dim: u32) -> bool
 pub fn translate(r: Region, x: i32, y: i32) -> RegionAnswer
     ensures { λ a. ⌜ a ≡ translateOutcome r x y ⌝ }
 {
-    if !measured(r) {
-        return refused(OUT_OF_MEASURE);
+    if !bounds_fit(r) {
+        return refused(OUT_OF_LIMITS);
     }
-    judged(
+    check_made(
         region_interval::moved(r.left, r.width, x),
         region_interval::moved(r.top, r.height, y),
     )
@@ -96,7 +96,7 @@ fn shared(a: i32, n: u32, b: i32, m: u32) -> Span
 
 // The intersection of two regions within the limits.
 fn common(a: Region, b: Region) -> RegionAnswer
-    requires { ⌜ T (measured a) × T (measured b) ⌝ }
+    requires { ⌜ T (boundsFit a) × T (boundsFit b) ⌝ }
     ensures { λ r. ⌜ r ≡ regionAnswer 0 (intersected a b) ⌝ }
 {
     let x = shared(a.left, a.width, b.left, b.width);
@@ -107,18 +107,18 @@ fn common(a: Region, b: Region) -> RegionAnswer
     if region_overlap::vacant(y) {
         return refused(ACCEPTED);
     }
-    judged(x, y)
+    check_made(x, y)
 }
 
 // The intersection, zeros if it is empty, or refusal 4.
 pub fn intersection(a: Region, b: Region) -> RegionAnswer
     ensures { λ r. ⌜ r ≡ intersectionOutcome a b ⌝ }
 {
-    if !measured(a) {
-        return refused(OUT_OF_MEASURE);
+    if !bounds_fit(a) {
+        return refused(OUT_OF_LIMITS);
     }
-    if !measured(b) {
-        return refused(OUT_OF_MEASURE);
+    if !bounds_fit(b) {
+        return refused(OUT_OF_LIMITS);
     }
     common(a, b)
 }
@@ -127,10 +127,10 @@ pub fn intersection(a: Region, b: Region) -> RegionAnswer
 pub fn pad(r: Region, size: u32) -> RegionAnswer
     ensures { λ a. ⌜ a ≡ padOutcome r size ⌝ }
 {
-    if !measured(r) {
-        return refused(OUT_OF_MEASURE);
+    if !bounds_fit(r) {
+        return refused(OUT_OF_LIMITS);
     }
-    judged(
+    check_made(
         region_interval::padded(r.left, r.width, size),
         region_interval::padded(r.top, r.height, size),
     )
@@ -140,13 +140,13 @@ pub fn pad(r: Region, size: u32) -> RegionAnswer
 pub fn downsample(r: Region, factor: u32) -> RegionAnswer
     ensures { λ a. ⌜ a ≡ downsampleOutcome r factor ⌝ }
 {
-    if !measured(r) {
-        return refused(OUT_OF_MEASURE);
+    if !bounds_fit(r) {
+        return refused(OUT_OF_LIMITS);
     }
     if LARGEST_FACTOR < factor {
         return refused(OUT_OF_RANGE);
     }
-    judged(
+    check_made(
         region_interval::shrunk(r.left, r.width, factor),
         region_interval::shrunk(r.top, r.height, factor),
     )
@@ -156,14 +156,14 @@ pub fn downsample(r: Region, factor: u32) -> RegionAnswer
 pub fn container_aligned(r: Region, grid_dim: u32) -> RegionAnswer
     ensures { λ a. ⌜ a ≡ alignedOutcome r «grid_dim» ⌝ }
 {
-    if !measured(r) {
-        return refused(OUT_OF_MEASURE);
+    if !bounds_fit(r) {
+        return refused(OUT_OF_LIMITS);
     }
     if !is_alignment(grid_dim) {
         return refused(OUT_OF_RANGE);
     }
     let exponent = u32::trailing_zeros(grid_dim);
-    judged(
+    check_made(
         region_interval::aligned(r.left, r.width, exponent),
         region_interval::aligned(r.top, r.height, exponent),
     )

@@ -9,38 +9,38 @@ use lib.Dec.{T, leb, leb→le, le→leb}
 use lib.Ieee.Fits.{and-l, and-r, and-i}
 use lib.IntN.{ℤ, pos, negsuc, _+ℤ_, _-ℤ_}
 use lib.Signed.{leZ, mag}
-use Rattle.region_interval.proofs.Order.{above, below, one-side, sum-is, difference-is, size-is, side-mag, eq-of, le-to, ahead}
+use Rattle.region_interval.proofs.Order.{above, below, one-side, sum-is, difference-is, size-is, side-mag, eq-of, le-to, not-negative-difference}
 use Rattle.region_interval.specs.Interval.{spanOf, extent}
 use Rattle.region_interval.specs.declared.Span.{Span}
-use Rattle.region_axis.specs.Measures.{axisOf, measured, place, side}
+use Rattle.region_axis.specs.Measures.{axisOf, spanFits, cornerFits, sideFits}
 
 -- ---- laws
 
 -- a left or a top is at most 1,048,576 from 0
-pub place-size : (z : ℤ) → T (place z) → mag z ≤ 1048576
-unfolding place
+pub place-size : (z : ℤ) → T (cornerFits z) → mag z ≤ 1048576
+unfolding cornerFits
 place-size (pos n) t = leb→le n 1048576 (and-r (leZ (negsuc 1048575) (pos n)) (leb n 1048576) t)
 place-size (negsuc n) t = omega (arith, leb→le n 1048575 (and-l (leb n 1048575) (leZ (negsuc n) (pos 1048576)) t))
 
-pub side-size : (n : ℕ) → T (side n) → n ≤ 16384
-unfolding side
+pub side-size : (n : ℕ) → T (sideFits n) → n ≤ 16384
+unfolding sideFits
 side-size n t = leb→le n 16384 t
 
-pub side-of : (n : ℕ) → n ≤ 16384 → T (side n)
-unfolding side
+pub side-of : (n : ℕ) → n ≤ 16384 → T (sideFits n)
+unfolding sideFits
 side-of n h = le→leb n 16384 h
 
-pub measured-place : (s : Span) → T (measured s) → T (place (s .start))
-unfolding measured
-measured-place s t = and-l (place (s .start)) (side (extent s)) t
+pub bounds-place : (s : Span) → T (spanFits s) → T (cornerFits (s .start))
+unfolding spanFits
+bounds-place s t = and-l (cornerFits (s .start)) (sideFits (extent s)) t
 
-pub measured-extent : (s : Span) → T (measured s) → extent s ≤ 16384
-unfolding measured
-measured-extent s t = side-size (extent s) (and-r (place (s .start)) (side (extent s)) t)
+pub bounds-extent : (s : Span) → T (spanFits s) → extent s ≤ 16384
+unfolding spanFits
+bounds-extent s t = side-size (extent s) (and-r (cornerFits (s .start)) (sideFits (extent s)) t)
 
-pub measured-of : (s : Span) → T (place (s .start)) → extent s ≤ 16384 → T (measured s)
-unfolding measured
-measured-of s p h = and-i (place (s .start)) (side (extent s)) p (side-of (extent s) h)
+pub bounds-of : (s : Span) → T (cornerFits (s .start)) → extent s ≤ 16384 → T (spanFits s)
+unfolding spanFits
+bounds-of s p h = and-i (cornerFits (s .start)) (sideFits (extent s)) p (side-of (extent s) h)
 
 -- ---- the span of a start and a length
 
@@ -54,20 +54,20 @@ extent-back z n =
 -- ---- spans that are checked
 
 module _ (s : Span) where
-  pub axis-unplaced : place (s .start) ≡ false → axisOf s ≡ record { ok = false; start = pos 0; len = 0 }
-  unfolding axisOf measured
+  pub axis-unplaced : cornerFits (s .start) ≡ false → axisOf s ≡ record { ok = false; start = pos 0; len = 0 }
+  unfolding axisOf spanFits
   axis-unplaced e = rw e
 
-  pub axis-long : place (s .start) ≡ true → 16384 < extent s → axisOf s ≡ record { ok = false; start = pos 0; len = 0 }
-  unfolding axisOf measured side
+  pub axis-long : cornerFits (s .start) ≡ true → 16384 < extent s → axisOf s ≡ record { ok = false; start = pos 0; len = 0 }
+  unfolding axisOf spanFits sideFits
   axis-long e h = rw (e, lt-leb (extent s) 16384 h)
 
-  pub axis-in : place (s .start) ≡ true → extent s ≤ 16384 → axisOf s ≡ record { ok = true; start = s .start; len = extent s }
-  unfolding axisOf measured side
+  pub axis-in : cornerFits (s .start) ≡ true → extent s ≤ 16384 → axisOf s ≡ record { ok = true; start = s .start; len = extent s }
+  unfolding axisOf spanFits sideFits
   axis-in e h = rw (e, le-leb (extent s) 16384 h)
 
   -- an end that is far from every accepted start
-  pub far-end : T (place (s .start)) → 4194304 < above (s .end) + below (s .end) → 16384 < extent s
+  pub far-end : T (cornerFits (s .start)) → 4194304 < above (s .end) + below (s .end) → 16384 < extent s
   far-end p h =
       let d = s .end -ℤ s .start in
       let facts : above (s .start) + below (s .start) ≤ 1048577 = omega (arith, side-mag (s .start), place-size (s .start) p) in
@@ -80,15 +80,15 @@ module _ (s : Span) where
       (λ (m : below (s .end) ≡ 0). omega (arith, size-is d, difference-is (s .end) (s .start))) (one-side (s .end)))
       (one-side d)
 
-pub axis-ok : (s : Span) → axisOf s .ok ≡ measured s
+pub axis-ok : (s : Span) → axisOf s .ok ≡ spanFits s
 unfolding axisOf
-axis-ok s = go (measured s) refl
+axis-ok s = go (spanFits s) refl
   where
-    go : (x : Bool) → measured s ≡ x → axisOf s .ok ≡ measured s
+    go : (x : Bool) → spanFits s ≡ x → axisOf s .ok ≡ spanFits s
     go true e = rw e
     go false e = rw e
 
-pub axis-yes : (s : Span) → measured s ≡ true → axisOf s ≡ record { ok = true; start = s .start; len = extent s }
+pub axis-yes : (s : Span) → spanFits s ≡ true → axisOf s ≡ record { ok = true; start = s .start; len = extent s }
 unfolding axisOf
 axis-yes s e = rw e
 
@@ -98,4 +98,4 @@ span-back s h = ap (λ (z : ℤ). record { start = s .start; end = z }) (eq-of (
   where
     arithmetic : above (s .start +ℤ pos (extent s)) + below (s .end) ≡ above (s .end) + below (s .start +ℤ pos (extent s))
     arithmetic =
-        omega (arith, sum-is (s .start) (pos (extent s)), size-is (s .end -ℤ s .start), difference-is (s .end) (s .start), ahead (s .start) (s .end) (le-to (s .start) (s .end) h))
+        omega (arith, sum-is (s .start) (pos (extent s)), size-is (s .end -ℤ s .start), difference-is (s .end) (s .start), not-negative-difference (s .start) (s .end) (le-to (s .start) (s .end) h))

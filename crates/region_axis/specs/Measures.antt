@@ -9,17 +9,17 @@ use Rattle.region_interval.specs.declared.Span.{Span}
 use Rattle.region_axis.specs.declared.Axis.{Axis}
 
 -- a left or a top: −1,048,576 to 1,048,576
-unfoldable pub place : ℤ → Bool
-place z = leZ (negsuc 1048575) z && leZ z (pos 1048576)
+unfoldable pub cornerFits : ℤ → Bool
+cornerFits z = leZ (negsuc 1048575) z && leZ z (pos 1048576)
 
 -- a side in region arithmetic: 0 to 16,384
-unfoldable pub side : ℕ → Bool
-side n = leb n 16384
+unfoldable pub sideFits : ℕ → Bool
+sideFits n = leb n 16384
 
 -- a span within the limits of region arithmetic
-unfoldable pub measured : Span → Bool
-measured s = place (s .start) && side (extent s)
+unfoldable pub spanFits : Span → Bool
+spanFits s = cornerFits (s .start) && sideFits (extent s)
 
 -- a span within the limits, as a start and a length; zeros otherwise
 unfoldable pub axisOf : Span → Axis
-axisOf s = cond (measured s) (record { ok = true; start = s .start; len = extent s }) (record { ok = false; start = pos 0; len = 0 })
+axisOf s = cond (spanFits s) (record { ok = true; start = s .start; len = extent s }) (record { ok = false; start = pos 0; len = 0 })

@@ -7,7 +7,7 @@ ghost use mathlib.Core.Bool.{false};
 ghost use Prim.Native.Nat.{_<_};
 ghost use lib.IntN.{pos, natAbs, _-ℤ_};
 ghost use lib.Signed.{mag};
-ghost use Rattle.region_axis.specs.Measures.{place, axisOf};
+ghost use Rattle.region_axis.specs.Measures.{cornerFits, axisOf};
 
 // A span within the limits, as the start and length that a region has.
 pub struct Axis {
@@ -36,8 +36,8 @@ fn distance(a: i64, b: i64) -> u64
     }
 }
 
-fn in_measure(x: i64) -> bool
-    ensures { λ r. ⌜ r ≡ place x ⌝ }
+fn corner_fits(x: i64) -> bool
+    ensures { λ r. ⌜ r ≡ cornerFits x ⌝ }
 {
     if x < LOWEST_PLACE {
         return false;
@@ -45,7 +45,7 @@ fn in_measure(x: i64) -> bool
     x <= HIGHEST_PLACE
 }
 
-fn out_of_measure() -> Axis
+fn out_of_limits() -> Axis
     ensures { λ r. ⌜ r ≡ record { ok = false; start = pos 0; len = 0 } ⌝ }
 {
     Axis {
@@ -56,21 +56,21 @@ fn out_of_measure() -> Axis
 }
 
 // The span of these ends as a start and a length, zeros if it exceeds the limits.
-fn judged(start: i64, end: i64) -> Axis
+fn check_ends(start: i64, end: i64) -> Axis
     ensures { λ r. ⌜ r ≡ axisOf (record { start = start; end = end }) ⌝ }
 {
-    if !in_measure(start) {
-        return out_of_measure();
+    if !corner_fits(start) {
+        return out_of_limits();
     }
     if end < LOWEST_END {
-        return out_of_measure();
+        return out_of_limits();
     }
     if HIGHEST_END < end {
-        return out_of_measure();
+        return out_of_limits();
     }
     let len = distance(start, end);
     if MAX_SIDE_U64 < len {
-        return out_of_measure();
+        return out_of_limits();
     }
     Axis {
         ok: true,
@@ -80,10 +80,10 @@ fn judged(start: i64, end: i64) -> Axis
 }
 
 // Start and length of a span within the limits, zeros otherwise.
-pub fn judge(s: Span) -> Axis
+pub fn check_span(s: Span) -> Axis
     ensures { λ r. ⌜ r ≡ axisOf s ⌝ }
 {
-    judged(s.start, s.end)
+    check_ends(s.start, s.end)
 }
 
 // The distance |b - a|.

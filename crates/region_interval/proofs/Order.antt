@@ -91,8 +91,8 @@ not-negative (pos n) h = tt
 not-negative (negsuc n) h = absurd (omega arith)
 
 -- b - a is not negative if a ≤ b
-pub ahead : (a b : ℤ) → above a + below b ≤ above b + below a → below (b -ℤ a) ≡ 0
-ahead a b h = ⊎-elim (λ (l : above (b -ℤ a) ≡ 0). omega (arith, difference-is b a)) (λ (r : below (b -ℤ a) ≡ 0). r) (one-side (b -ℤ a))
+pub not-negative-difference : (a b : ℤ) → above a + below b ≤ above b + below a → below (b -ℤ a) ≡ 0
+not-negative-difference a b h = ⊎-elim (λ (l : above (b -ℤ a) ≡ 0). omega (arith, difference-is b a)) (λ (r : below (b -ℤ a) ≡ 0). r) (one-side (b -ℤ a))
 
 -- |a - b| is |b - a|
 pub same-size : (a b : ℤ) → natAbs (a -ℤ b) ≡ natAbs (b -ℤ a)
@@ -216,7 +216,7 @@ between a s e b h k l =
       size-is (b -ℤ a),
       difference-is e s,
       difference-is b a,
-      ahead s e (le-to s e k),
+      not-negative-difference s e (le-to s e k),
     )
 
 pub mag-side : (z : ℤ) → mag z ≤ above z + below z

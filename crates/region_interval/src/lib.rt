@@ -1,4 +1,5 @@
 // One axis of a region: the positions p with start ≤ p < end, on integers wide enough that nothing overflows.
+use limits::min_u32;
 ghost use mathlib.Core.Path.{_≡_};
 ghost use Prim.Native.Nat.{_+_, _≤_, _<_, _^_, min};
 ghost use lib.IntN.{pos, negℤ, _+ℤ_, _*ℤ_};
@@ -107,7 +108,7 @@ pub fn padded(start: i32, len: u32, n: u32) -> Span
 pub fn shrunk(start: i32, len: u32, f: u32) -> Span
     ensures { λ r. ⌜ r ≡ shrunk (2 ^ min f 63) (spanOf start len) ⌝ }
 {
-    let by = at_most(f, 63);
+    let by = min_u32(f, 63);
     Span {
         start: floor_shift(wide(start), by),
         end: ceil_shift(end_of(start, len), by),
@@ -118,15 +119,9 @@ pub fn shrunk(start: i32, len: u32, f: u32) -> Span
 pub fn aligned(start: i32, len: u32, f: u32) -> Span
     ensures { λ r. ⌜ r ≡ aligned (2 ^ min f 13) (spanOf start len) ⌝ }
 {
-    let by = at_most(f, LARGEST_EXPONENT);
+    let by = min_u32(f, LARGEST_EXPONENT);
     Span {
         start: multiple(floor_shift(wide(start), by), by),
         end: multiple(ceil_shift(end_of(start, len), by), by),
     }
-}
-
-fn at_most(n: u32, limit: u32) -> u32
-    ensures { λ r. ⌜ r ≡ min n limit ⌝ }
-{
-    if n < limit { n } else { limit }
 }

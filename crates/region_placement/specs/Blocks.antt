@@ -6,9 +6,9 @@ use lib.IntN.{ℤ, pos, negsuc}
 use Rattle.region.specs.declared.Region.{Region}
 
 -- a left or top, 0 if it is negative
-abbrev pub ahead : ℤ → ℕ
-ahead (pos k) = k
-ahead (negsuc k) = 0
+abbrev pub clampToZero : ℤ → ℕ
+clampToZero (pos k) = k
+clampToZero (negsuc k) = 0
 
 -- not negative, and a multiple of 8
 abbrev pub onBlock : ℤ → Bool

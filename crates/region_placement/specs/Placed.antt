@@ -4,16 +4,16 @@ use mathlib.Core.List.{List, [], _∷_}
 use Prim.Native.Nat.{ℕ}
 use lib.Dec.{eqb}
 use lib.IntN.{natAbs, _-ℤ_}
-use Rattle.refusals.specs.Numbers.{outOfMeasure, notInside}
+use Rattle.refusals.specs.Numbers.{outOfLimits, notInside}
 use Rattle.refusals.specs.Checks.{Check, always, firstOf}
-use Rattle.region.specs.Measures.{pictured}
+use Rattle.region.specs.Measures.{pictureFits}
 use Rattle.region.specs.Regions.{inside}
 use Rattle.region.specs.declared.Region.{Region}
 use Rattle.region_placement.specs.declared.PlacedAnswer.{PlacedAnswer}
 
 abbrev pub placedChecks : Region → Region → List Check
 placedChecks image filter =
-    always outOfMeasure (not (pictured image && pictured filter))
+    always outOfLimits (not (pictureFits image && pictureFits filter))
     ∷ always notInside (not (inside image filter)) ∷ []
 
 abbrev pub placedAnswer : ℕ → Region → Region → PlacedAnswer

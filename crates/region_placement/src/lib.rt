@@ -3,14 +3,14 @@ use limits::BLOCK;
 use limits::MAX_AREA_U64;
 use refusals::ACCEPTED;
 use refusals::NOT_INSIDE;
-use refusals::OUT_OF_MEASURE;
+use refusals::OUT_OF_LIMITS;
 use region::Region;
-use region::measured;
+use region::bounds_fit;
 ghost use mathlib.Core.Path.{_≡_};
-ghost use Rattle.region.specs.Measures.{pictured, areaFits};
+ghost use Rattle.region.specs.Measures.{pictureFits, areaFits};
 ghost use Prim.Native.Nat.{_≤_};
 ghost use Rattle.region_placement.specs.Placed.{placedOutcome};
-ghost use Rattle.region_placement.specs.Blocks.{ahead as aheadOf, onBlock, onBlocks};
+ghost use Rattle.region_placement.specs.Blocks.{clampToZero, onBlock, onBlocks};
 
 // Columns and rows from the image region's corner.
 #[repr(C)]
@@ -33,10 +33,10 @@ fn area_fits(width: u32, height: u32) -> bool
 }
 
 // Whether a region is within the limits of an image or filter region.
-fn pictured(r: Region) -> bool
-    ensures { λ b. ⌜ b ≡ pictured r ⌝ }
+fn picture_fits(r: Region) -> bool
+    ensures { λ b. ⌜ b ≡ pictureFits r ⌝ }
 {
-    if !measured(r) {
+    if !bounds_fit(r) {
         return false;
     }
     area_fits(r.width, r.height)
@@ -53,11 +53,11 @@ fn unplaced(number: u32) -> PlacedAnswer
 pub fn placed(image: Region, filter: Region) -> PlacedAnswer
     ensures { λ r. ⌜ r ≡ placedOutcome image filter ⌝ }
 {
-    if !pictured(image) {
-        return unplaced(OUT_OF_MEASURE);
+    if !picture_fits(image) {
+        return unplaced(OUT_OF_LIMITS);
     }
-    if !pictured(filter) {
-        return unplaced(OUT_OF_MEASURE);
+    if !picture_fits(filter) {
+        return unplaced(OUT_OF_LIMITS);
     }
     if !image.contains(filter).holds {
         return unplaced(NOT_INSIDE);
@@ -70,8 +70,8 @@ pub fn placed(image: Region, filter: Region) -> PlacedAnswer
 }
 
 // A left or top, 0 if it is negative.
-pub fn ahead(z: i32) -> usize
-    ensures { λ r. ⌜ (r ≡ aheadOf z) × (r ≤ 4294967296) ⌝ }
+pub fn clamp_to_zero(z: i32) -> usize
+    ensures { λ r. ⌜ (r ≡ clampToZero z) × (r ≤ 4294967296) ⌝ }
 {
     if z < 0 {
         return 0;
@@ -86,7 +86,7 @@ fn on_block(z: i32) -> bool
     if z < 0 {
         return false;
     }
-    ahead(z) % BLOCK == 0
+    clamp_to_zero(z) % BLOCK == 0
 }
 
 // Whether a region starts at multiples of 8.

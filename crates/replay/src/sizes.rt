@@ -9,7 +9,7 @@ use frame::GroupSizes;
 
 pub fn mirror(n: &[i64]) -> bool {
     let a = mirror::mirror(isize_at(n, 0), usize_at(n, 1));
-    has_form(n, b"szuz") && u32_at(n, 2) == a.number && usize_at(n, 3) == a.place
+    has_form(n, b"szuz") && u32_at(n, 2) == a.number && usize_at(n, 3) == a.index
 }
 
 fn frame_at(n: &[i64]) -> Frame {

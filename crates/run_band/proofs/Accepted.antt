@@ -11,15 +11,15 @@ use lib.ListN.{length}
 use lib.Ieee.{Float}
 use lib.Ieee.Fits.{and-l, and-r}
 use Rattle.refusals.specs.Checks.{firstOf}
-use Rattle.region.proofs.Laws.{pictured-measured, measured-height}
+use Rattle.region.proofs.Laws.{picture-bounds, bounds-height}
 use Rattle.planes_layout.specs.Outcome.{layoutOf}
 use Rattle.run_setup.specs.declared.Setup.{Setup}
 use Rattle.run_record.specs.declared.Run.{Run}
-use Rattle.run_setup.specs.Setup.{maxBands, fullPlanes, epfOn, rowCount, bandCount, bandFrom, bandTo, sized, itersFit, setLength, sigmaLength}
+use Rattle.run_setup.specs.Setup.{maxBands, fullPlanes, epfOn, rowCount, bandCount, bandFrom, bandTo, sizeFits, itersFit, setLength, sigmaLength}
 use Rattle.run_record.specs.Record.{marked, openChecks}
 use Rattle.refusals.proofs.Tables.{of-true, met-given}
 use Rattle.run_setup.specs.SetupFits.{SetupFits}
-use Rattle.run_setup.proofs.Laws.{setup-fits, image-sized, filter-sized}
+use Rattle.run_setup.proofs.Laws.{setup-fits, image-size, filter-size}
 use Rattle.run_record.proofs.Laws.{pass-left}
 use Rattle.run_outcomes.specs.Band.{State, BandOutcome, setCheck, sigmaCheck, readsFirst, source, target, bandChecks, bandNumber, banded, bandOutcome}
 use Rattle.run_outcomes.proofs.Rows.{here, below, row-passed}
@@ -41,8 +41,8 @@ module _ (t : State) (k : ℕ) (e : bandNumber 3 t k ≡ 0) where
   sets : T (eqb (length (t .first)) (setLength 3 s) && eqb (length (t .second)) (setLength 3 s))
   unfolding bandChecks
   sets =
-      met-given (sized (s .image)) (eqb (length (t .first)) (setLength 3 s) && eqb (length (t .second)) (setLength 3 s))
-      (row-passed (bandChecks 3 t k) tt e (setCheck 3 s (length (t .first)) (length (t .second))) (search (here, below) depth 20)) (of-true (sized (s .image)) (image-sized s setup))
+      met-given (sizeFits (s .image)) (eqb (length (t .first)) (setLength 3 s) && eqb (length (t .second)) (setLength 3 s))
+      (row-passed (bandChecks 3 t k) tt e (setCheck 3 s (length (t .first)) (length (t .second))) (search (here, below) depth 20)) (of-true (sizeFits (s .image)) (image-size s setup))
 
   first-length : length (t .first) ≡ setLength 3 s
   first-length = eqb→eq _ _ (and-l (eqb (length (t .first)) (setLength 3 s)) (eqb (length (t .second)) (setLength 3 s)) sets)
@@ -50,9 +50,9 @@ module _ (t : State) (k : ℕ) (e : bandNumber 3 t k ≡ 0) where
   second-length : length (t .second) ≡ setLength 3 s
   second-length = eqb→eq _ _ (and-r (eqb (length (t .first)) (setLength 3 s)) (eqb (length (t .second)) (setLength 3 s)) sets)
 
-  sigma-known : T (itersFit s && (not (epfOn s) || sized (s .filter)))
+  sigma-known : T (itersFit s && (not (epfOn s) || sizeFits (s .filter)))
   sigma-known =
-      rw (le-leb (s .settings .epf .iters) 3 (setup .iterations), filter-sized s setup) (either (epfOn s))
+      rw (le-leb (s .settings .epf .iters) 3 (setup .iterations), filter-size s setup) (either (epfOn s))
     where
       either : (b : Bool) → T (not b || true)
       either true = tt
@@ -61,7 +61,7 @@ module _ (t : State) (k : ℕ) (e : bandNumber 3 t k ≡ 0) where
   sigma-length : length (t .sigmas) ≡ sigmaLength s
   unfolding bandChecks
   sigma-length =
-      eqb→eq _ _ (met-given (itersFit s && (not (epfOn s) || sized (s .filter))) (eqb (length (t .sigmas)) (sigmaLength s)) (row-passed (bandChecks 3 t k) tt e (sigmaCheck 3 s (length (t .sigmas))) (search (here, below) depth 20)) sigma-known)
+      eqb→eq _ _ (met-given (itersFit s && (not (epfOn s) || sizeFits (s .filter))) (eqb (length (t .sigmas)) (sigmaLength s)) (row-passed (bandChecks 3 t k) tt e (sigmaCheck 3 s (length (t .sigmas))) (search (here, below) depth 20)) sigma-known)
 
   -- bounds in machine integers
   pub record Room : Type 0 where
@@ -75,8 +75,8 @@ module _ (t : State) (k : ℕ) (e : bandNumber 3 t k ≡ 0) where
   rows-most = go (fullPlanes s)
     where
       go : (b : Bool) → cond b (s .image .height) (s .filter .height) ≤ 16384
-      go true = measured-height (s .image) (pictured-measured (s .image) (setup .image))
-      go false = measured-height (s .filter) (pictured-measured (s .filter) (setup .filter))
+      go true = bounds-height (s .image) (picture-bounds (s .image) (setup .image))
+      go false = bounds-height (s .filter) (picture-bounds (s .filter) (setup .filter))
 
   pub room : Room
   room =

@@ -11,7 +11,7 @@ use lib.ListN.{length}
 use lib.Ieee.{Float}
 use Rattle.refusals.specs.Checks.{firstOf}
 use Rattle.region.specs.Regions.{inside}
-use Rattle.region.specs.Measures.{pictured}
+use Rattle.region.specs.Measures.{pictureFits}
 use Rattle.planes.specs.Band.{rowsFit}
 use Rattle.planes.proofs.Stored.{and-first, and-second}
 use Rattle.planes_layout.specs.Outcome.{layoutOf, passChecks, PassOutcome, passOutcome}
@@ -54,8 +54,8 @@ module _ (r : Run) (sigmas src dst : List Float) (from to : ℕ) (fits : RowsFit
   gabor-number : firstOf (passChecks (s .image) (s .filter) (s .«preserve_outside») 3 from to src dst) ≡ 0
   unfolding passChecks
   gabor-number = rw (
-    is-true (pictured (s .image)) (setup .image),
-    is-true (pictured (s .filter)) (setup .filter),
+    is-true (pictureFits (s .image)) (setup .image),
+    is-true (pictureFits (s .filter)) (setup .filter),
     is-true (inside (s .image) (s .filter)) (setup .contained),
     eq-eqb (length src) (setLength 3 s) (fits .source),
     eq-eqb (length dst) (setLength 3 s) (fits .target),
@@ -99,8 +99,8 @@ module _ (r : Run) (sigmas src dst : List Float) (from to : ℕ) (fits : RowsFit
     step-number : firstOf (epfChecks (s .image) (s .filter) (s .«preserve_outside») (stepOf (s .settings) (stepIndex (s .settings) (r .pass))) sigmas from to src dst) ≡ 0
     unfolding epfChecks stepChecks stepOf layoutOf
     step-number = rw (
-      is-true (pictured (s .image)) (setup .image),
-      is-true (pictured (s .filter)) (setup .filter),
+      is-true (pictureFits (s .image)) (setup .image),
+      is-true (pictureFits (s .filter)) (setup .filter),
       is-true (inside (s .image) (s .filter)) (setup .contained),
       and-first (onBlock (s .filter .left)) (onBlock (s .filter .top)) corner,
       and-second (onBlock (s .filter .left)) (onBlock (s .filter .top)) corner,

@@ -1,11 +1,12 @@
 // The band call of a run.
 use epf::epf_pass;
 use gabor::gabor_pass;
+use limits::min_u32;
 use refusals::ACCEPTED;
 use refusals::WRONG_LENGTH;
 use run_outcomes::RunAnswer;
-use run_outcomes::sets_wrong;
-use run_outcomes::sigmas_wrong;
+use run_outcomes::bad_sets;
+use run_outcomes::bad_sigmas;
 use run_passes::gabor_at;
 use run_passes::step_at;
 use run_passes::weights;
@@ -14,7 +15,7 @@ use run_record::band_number;
 use run_setup::row_count;
 ghost use mathlib.Core.Path.{_≡_};
 ghost use mathlib.Core.List.{_∷_};
-ghost use Prim.Native.Nat.{_<_, min};
+ghost use Prim.Native.Nat.{_<_};
 ghost use lib.ListN.{length};
 ghost use Rattle.refusals.specs.Checks.{firstOf};
 ghost use Rattle.run_setup.specs.Setup.{maxBands};
@@ -26,10 +27,10 @@ ghost use Rattle.run_band.specs.Rows.{RowsFit, passedRows, bandWritten};
 fn refusal(run: Run, sigmas: usize, first: usize, second: usize, k: u32) -> u32
     ensures { λ r. ⌜ r ≡ firstOf (setCheck 3 (run .setup) first second ∷ sigmaCheck 3 (run .setup) sigmas ∷ openChecks run k) ⌝ }
 {
-    if sets_wrong(run.setup, first, second) {
+    if bad_sets(run.setup, first, second) {
         return WRONG_LENGTH;
     }
-    if sigmas_wrong(run.setup, sigmas) {
+    if bad_sigmas(run.setup, sigmas) {
         return WRONG_LENGTH;
     }
     band_number(run, k)
@@ -60,12 +61,6 @@ fn pass_rows(run: Run, sigmas: &[f32], src: &[f32], dst: &mut [f32], from: u32, 
     );
 }
 
-fn smaller(a: u32, b: u32) -> u32
-    ensures { λ r. ⌜ r ≡ min a b ⌝ }
-{
-    if a < b { a } else { b }
-}
-
 // Runs the next pass over the rows of band k. Each advance exchanges the sets: even passes read the first, odd passes
 // read the second.
 fn filter_band(run: Run, sigmas: &[f32], first: &mut [f32], second: &mut [f32], k: u32)
@@ -74,7 +69,7 @@ fn filter_band(run: Run, sigmas: &[f32], first: &mut [f32], second: &mut [f32], 
 {
     let height = run.setup.band_height;
     let from = k * height;
-    let to = smaller(from + height, row_count(run.setup) as u32);
+    let to = min_u32(from + height, row_count(run.setup) as u32);
     if run.pass % 2 == 0 {
         pass_rows(run, sigmas, first, second, from, to);
         return;

@@ -59,7 +59,7 @@ no-cut-edge m r x y = record { left = λ f. absurd (f refl); right = λ f. absur
 module _ (n : ℕ) (K : Calls n) where
   -- the theorem on rectangles for a finished run
   cut-run : (h large : Handed) (r : FinishedRun n K h) → CutFrom n h large → Delivers n h large (handedOver n K h r)
-  cut-run h large r from = rectangle-theorem n K h large (r .calls) (r .slice) (record { start-accepted = r .accepted; cut-from-larger = from; nobody-altered-anything = r .unaltered; run-finished = r .ended; slice-fits = r .room })
+  cut-run h large r from = rectangle-theorem n K h large (r .calls) (r .slice) (record { start-accepted = r .accepted; cut-from-larger = from; buffers-unaltered = r .unaltered; run-finished = r .ended; slice-fits = r .room })
 
   pub whole-picture : WholePicture n K
   whole-picture h r =

@@ -67,12 +67,12 @@ none-ticks f o = ticks-all f 0 256 (omega arith) (λ k l. absurd (omega arith)) 
 -- ---- the record determines how many calls were accepted
 
 -- accepted bands so far: all bands of each completed pass, and those that are done
-abbrev told : Run → ℕ
-told r = r .pass * bandCount (r .setup) + ticks (isDone r) 256
+abbrev bandsDone : Run → ℕ
+bandsDone r = r .pass * bandCount (r .setup) + ticks (isDone r) 256
 
 -- record q follows record r after a accepted bands and b accepted advances
 record Counted (r q : Run) (a b : ℕ) : Type 0 where
-  bands : told q ≡ told r + a
+  bands : bandsDone q ≡ bandsDone r + a
   advances : q .pass ≡ r .pass + b
 
 band-counted : (n : ℕ) (t : State) (k : ℕ) (f : BandFits n t k) → length (t .run .done) ≡ 256 → Counted (t .run) (marked (t .run) k) 1 0
@@ -86,7 +86,7 @@ advance-counted : (r : Run) → AdvanceFits r → Counted r (advanced r) 0 1
 unfolding advanced
 advance-counted r f =
     let c : bandCount (r .setup) ≤ 256 = setup-fits (r .setup) (f .run .setup) .count in
-    let all = ticks-all (isDone r) (bandCount (r .setup)) 256 c (f .pass .done) (λ k l o. f .run .stray k l (rw (f .pass .unfinished) o)) in
+    let all = ticks-all (isDone r) (bandCount (r .setup)) 256 c (f .pass .done) (λ k l o. f .run .none-past-count k l (rw (f .pass .unfinished) o)) in
     record { bands = omega (arith, all, none-ticks (isDone (advanced r)) (advanced-none r), suc-mul (r .pass) (bandCount (r .setup))); advances = omega arith }
 
 effect-counted : {n : ℕ} {t : State} {a b : ℕ} {u : State} → Effect n t a b u → length (t .run .done) ≡ 256 → Counted (t .run) (u .run) a b
@@ -113,29 +113,29 @@ module _ (n : ℕ) (K : Calls n) (first : List Float) where
       record { bands = omega (arith, r .bands, s .bands); advances = omega (arith, r .advances, s .advances) }
 
 -- a finished run has no done band
-finished-told : (r : Run) → RunFits r → T (finished r) → told r ≡ r .pass * bandCount (r .setup)
-finished-told r f z =
+finished-bandsDone : (r : Run) → RunFits r → T (finished r) → bandsDone r ≡ r .pass * bandCount (r .setup)
+finished-bandsDone r f z =
     let e : finished r ≡ true = is-true (finished r) z in
-    let none = ticks-all (isDone r) 0 256 (omega arith) (λ k l. absurd (omega arith)) (λ k l o. f .stray k l (rw e (omega arith))) in
+    let none = ticks-all (isDone r) 0 256 (omega arith) (λ k l. absurd (omega arith)) (λ k l o. f .none-past-count k l (rw e (omega arith))) in
     omega arith
 
 -- nor has a run just started
-started-told : (s : Setup) → (told (started s) ≡ 0) × (started s .pass ≡ 0)
+started-bandsDone : (s : Setup) → (bandsDone (started s) ≡ 0) × (started s .pass ≡ 0)
 unfolding started
-started-told s = (omega (arith, none-ticks (isDone (started s)) (started-none s)), refl)
+started-bandsDone s = (omega (arith, none-ticks (isDone (started s)) (started-none s)), refl)
 
 pub count-rule : (n : ℕ) (K : Calls n) → CountRule n K
 count-rule n K h e cs u =
     let s : Setup = h .setup in
     let kept = after-start n K h e cs u in
-    let first : (told (startState n h .run) ≡ 0) × (startState n h .run .pass ≡ 0) = rw (start-state n h e) (started-told s) in
+    let first : (bandsDone (startState n h .run) ≡ 0) × (startState n h .run .pass ≡ 0) = rw (start-state n h e) (started-bandsDone s) in
     let c = end-counted n K (startLeaves n h) (startState n h) cs (start-sound n h e) u in
     let r : Run = end n K (startState n h) cs .run in
     let p : passCount (r .setup) ≡ passCount s = ap passCount (kept .setup) in (
       λ z.
           let over : r .pass ≡ passCount s = eqb→eq (r .pass) (passCount (r .setup)) z ∙ p in
           let product : r .pass * bandCount (r .setup) ≡ passCount s * bandCount s = rw (over, kept .setup) in
-          (omega (arith, c .bands, first .0, finished-told r (kept .sound .run) z), omega (arith, c .advances, first .1)),
+          (omega (arith, c .bands, first .0, finished-bandsDone r (kept .sound .run) z), omega (arith, c .advances, first .1)),
       λ w. rw (eq-eqb (r .pass) (passCount (r .setup)) (omega (arith, c .advances, first .1, w .1))) tt,
     )
 

@@ -11,8 +11,8 @@ use lib.Ieee.{Float, ofBits, lt, add, sub, mul, div}
 use Rattle.region_interval.proofs.Order.{lt-to}
 use Rattle.region.specs.declared.Region.{Region}
 use Rattle.region.specs.Regions.{inside, Holds}
-use Rattle.region.specs.Measures.{measured, pictured}
-use Rattle.region_axis.specs.Measures.{place, side}
+use Rattle.region.specs.Measures.{boundsFit, pictureFits}
+use Rattle.region_axis.specs.Measures.{cornerFits, sideFits}
 use Rattle.planes.specs.Samples.{bits, b0, b1}
 use Rattle.planes.specs.Picture.{Picture, around}
 use Rattle.planes.specs.Sets.{of, setOf, tab}
@@ -33,8 +33,8 @@ use Rattle.sigma.specs.Sigma.{sigmaIn, frameSigma, aboveAt, blockSigma, blockSi
 use Rattle.run_passes.specs.declared.Settings.{Settings}
 use Rattle.run_passes.specs.Pass.{pass, passes}
 use Rattle.run_passes.specs.Plan.{plan, steps, stepOf, scaleOf, stepMargin}
-use Rattle.run_setup.specs.Setup.{bandCount, numbersFit, setupFits, sized}
-use Rattle.run_record.specs.Record.{isDone, started, strayDone, runFits}
+use Rattle.run_setup.specs.Setup.{bandCount, numbersFit, setupFits, sizeFits}
+use Rattle.run_record.specs.Record.{isDone, started, badDone, runFits}
 use Rattle.run_setup.specs.Makers.{noSetup}
 use Rattle.run_outcomes.specs.Start.{Handed, pictureChecks, startChecks, startLeaves, sigmasFilled, startOutcome}
 use Rattle.run_outcomes.specs.Result.{resultChecks, resultOutcome}
@@ -42,7 +42,7 @@ use Rattle.run_calls.specs.Calls.{LibraryCall, libraryCalls, end}
 use Rattle.run_calls.specs.Places.{Clear, inputAt, sampleAt, sigmaAt}
 use Rattle.run_calls.specs.Theorem.{resultAfter}
 use Rattle.run_calls.specs.Corollaries.{FinishedRun}
-use Rattle.run_calls.specs.Needed.{Premise, start-accepted, unrefused, contained, same-passes, inputs-agree, sigmas-agree, nobody-altered-anything, run-finished, slice-fits, Says, EachNeeded}
+use Rattle.run_calls.specs.Needed.{Premise, start-accepted, unrefused, contained, same-passes, inputs-agree, sigmas-agree, buffers-unaltered, run-finished, slice-fits, Says, EachNeeded}
 use Rattle.run_calls.specs.Example.{smaller, calls, slice}
 use Rattle.run_calls.specs.EdgeExample.{smaller as smallerEdge, larger as largerEdge, calls as callsEdge, slice as sliceEdge}
 use Rattle.run_calls.proofs.Places.{counted, counted-from}
@@ -90,73 +90,73 @@ abbrev unstarted : Handed
 unstarted = handed (row 0 3) (noSetup .settings) peak []
 
 start-others : (p : Premise) → (p ≡ start-accepted → ⊥) → Says p unstarted plain [] zeros
-unfolding startOutcome startChecks pictureChecks pictured measured place side inside badSides badSettings sizesOf tableFits gridsFit gridStart cells someBelow badGrid bandCount layoutOf setOf tab startLeaves started plan steps end
+unfolding startOutcome startChecks pictureChecks pictureFits boundsFit cornerFits sideFits inside badSides badSettings sizesOf tableFits gridsFit gridStart cells someBelow badGrid bandCount layoutOf setOf tab startLeaves started plan steps end
 start-others start-accepted n = absurd (n refl)
 start-others unrefused n = refl
 start-others contained n = tt
 start-others same-passes n = refl
 start-others inputs-agree n = λ c x y h held. refl
 start-others sigmas-agree n = λ on. absurd on
-start-others nobody-altered-anything n = tt
+start-others buffers-unaltered n = tt
 start-others run-finished n = tt
 start-others slice-fits n = refl
 
 no-record : resultAfter 3 (libraryCalls 3) unstarted [] zeros .number ≡ 9
-unfolding startOutcome startChecks pictureChecks pictured measured place side inside badSides badSettings sizesOf tableFits gridsFit gridStart cells someBelow badGrid bandCount layoutOf setOf tab started end resultOutcome resultChecks sized runFits setupFits
+unfolding startOutcome startChecks pictureChecks pictureFits boundsFit cornerFits sideFits inside badSides badSettings sizesOf tableFits gridsFit gridStart cells someBelow badGrid bandCount layoutOf setOf tab started end resultOutcome resultChecks sizeFits runFits setupFits
 no-record = refl
 
 -- ---- no band and no advance: the result is refused (11)
 
 finish-others : (p : Premise) → (p ≡ run-finished → ⊥) → Says p blurred blurred [] zeros
-unfolding startOutcome startChecks pictureChecks pictured measured place side inside badSides badSettings sizesOf tableFits gridsFit gridStart cells someBelow badGrid bandCount layoutOf setOf tab
+unfolding startOutcome startChecks pictureChecks pictureFits boundsFit cornerFits sideFits inside badSides badSettings sizesOf tableFits gridsFit gridStart cells someBelow badGrid bandCount layoutOf setOf tab
 finish-others start-accepted n = refl
 finish-others unrefused n = refl
 finish-others contained n = tt
 finish-others same-passes n = refl
 finish-others inputs-agree n = λ c x y h held. refl
 finish-others sigmas-agree n = λ on. absurd on
-finish-others nobody-altered-anything n = tt
+finish-others buffers-unaltered n = tt
 finish-others run-finished n = absurd (n refl)
 finish-others slice-fits n = refl
 
 unfinished : resultAfter 3 (libraryCalls 3) blurred [] zeros .number ≡ 11
-unfolding startOutcome startChecks startLeaves pictureChecks pictured measured place side inside badSides badSettings sizesOf tableFits gridsFit gridStart cells someBelow badGrid bandCount layoutOf setOf tab started end plan steps resultOutcome resultChecks runFits strayDone isDone numbersFit setupFits sized
+unfolding startOutcome startChecks startLeaves pictureChecks pictureFits boundsFit cornerFits sideFits inside badSides badSettings sizesOf tableFits gridsFit gridStart cells someBelow badGrid bandCount layoutOf setOf tab started end plan steps resultOutcome resultChecks runFits badDone isDone numbersFit setupFits sizeFits
 unfinished = refl
 
 -- ---- an empty slice: the result is refused (7)
 
 slice-others : (p : Premise) → (p ≡ slice-fits → ⊥) → Says p plain plain [] []
-unfolding startOutcome startChecks pictureChecks pictured measured place side inside badSides badSettings sizesOf tableFits gridsFit gridStart cells someBelow badGrid bandCount layoutOf setOf tab started plan steps end
+unfolding startOutcome startChecks pictureChecks pictureFits boundsFit cornerFits sideFits inside badSides badSettings sizesOf tableFits gridsFit gridStart cells someBelow badGrid bandCount layoutOf setOf tab started plan steps end
 slice-others start-accepted n = refl
 slice-others unrefused n = refl
 slice-others contained n = tt
 slice-others same-passes n = refl
 slice-others inputs-agree n = λ c x y h held. refl
 slice-others sigmas-agree n = λ on. absurd on
-slice-others nobody-altered-anything n = tt
+slice-others buffers-unaltered n = tt
 slice-others run-finished n = tt
 slice-others slice-fits n = absurd (n refl)
 
 no-room : resultAfter 3 (libraryCalls 3) plain [] [] .number ≡ 7
-unfolding startOutcome startChecks startLeaves pictureChecks pictured measured place side inside badSides badSettings sizesOf tableFits gridsFit gridStart cells someBelow badGrid bandCount layoutOf setOf tab started end resultOutcome resultChecks sized
+unfolding startOutcome startChecks startLeaves pictureChecks pictureFits boundsFit cornerFits sideFits inside badSides badSettings sizesOf tableFits gridsFit gridStart cells someBelow badGrid bandCount layoutOf setOf tab started end resultOutcome resultChecks sizeFits
 no-room = refl
 
 -- ---- no pass, but the larger picture has one
 
 passes-others : (p : Premise) → (p ≡ same-passes → ⊥) → Says p plain blurred [] zeros
-unfolding startOutcome startChecks pictureChecks pictured measured place side inside badSides badSettings sizesOf tableFits gridsFit gridStart cells someBelow badGrid bandCount layoutOf setOf tab startLeaves started plan steps end
+unfolding startOutcome startChecks pictureChecks pictureFits boundsFit cornerFits sideFits inside badSides badSettings sizesOf tableFits gridsFit gridStart cells someBelow badGrid bandCount layoutOf setOf tab startLeaves started plan steps end
 passes-others start-accepted n = refl
 passes-others unrefused n = refl
 passes-others contained n = tt
 passes-others same-passes n = absurd (n refl)
 passes-others inputs-agree n = λ c x y h held. refl
 passes-others sigmas-agree n = λ on. absurd on
-passes-others nobody-altered-anything n = tt
+passes-others buffers-unaltered n = tt
 passes-others run-finished n = tt
 passes-others slice-fits n = refl
 
 plain-run : FinishedRun 3 (libraryCalls 3) plain
-unfolding startOutcome startChecks pictureChecks pictured measured place side inside badSides badSettings sizesOf tableFits gridsFit gridStart cells someBelow badGrid bandCount layoutOf setOf tab started plan steps end
+unfolding startOutcome startChecks pictureChecks pictureFits boundsFit cornerFits sideFits inside badSides badSettings sizesOf tableFits gridsFit gridStart cells someBelow badGrid bandCount layoutOf setOf tab started plan steps end
 plain-run = record { accepted = refl; calls = []; unaltered = tt; ended = tt; slice = zeros; room = refl }
 
 middle-held : Holds (row 0 3) (pos 1) (pos 0)
@@ -191,14 +191,14 @@ same-sides c (pos (suc (suc zero))) (pos zero) h held = refl
 same-sides c (pos (suc (suc (suc i)))) (pos zero) h held = absurd (omega (arith, lt-to (pos (suc (suc (suc i)))) (pos 3) (held .column .before)))
 
 contained-others : (p : Premise) → (p ≡ contained → ⊥) → Says p (smaller sides weights) alone-there (calls sides weights) (slice sides weights)
-unfolding pictureChecks pictured measured place side inside badSides badSettings sizesOf tableFits gridsFit gridStart cells someBelow badGrid bandCount layoutOf setOf tab
+unfolding pictureChecks pictureFits boundsFit cornerFits sideFits inside badSides badSettings sizesOf tableFits gridsFit gridStart cells someBelow badGrid bandCount layoutOf setOf tab
 contained-others start-accepted n = premises-met sides weights .start-accepted
 contained-others unrefused n = refl
 contained-others contained n = absurd (n refl)
 contained-others same-passes n = refl
 contained-others inputs-agree n = same-sides
 contained-others sigmas-agree n = λ on. absurd on
-contained-others nobody-altered-anything n = premises-met sides weights .nobody-altered-anything
+contained-others buffers-unaltered n = premises-met sides weights .buffers-unaltered
 contained-others run-finished n = premises-met sides weights .run-finished
 contained-others slice-fits n = premises-met sides weights .slice-fits
 
@@ -269,7 +269,7 @@ blocks-others contained n = tt
 blocks-others same-passes n = refl
 blocks-others inputs-agree n = λ c x y h held. same-inputs x y held c h
 blocks-others sigmas-agree n = λ on x y held. same-sigmas x y held
-blocks-others nobody-altered-anything n = edge-premises-met dot ones b0 sigma64 .nobody-altered-anything
+blocks-others buffers-unaltered n = edge-premises-met dot ones b0 sigma64 .buffers-unaltered
 blocks-others run-finished n = edge-premises-met dot ones b0 sigma64 .run-finished
 blocks-others slice-fits n = edge-premises-met dot ones b0 sigma64 .slice-fits
 
@@ -303,6 +303,6 @@ each-needed same-passes claim =
     not-delivered _ plain blurred plain-run (pos 1) (pos 0) middle-held clear (λ e. less-unlike _ _ passes-seen passes-itself (sym e)) (claim plain blurred [] zeros passes-others tt)
 each-needed inputs-agree claim = inputs-needed (λ small large cs out others unlike. claim small large cs out others tt)
 each-needed sigmas-agree claim = sigmas-needed (λ small large cs out others unlike. claim small large cs out others tt)
-each-needed nobody-altered-anything claim = unaltered-needed (λ small large cs out others unlike. claim small large cs out others tt)
+each-needed buffers-unaltered claim = unaltered-needed (λ small large cs out others unlike. claim small large cs out others tt)
 each-needed run-finished claim = omega (arith, sym unfinished ∙ claim blurred blurred [] zeros finish-others tt .accepted)
 each-needed slice-fits claim = omega (arith, sym no-room ∙ claim plain plain [] [] slice-others tt .accepted)

@@ -7,8 +7,8 @@ use lib.Dec.{T}
 use lib.IntN.{ℤ, pos, natAbs, _-ℤ_}
 use lib.Ieee.{Float}
 use Rattle.region.specs.Regions.{inside, Holds}
-use Rattle.region.specs.Measures.{measured, pictured}
-use Rattle.region_axis.specs.Measures.{place, side}
+use Rattle.region.specs.Measures.{boundsFit, pictureFits}
+use Rattle.region_axis.specs.Measures.{cornerFits, sideFits}
 use Rattle.frame.specs.Sizes.{sizesOf}
 use Rattle.sigma_grids.specs.Table.{badGrid, cells, gridStart, lacks, someBelow}
 use Rattle.sigma_groups.specs.Held.{notHeld, someNotHeld}
@@ -21,8 +21,8 @@ use Rattle.planes.specs.Sets.{setOf, tab}
 use Rattle.planes.proofs.SetLaws.{of-setOf}
 use Rattle.planes.specs.Band.{inner}
 use Rattle.run_passes.specs.Plan.{plan, steps, stepOf, scaleOf, stepMargin}
-use Rattle.run_setup.specs.Setup.{bandCount, numbersFit, setupFits, sized}
-use Rattle.run_record.specs.Record.{isDone, started, marked, advanced, bandMissing, finished, strayDone, runFits}
+use Rattle.run_setup.specs.Setup.{bandCount, numbersFit, setupFits, sizeFits}
+use Rattle.run_record.specs.Record.{isDone, started, marked, advanced, bandMissing, finished, badDone, runFits}
 use Rattle.run_outcomes.specs.Start.{pictureChecks, startChecks, startLeaves, sigmasFilled, startOutcome}
 use Rattle.run_outcomes.specs.Band.{State, bandChecks, bandOutcome, advanceOutcome}
 use Rattle.run_calls.specs.Calls.{StartAccepted, LibraryCall, band, advance, libraryCalls, stateAfter, end, Unaltered}
@@ -34,11 +34,11 @@ use Rattle.run_calls.proofs.Places.{counted, counted-from}
 
 module _ (p : Picture) (scales : List Float) (border sigma : Float) where
   accepted : StartAccepted 3 (smaller p scales border sigma)
-  unfolding startOutcome startChecks pictureChecks pictured measured place side inside badSides badSettings sizesOf tableFits gridsFit gridStart cells someBelow badGrid someNotHeld notHeld lacks bandCount layoutOf setOf tab
+  unfolding startOutcome startChecks pictureChecks pictureFits boundsFit cornerFits sideFits inside badSides badSettings sizesOf tableFits gridsFit gridStart cells someBelow badGrid someNotHeld notHeld lacks bandCount layoutOf setOf tab
   accepted = refl
 
   unrefused : Unrefused 3 (larger p scales border sigma)
-  unfolding pictureChecks pictured measured place side inside badSides badSettings sizesOf tableFits gridsFit gridStart cells someBelow badGrid someNotHeld notHeld lacks bandCount layoutOf setOf tab
+  unfolding pictureChecks pictureFits boundsFit cornerFits sideFits inside badSides badSettings sizesOf tableFits gridsFit gridStart cells someBelow badGrid someNotHeld notHeld lacks bandCount layoutOf setOf tab
   unrefused = refl
 
   module _ (x y : ℤ) (held : Holds (smaller p scales border sigma .setup .filter) x y) where
@@ -75,13 +75,13 @@ module _ (p : Picture) (scales : List Float) (border sigma : Float) where
   after t = band t 0 ∷ advance (marked (started (smaller p scales border sigma .setup)) 0) ∷ []
 
   premises : Premises 3 (libraryCalls 3) (smaller p scales border sigma) (larger p scales border sigma) (calls p scales border sigma) (slice p scales border sigma)
-  unfolding startLeaves bandOutcome advanceOutcome sigmasFilled blockSigmas tab stateAfter end started marked advanced bandChecks runFits strayDone bandMissing isDone numbersFit setupFits bandCount sized someBelow pictured measured place side inside layoutOf plan steps setOf
+  unfolding startLeaves bandOutcome advanceOutcome sigmasFilled blockSigmas tab stateAfter end started marked advanced bandChecks runFits badDone bandMissing isDone numbersFit setupFits bandCount sizeFits someBelow pictureFits boundsFit cornerFits sideFits inside layoutOf plan steps setOf
   premises =
       let begins = sym (start-state 3 (smaller p scales border sigma) accepted) in
       record {
         start-accepted = accepted;
         cut-from-larger = from;
-        nobody-altered-anything = subst (λ (t : State). Unaltered 3 (libraryCalls 3) t (after t)) begins (λ e. refl, (λ e. refl, tt));
+        buffers-unaltered = subst (λ (t : State). Unaltered 3 (libraryCalls 3) t (after t)) begins (λ e. refl, (λ e. refl, tt));
         run-finished = subst (λ (t : State). T (finished (end 3 (libraryCalls 3) t (after t) .run))) begins tt;
         slice-fits = refl;
       }

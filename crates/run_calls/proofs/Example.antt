@@ -6,8 +6,8 @@ use native.Mathlib.Omega.{arith}
 use lib.IntN.{ℤ, pos, negsuc, natAbs, _-ℤ_}
 use lib.Ieee.{Float}
 use Rattle.region.specs.Regions.{inside, Holds}
-use Rattle.region.specs.Measures.{measured, pictured}
-use Rattle.region_axis.specs.Measures.{place, side}
+use Rattle.region.specs.Measures.{boundsFit, pictureFits}
+use Rattle.region_axis.specs.Measures.{cornerFits, sideFits}
 use Rattle.frame.specs.Sizes.{sizesOf}
 use Rattle.sigma_grids.specs.Table.{badGrid, cells, gridStart, someBelow}
 use Rattle.frame.specs.Outcome.{badSides, badSettings}
@@ -18,8 +18,8 @@ use Rattle.planes.specs.Sets.{setOf, tab}
 use Rattle.planes.proofs.SetLaws.{of-setOf}
 use Rattle.planes.specs.Band.{inner}
 use Rattle.run_passes.specs.Plan.{plan, steps, stepMargin}
-use Rattle.run_setup.specs.Setup.{bandCount, numbersFit, setupFits, sized}
-use Rattle.run_record.specs.Record.{isDone, started, marked, advanced, bandMissing, strayDone, runFits}
+use Rattle.run_setup.specs.Setup.{bandCount, numbersFit, setupFits, sizeFits}
+use Rattle.run_record.specs.Record.{isDone, started, marked, advanced, bandMissing, badDone, runFits}
 use Rattle.run_outcomes.specs.Start.{pictureChecks, startChecks, startLeaves, sigmasFilled, startOutcome}
 use Rattle.run_outcomes.specs.Band.{bandChecks, bandOutcome, advanceOutcome}
 use Rattle.run_calls.specs.Calls.{StartAccepted, libraryCalls, stateAfter, end}
@@ -30,11 +30,11 @@ use Rattle.run_calls.proofs.Places.{counted, counted-from}
 
 module _ (p : Picture) (weights : List (List Float)) where
   accepted : StartAccepted 3 (smaller p weights)
-  unfolding startOutcome startChecks pictureChecks pictured measured place side inside badSides badSettings sizesOf tableFits gridsFit gridStart cells someBelow badGrid bandCount layoutOf setOf tab
+  unfolding startOutcome startChecks pictureChecks pictureFits boundsFit cornerFits sideFits inside badSides badSettings sizesOf tableFits gridsFit gridStart cells someBelow badGrid bandCount layoutOf setOf tab
   accepted = refl
 
   unrefused : Unrefused 3 (larger p weights)
-  unfolding pictureChecks pictured measured place side inside badSides badSettings sizesOf tableFits gridsFit gridStart cells someBelow badGrid bandCount layoutOf setOf tab
+  unfolding pictureChecks pictureFits boundsFit cornerFits sideFits inside badSides badSettings sizesOf tableFits gridsFit gridStart cells someBelow badGrid bandCount layoutOf setOf tab
   unrefused = refl
 
   inputs : (c : ℕ) (x y : ℤ) → c < 3 → Holds (smaller p weights .setup .filter) x y → inputAt 3 (smaller p weights) c x y ≡ inputAt 3 (larger p weights) c x y
@@ -52,11 +52,11 @@ module _ (p : Picture) (weights : List (List Float)) where
   from = record { unrefused = unrefused; contained = tt; same-passes = refl; inputs-agree = inputs; sigmas-agree = λ on. absurd on }
 
   premises : Premises 3 (libraryCalls 3) (smaller p weights) (larger p weights) (calls p weights) (slice p weights)
-  unfolding startOutcome startLeaves bandOutcome advanceOutcome startChecks pictureChecks badSides badSettings sizesOf tableFits gridsFit gridStart cells badGrid sigmasFilled stateAfter end started marked advanced bandChecks runFits strayDone bandMissing isDone numbersFit setupFits bandCount sized someBelow pictured measured place side inside layoutOf plan steps setOf tab
+  unfolding startOutcome startLeaves bandOutcome advanceOutcome startChecks pictureChecks badSides badSettings sizesOf tableFits gridsFit gridStart cells badGrid sigmasFilled stateAfter end started marked advanced bandChecks runFits badDone bandMissing isDone numbersFit setupFits bandCount sizeFits someBelow pictureFits boundsFit cornerFits sideFits inside layoutOf plan steps setOf tab
   premises = record {
     start-accepted = accepted;
     cut-from-larger = from;
-    nobody-altered-anything = (λ e. refl, (λ e. absurd (omega (arith, e)), (λ e. absurd (omega (arith, e)), (λ e. refl, tt))));
+    buffers-unaltered = (λ e. refl, (λ e. absurd (omega (arith, e)), (λ e. absurd (omega (arith, e)), (λ e. refl, tt))));
     run-finished = tt;
     slice-fits = refl;
   }

@@ -29,7 +29,7 @@ use Rattle.run_outcomes.specs.Result.{resultOf}
 use Rattle.run_outcomes.proofs.Laws.{result-accepted, result-number, result-leaves}
 use Rattle.run_calls.specs.Places.{at, input, smoothed, resultAt}
 use Rattle.run_calls.specs.Theorem.{resultOn}
-use Rattle.run_calls.specs.States.{HandedOverAt}
+use Rattle.run_calls.specs.States.{ResultAt}
 use Rattle.run_calls.proofs.Rows.{sampleOf, filtered, InResult, filter-in-result, filtered-inside}
 use Rattle.run_calls.proofs.Sound.{Sound, pass-count}
 use Rattle.run_calls.proofs.Lists.{KeptFrom, reached-kept}
@@ -124,5 +124,5 @@ module _ (n : ℕ) (h : Handed) (t : State) (kept : KeptFrom n h t) where
       pub handed-over : (resultOn n t out .number ≡ 0) × (resultOn n t out .out ≡ resultOf n (layout (h .setup)) (source t))
       handed-over = (result-taken, result-leaves n (t .run) (t .first) (t .second) out result-taken ∙ rw (kept .setup))
 
-pub handed-over-at : HandedOverAt
-handed-over-at n h e t r z out room = handed-over n h t (reached-kept n h e t r) z out room
+pub result-at-state : ResultAt
+result-at-state n h e t r z out room = handed-over n h t (reached-kept n h e t r) z out room

@@ -13,8 +13,8 @@ use lib.Signed.{ltZ}
 use lib.Ieee.{Float}
 use Rattle.region_interval.proofs.Order.{lt-to, lt-of, sum-is}
 use Rattle.region.specs.Regions.{inside, Holds}
-use Rattle.region.specs.Measures.{measured, pictured}
-use Rattle.region_axis.specs.Measures.{place, side}
+use Rattle.region.specs.Measures.{boundsFit, pictureFits}
+use Rattle.region_axis.specs.Measures.{cornerFits, sideFits}
 use Rattle.frame.specs.Sizes.{sizesOf}
 use Rattle.sigma_grids.specs.Table.{badGrid, cells, gridStart, lacks, someBelow}
 use Rattle.sigma_groups.specs.Held.{notHeld, someNotHeld}
@@ -91,15 +91,15 @@ module _ (t : State) (c : LibraryCall) (cs : List LibraryCall) (e : numberIn (an
 
 module _ (g : Given) where
   accepted : StartAccepted 3 (smaller g)
-  unfolding startOutcome startChecks pictureChecks pictured measured place side inside badSides badSettings sizesOf tableFits gridsFit gridStart cells someBelow badGrid someNotHeld notHeld lacks bandCount layoutOf setOf tab
+  unfolding startOutcome startChecks pictureChecks pictureFits boundsFit cornerFits sideFits inside badSides badSettings sizesOf tableFits gridsFit gridStart cells someBelow badGrid someNotHeld notHeld lacks bandCount layoutOf setOf tab
   accepted = refl
 
   unrefused : Unrefused 3 (larger g)
-  unfolding pictureChecks pictured measured place side inside badSides badSettings sizesOf tableFits gridsFit gridStart cells someBelow badGrid someNotHeld notHeld lacks bandCount layoutOf setOf tab
+  unfolding pictureChecks pictureFits boundsFit cornerFits sideFits inside badSides badSettings sizesOf tableFits gridsFit gridStart cells someBelow badGrid someNotHeld notHeld lacks bandCount layoutOf setOf tab
   unrefused = refl
 
   start-refused : startOutcome 3 (empty g) .answer .number ≡ 4
-  unfolding startOutcome startChecks pictureChecks pictured measured place side
+  unfolding startOutcome startChecks pictureChecks pictureFits boundsFit cornerFits sideFits
   start-refused = refl
 
   abbrev leaves : List Float
@@ -201,7 +201,7 @@ module _ (g : Given) where
       record {
         start-accepted = accepted;
         cut-from-larger = from;
-        nobody-altered-anything = unaltered-after (begun g) (start (empty g)) (other 9 ∷ accepted-calls g) start-taken (unaltered-after (begun g) (other 9) (accepted-calls g) other-taken unaltered);
+        buffers-unaltered = unaltered-after (begun g) (start (empty g)) (other 9 ∷ accepted-calls g) start-taken (unaltered-after (begun g) (other 9) (accepted-calls g) other-taken unaltered);
         run-finished = subst (λ (r : Run). T (finished r)) (sym (ap (λ (t : State). t .run) same ∙ ends)) (rw at-end tt);
         slice-fits = refl;
       }

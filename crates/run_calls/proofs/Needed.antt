@@ -37,7 +37,7 @@ use Rattle.run_calls.specs.Calls.{startState, LibraryCall, band, advance
 use Rattle.run_calls.specs.Places.{Clear, inputAt, sampleAt, sigmaAt, resultAt}
 use Rattle.run_calls.specs.Theorem.{DeliversBeyond, Premises, resultOn}
 use Rattle.run_calls.specs.Corollaries.{FinishedRun, handedOver}
-use Rattle.run_calls.specs.Needed.{Premise, start-accepted, unrefused, contained, same-passes, inputs-agree, sigmas-agree, nobody-altered-anything, run-finished, slice-fits, Says, PremisesSay, GaborMarginNeeded, StepMarginNeeded, InputsNeeded, block, SigmasNeeded, altered, UnalteredNeeded}
+use Rattle.run_calls.specs.Needed.{Premise, start-accepted, unrefused, contained, same-passes, inputs-agree, sigmas-agree, buffers-unaltered, run-finished, slice-fits, Says, PremisesSay, GaborMarginNeeded, StepMarginNeeded, InputsNeeded, block, SigmasNeeded, altered, UnalteredNeeded}
 use Rattle.run_calls.specs.Example.{smaller, larger, calls, slice}
 use Rattle.run_calls.specs.EdgeExample.{smaller as smallerEdge, larger as largerEdge, calls as callsEdge, slice as sliceEdge}
 use Rattle.run_calls.proofs.Lists.{start-state, start-sound}
@@ -55,7 +55,7 @@ say premises contained = premises .cut-from-larger .contained
 say premises same-passes = premises .cut-from-larger .same-passes
 say premises inputs-agree = premises .cut-from-larger .inputs-agree
 say premises sigmas-agree = premises .cut-from-larger .sigmas-agree
-say premises nobody-altered-anything = premises .nobody-altered-anything
+say premises buffers-unaltered = premises .buffers-unaltered
 say premises run-finished = premises .run-finished
 say premises slice-fits = premises .slice-fits
 
@@ -65,7 +65,7 @@ premises-say small large cs out = (
   λ says. record {
     start-accepted = says start-accepted;
     cut-from-larger = record { unrefused = says unrefused; contained = says contained; same-passes = says same-passes; inputs-agree = says inputs-agree; sigmas-agree = says sigmas-agree };
-    nobody-altered-anything = says nobody-altered-anything;
+    buffers-unaltered = says buffers-unaltered;
     run-finished = says run-finished;
     slice-fits = says slice-fits;
   },
@@ -77,7 +77,7 @@ abbrev pub run-of : {small large : Handed} {cs : List LibraryCall} {out : List F
 run-of {small} {large} {cs} {out} p = record {
   accepted = p .start-accepted;
   calls = cs;
-  unaltered = p .nobody-altered-anything;
+  unaltered = p .buffers-unaltered;
   ended = p .run-finished;
   slice = out;
   room = p .slice-fits;
@@ -210,7 +210,7 @@ inputs-others contained n = premises-met blank weights .cut-from-larger .contain
 inputs-others same-passes n = refl
 inputs-others inputs-agree n = absurd (n refl)
 inputs-others sigmas-agree n = λ on. absurd on
-inputs-others nobody-altered-anything n = premises-met spot weights .nobody-altered-anything
+inputs-others buffers-unaltered n = premises-met spot weights .buffers-unaltered
 inputs-others run-finished n = premises-met spot weights .run-finished
 inputs-others slice-fits n = premises-met spot weights .slice-fits
 
@@ -248,7 +248,7 @@ sigmas-others contained n = edge-premises-met tenth-column ones b1 sigma64 .cut-
 sigmas-others same-passes n = refl
 sigmas-others inputs-agree n = edge-premises-met tenth-column ones b1 sigma64 .cut-from-larger .inputs-agree
 sigmas-others sigmas-agree n = absurd (n refl)
-sigmas-others nobody-altered-anything n = edge-premises-met tenth-column ones b1 sigma64 .nobody-altered-anything
+sigmas-others buffers-unaltered n = edge-premises-met tenth-column ones b1 sigma64 .buffers-unaltered
 sigmas-others run-finished n = edge-premises-met tenth-column ones b1 sigma64 .run-finished
 sigmas-others slice-fits n = edge-premises-met tenth-column ones b1 sigma64 .slice-fits
 
@@ -311,16 +311,16 @@ module _ (first : State) (same : first ≡ startState 3 (smaller spot weights)) 
   then-alike : Unaltered 3 (libraryCalls 3) (stateAfter 3 (libraryCalls 3) (startState 3 (smaller blank weights)) (band first 0)) later
   then-alike =
       let alike = first-decides (band (startState 3 (smaller spot weights)) 0) later (startState 3 (smaller blank weights)) (startState 3 (smaller spot weights)) first-taken refl .0 in
-      rw same (subst (λ (s : State). Unaltered 3 (libraryCalls 3) s later) (sym alike) (premises-met spot weights .nobody-altered-anything .1))
+      rw same (subst (λ (s : State). Unaltered 3 (libraryCalls 3) s later) (sym alike) (premises-met spot weights .buffers-unaltered .1))
 
-  altered-others : (p : Premise) → (p ≡ nobody-altered-anything → ⊥) → Says p (smaller blank weights) (larger blank weights) (band first 0 ∷ later) (slice blank weights)
+  altered-others : (p : Premise) → (p ≡ buffers-unaltered → ⊥) → Says p (smaller blank weights) (larger blank weights) (band first 0 ∷ later) (slice blank weights)
   altered-others start-accepted n = premises-met blank weights .start-accepted
   altered-others unrefused n = premises-met blank weights .cut-from-larger .unrefused
   altered-others contained n = premises-met blank weights .cut-from-larger .contained
   altered-others same-passes n = premises-met blank weights .cut-from-larger .same-passes
   altered-others inputs-agree n = premises-met blank weights .cut-from-larger .inputs-agree
   altered-others sigmas-agree n = premises-met blank weights .cut-from-larger .sigmas-agree
-  altered-others nobody-altered-anything n = absurd (n refl)
+  altered-others buffers-unaltered n = absurd (n refl)
   altered-others run-finished n = subst (λ (s : State). T (finished (s .run))) (sym ends-alike) (premises-met spot weights .run-finished)
   altered-others slice-fits n = premises-met blank weights .slice-fits
 

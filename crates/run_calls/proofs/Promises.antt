@@ -12,7 +12,7 @@ use Rattle.run_passes.proofs.Bounds.{step-bounds, settings-bounds, bounds-reach
 use Rattle.run_passes.proofs.Statements.{pass-near, cut-same, plan-reach}
 use Rattle.run_calls.specs.Promises.{Promises}
 use Rattle.run_calls.proofs.Theorem.{library-theorem, rectangle-theorem, rectangle-theorem-at}
-use Rattle.run_calls.proofs.Finished.{handed-over-at}
+use Rattle.run_calls.proofs.Finished.{result-at-state}
 use Rattle.run_calls.proofs.Example.{premises-met, place-clear}
 use Rattle.run_calls.proofs.EdgeExample.{edge-premises-met, edge-place-clear}
 use Rattle.run_calls.proofs.FourEdges.{four-edges-met, four-edges-clear, four-edges-delivered}
@@ -29,7 +29,7 @@ promises = record {
   library-theorem = library-theorem;
   rectangle-theorem = rectangle-theorem;
   rectangle-theorem-at = rectangle-theorem-at;
-  handed-over-at = handed-over-at;
+  result-at-state = result-at-state;
   end-reached = end-reached;
   premises-met = premises-met;
   place-clear = place-clear;

@@ -127,7 +127,7 @@ fits-reached r e t = go (finished r) refl
     fresh = passes-before (r .setup) (setup-fits (r .setup) (f .setup)) (r .pass) (f .pass)
 
     zero-at : finished r ≡ true → (k : ℕ) → k < 256 → getD (r .done) k 0 ≡ 0
-    zero-at z k l = flag-none (getD (r .done) k 0) (f .flag k l) (f .stray k l (rw z (omega arith)))
+    zero-at z k l = flag-none (getD (r .done) k 0) (f .flag k l) (f .none-past-count k l (rw z (omega arith)))
 
     go : (b : Bool) → finished r ≡ b → Reached (r .setup) r
     go true z =
@@ -142,7 +142,7 @@ fits-reached r e t = go (finished r) refl
           where
             at-dec : Dec (k < bandCount (r .setup)) → k < bandCount (r .setup)
             at-dec (yes p) = p
-            at-dec (no p) = let o : bandCount (r .setup) ≤ k = omega arith in absurd (false≢true (sym (f .stray k l (rw z o)) ∙ d))
+            at-dec (no p) = let o : bandCount (r .setup) ≤ k = omega arith in absurd (false≢true (sym (f .none-past-count k l (rw z o)) ∙ d))
 
 -- ---- lists of accepted calls
 
@@ -208,6 +208,6 @@ unfolding isDone
 can-finish n h start =
     let s : Setup = h .setup in
     let r : Run = at s (passCount s) noneDone in
-    let fits : RunFits r = record { setup = picture-accepted n h start .setup; pass = omega arith; flag = λ k l. rw (none-done k) (omega arith); stray = λ k l o. rw (none-done k) } in
+    let fits : RunFits r = record { setup = picture-accepted n h start .setup; pass = omega arith; flag = λ k l. rw (none-done k) (omega arith); none-past-count = λ k l o. rw (none-done k) } in
     let w = each-reached n h start r refl (fits-run r fits) (length-replicate {A = ℕ} 256 0) in
     (w .0, w .1 .unaltered, rw (w .1 .ends) (eqb-refl (passCount s)))

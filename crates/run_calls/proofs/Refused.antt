@@ -8,7 +8,7 @@ use Rattle.run_record.specs.declared.Run.{Run}
 use Rattle.run_outcomes.specs.Start.{StartOutcome}
 use Rattle.run_outcomes.specs.Band.{State}
 use Rattle.run_outcomes.proofs.Laws.{start-refused, band-refused, advance-refused, result-refused}
-use Rattle.run_calls.specs.Calls.{LibraryCall, band, advance, result, start, other, answer, numberIn, leftBy, LentState, stateAfter}
+use Rattle.run_calls.specs.Calls.{LibraryCall, band, advance, result, start, other, answer, numberIn, leftBy, PassesState, stateAfter}
 use Rattle.run_calls.specs.Rules.{StartTied, CallsTied, RefusedUntouched}
 
 pub refused-untouched : RefusedUntouched
@@ -22,7 +22,7 @@ pub start-tied : StartTied
 start-tied n h = (refl, refl, refl, refl)
 
 -- a refused call that is given the state leaves it unchanged
-refused-left : (n : ℕ) (t : State) (c : LibraryCall) → LentState t c → (numberIn (answer n c) ≡ 0 → ⊥) → leftBy t (answer n c) ≡ t
+refused-left : (n : ℕ) (t : State) (c : LibraryCall) → PassesState t c → (numberIn (answer n c) ≡ 0 → ⊥) → leftBy t (answer n c) ≡ t
 refused-left n t (band u k) l e = rw l (band-refused n t k (rw l at e))
 refused-left n t (advance r) l e = rw l (ap (λ (q : Run). record { run = q; sigmas = t .sigmas; first = t .first; second = t .second }) (advance-refused (t .run) (rw l at e)))
 refused-left n t (result r first second out) l e = refl

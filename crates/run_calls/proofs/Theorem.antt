@@ -135,7 +135,7 @@ rectangle-theorem-at n small large e from t r z out room =
     }
 
 pub rectangle-theorem : (n : ℕ) (K : Calls n) → RectangleTheorem n K
-rectangle-theorem n K small large cs out p = rectangle-theorem-at n small large (p .start-accepted) (p .cut-from-larger) _ (end-reached n K small cs (p .nobody-altered-anything)) (p .run-finished) out (p .slice-fits)
+rectangle-theorem n K small large cs out p = rectangle-theorem-at n small large (p .start-accepted) (p .cut-from-larger) _ (end-reached n K small cs (p .buffers-unaltered)) (p .run-finished) out (p .slice-fits)
 
 -- three planes and the calls of Specification 13.7
 pub library-theorem : LibraryTheorem

@@ -69,12 +69,12 @@ leftBy t (ofOther k) = t
 
 -- The call is given the record, the block sigmas and the sets of state t. No other start and no other function may be accepted during the
 -- run.
-abbrev pub LentState : State → LibraryCall → Type 0
-LentState t (band u k) = u ≡ t
-LentState t (advance r) = r ≡ t .run
-LentState t (result r first second out) = (r ≡ t .run) × (first ≡ t .first) × (second ≡ t .second)
-LentState t (start h) = ⊥
-LentState t (other k) = ⊥
+abbrev pub PassesState : State → LibraryCall → Type 0
+PassesState t (band u k) = u ≡ t
+PassesState t (advance r) = r ≡ t .run
+PassesState t (result r first second out) = (r ≡ t .run) × (first ≡ t .first) × (second ≡ t .second)
+PassesState t (start h) = ⊥
+PassesState t (other k) = ⊥
 
 abbrev pub asBands : LibraryCall → ℕ
 asBands (band t k) = 1
@@ -112,7 +112,7 @@ pub record Calls (n : ℕ) : Type 1 where
   pub advances : Call → ℕ
   pub effect : (t : State) (c : Call) → number (answer c) ≡ 0 → Lent t c → Effect n t (bands c) (advances c) (leaves t (answer c))
 
-unfoldable pub libraryEffect : (n : ℕ) (t : State) (c : LibraryCall) → numberIn (answer n c) ≡ 0 → LentState t c → Effect n t (asBands c) (asAdvances c) (leftBy t (answer n c))
+unfoldable pub libraryEffect : (n : ℕ) (t : State) (c : LibraryCall) → numberIn (answer n c) ≡ 0 → PassesState t c → Effect n t (asBands c) (asAdvances c) (leftBy t (answer n c))
 libraryEffect n t (band u k) e l = rw l (oneBand k (rw l at e))
 libraryEffect n t (advance r) e l = rw l (oneAdvance (rw l at e))
 libraryEffect n t (result r first second out) e l = nothing
@@ -126,7 +126,7 @@ libraryCalls n = record {
   answer = answer n;
   number = numberIn;
   leaves = leftBy;
-  Lent = LentState;
+  Lent = PassesState;
   bands = asBands;
   advances = asAdvances;
   effect = libraryEffect n;

@@ -24,7 +24,7 @@ use Rattle.run_calls.specs.Theorem.{Unrefused, Delivers, DeliversBeyond,
 
 -- named after the fields of `Premises` and, for those about the larger picture, of `CutFrom`
 pub data Premise : Type 0 where
-  start-accepted unrefused contained same-passes inputs-agree sigmas-agree nobody-altered-anything run-finished slice-fits : Premise
+  start-accepted unrefused contained same-passes inputs-agree sigmas-agree buffers-unaltered run-finished slice-fits : Premise
 
 -- each premise, of a smaller and a larger picture, a list of the library's calls and a slice
 abbrev pub Says : Premise → Handed → Handed → List LibraryCall → List Float → Type 0
@@ -34,7 +34,7 @@ Says contained small large cs out = T (inside (large .setup .filter) (small .set
 Says same-passes small large cs out = plan 3 (small .setup .settings) ≡ plan 3 (large .setup .settings)
 Says inputs-agree small large cs out = (c : ℕ) (x y : ℤ) → c < 3 → Holds (small .setup .filter) x y → inputAt 3 small c x y ≡ inputAt 3 large c x y
 Says sigmas-agree small large cs out = T (epfOn (small .setup)) → (x y : ℤ) → Holds (small .setup .filter) x y → sigmaAt 3 small x y ≡ sigmaAt 3 large x y
-Says nobody-altered-anything small large cs out = Unaltered 3 (libraryCalls 3) (startState 3 small) cs
+Says buffers-unaltered small large cs out = Unaltered 3 (libraryCalls 3) (startState 3 small) cs
 Says run-finished small large cs out = T (finished (end 3 (libraryCalls 3) (startState 3 small) cs .run))
 Says slice-fits small large cs out = length out ≡ resultLength 3 (small .setup)
 
@@ -101,4 +101,4 @@ pub record OneSampleAltered (small large : Handed) (cs : List LibraryCall) (out 
   pub then-unaltered : Unaltered 3 (libraryCalls 3) (stateAfter 3 (libraryCalls 3) (startState 3 small) (band (altered sample (startState 3 small)) number)) later
 
 abbrev pub UnalteredNeeded : Type 0
-UnalteredNeeded = TheoremBut nobody-altered-anything OneSampleAltered → ⊥
+UnalteredNeeded = TheoremBut buffers-unaltered OneSampleAltered → ⊥

@@ -13,7 +13,7 @@ use Rattle.run_passes.specs.Statements.{PassNear, CutSame, PlanReach}
 use Rattle.run_passes.specs.Bounds.{StepBounds, SettingsBounds, BoundsReached}
 use Rattle.run_calls.specs.Calls.{Calls}
 use Rattle.run_calls.specs.Theorem.{RectangleTheorem, LibraryTheorem}
-use Rattle.run_calls.specs.States.{EndReached, HandedOverAt, RectangleTheoremAt}
+use Rattle.run_calls.specs.States.{EndReached, ResultAt, RectangleTheoremAt}
 use Rattle.run_calls.specs.Rules.{StartTied, CallsTied, RefusedUntouched, CanFinish, CountRule, LibraryCountRule, EndFits, ReachedFits, FitsReached, EachReached}
 use Rattle.run_calls.specs.Corollaries.{WholePicture, TwoCutsAgree, OutsideKept, BandsAlike}
 use Rattle.run_calls.specs.Example.{PremisesMet, PlaceClear}
@@ -28,7 +28,7 @@ pub record Promises : Type 1 where
   pub rectangle-theorem : (n : ℕ) (K : Calls n) → RectangleTheorem n K
   -- the theorem for a state, however it was reached, and that lists of calls reach such states
   pub rectangle-theorem-at : RectangleTheoremAt
-  pub handed-over-at : HandedOverAt
+  pub result-at-state : ResultAt
   pub end-reached : (n : ℕ) (K : Calls n) → EndReached n K
   -- examples meet the premises, one of them with four cut edges
   pub premises-met : PremisesMet

@@ -13,7 +13,7 @@ use Rattle.run_record.specs.Record.{passCount, finished, runFits, Reached}
 use Rattle.run_outcomes.specs.Start.{Handed, startOutcome}
 use Rattle.run_outcomes.specs.Band.{State, bandOutcome, advanceOutcome}
 use Rattle.run_outcomes.specs.Result.{resultOutcome}
-use Rattle.run_calls.specs.Calls.{StartAccepted, startState, LibraryCall, band, advance, result, start, other, answer, numberIn, leftBy, LentState, Calls, libraryCalls, stateAfter, end, Unaltered, AllAccepted, bandsIn, advancesIn}
+use Rattle.run_calls.specs.Calls.{StartAccepted, startState, LibraryCall, band, advance, result, start, other, answer, numberIn, leftBy, PassesState, Calls, libraryCalls, stateAfter, end, Unaltered, AllAccepted, bandsIn, advancesIn}
 
 -- ---- the calls (Specification 13.7)
 
@@ -25,7 +25,7 @@ StartTied = (n : ℕ) (h : Handed) → let t = startState n h in
 
 -- if a call is given the state, accepted or not, what it returns and writes is the state after it
 abbrev pub CallsTied : Type 0
-CallsTied = (n : ℕ) (t : State) (c : LibraryCall) → LentState t c → leftBy t (answer n c) ≡ stateAfter n (libraryCalls n) t c
+CallsTied = (n : ℕ) (t : State) (c : LibraryCall) → PassesState t c → leftBy t (answer n c) ≡ stateAfter n (libraryCalls n) t c
 
 -- a call leaves all its arguments unchanged; the contracts of functions other than these four say it themselves
 abbrev pub Untouched : ℕ → LibraryCall → Type 0

@@ -25,8 +25,8 @@ module _ (n : ℕ) (K : Calls n) where
   EndReached = (h : Handed) (cs : List (K .Call)) → Unaltered n K (startState n h) cs → StateReached n h (end n K (startState n h) cs)
 
 -- in a finished run the result call is accepted and copies the result region of the set that the next pass would read
-abbrev pub HandedOverAt : Type 0
-HandedOverAt = (n : ℕ) (h : Handed) → StartAccepted n h → (t : State) → StateReached n h t → T (finished (t .run))
+abbrev pub ResultAt : Type 0
+ResultAt = (n : ℕ) (h : Handed) → StartAccepted n h → (t : State) → StateReached n h t → T (finished (t .run))
     → (out : List Float) → length out ≡ resultLength n (h .setup) → (resultOn n t out .number ≡ 0) × (resultOn n t out .out ≡ resultOf n (layout (h .setup)) (source t))
 
 -- the theorem on rectangles for a state; the theorem for a list of calls follows from it

@@ -58,7 +58,7 @@ module _ (n : ℕ) (K : Calls n) where
   pub record Premises (small large : Handed) (cs : List (K .Call)) (out : List Float) : Type 0 where
     pub start-accepted : StartAccepted n small
     pub cut-from-larger : CutFrom n small large
-    pub nobody-altered-anything : Unaltered n K (startState n small) cs
+    pub buffers-unaltered : Unaltered n K (startState n small) cs
     pub run-finished : T (finished (end n K (startState n small) cs .run))
     pub slice-fits : length out ≡ resultLength n (small .setup)
 

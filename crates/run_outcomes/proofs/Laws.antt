@@ -10,7 +10,7 @@ use lib.Ieee.{Float}
 use lib.Ieee.Fits.{and-l, and-r, and-i}
 use Rattle.refusals.specs.Checks.{firstOf}
 use Rattle.region.specs.Regions.{inside}
-use Rattle.region.specs.Measures.{pictured}
+use Rattle.region.specs.Measures.{pictureFits}
 use Rattle.planes_layout.specs.Outcome.{layoutOf}
 use Rattle.epf_tiles.specs.Blocks.{blockColumns, blockRows}
 use Rattle.sigma.specs.Sigma.{blockSigmas}
@@ -18,7 +18,7 @@ use Rattle.sigma.proofs.Laws.{length-sigmas}
 use Rattle.region_placement.specs.Blocks.{onBlocks}
 use Rattle.run_passes.specs.Plan.{gaborFits}
 use Rattle.run_record.specs.declared.Run.{Run}
-use Rattle.run_setup.specs.Setup.{maxBands, layout, epfOn, itersFit, fullFits, heightFits, countFits, bandCount, setupFits, sized, setLength, sigmaLength, resultRegion, resultLength}
+use Rattle.run_setup.specs.Setup.{maxBands, layout, epfOn, itersFit, fullFits, heightFits, countFits, bandCount, setupFits, sizeFits, setLength, sigmaLength, resultRegion, resultLength}
 use Rattle.run_record.specs.Record.{advanced, finished, runFits, runInRange, bandOpen, passDone, overChecks}
 use Rattle.refusals.proofs.Tables.{is-true, met, met-given, none-zero}
 use Rattle.run_setup.proofs.Laws.{fits-setup}
@@ -43,7 +43,7 @@ unfolding pictureChecks
 picture-fits n h e =
     let s = h .setup in
     let passed = row-passed (pictureChecks n h) tt e in
-    let pictures = met (pictured (s .image) && pictured (s .filter)) (passed (regionSides s) (search (here, below) depth 20)) in
+    let pictures = met (pictureFits (s .image) && pictureFits (s .filter)) (passed (regionSides s) (search (here, below) depth 20)) in
     let set = met (eqb (length (h .first)) (setLength n s) && eqb (length (h .second)) (setLength n s)) (passed (setLengths n h) (search (here, below) depth 20)) in
     let iters : T (itersFit s) = met (itersFit s) (passed (itersInRange s) (search (here, below) depth 20)) in
     let full : T (fullFits s) = met (fullFits s) (passed (fullInRange s) (search (here, below) depth 20)) in
@@ -51,8 +51,8 @@ picture-fits n h e =
     let count : T (countFits s) = met-given (fullFits s && heightFits s) (countFits s) (passed (countInRange s) (search (here, below) depth 20)) (and-i (fullFits s) (heightFits s) full height) in
     record {
       setup = fits-setup s (record {
-        image = and-l (pictured (s .image)) (pictured (s .filter)) pictures;
-        filter = and-r (pictured (s .image)) (pictured (s .filter)) pictures;
+        image = and-l (pictureFits (s .image)) (pictureFits (s .filter)) pictures;
+        filter = and-r (pictureFits (s .image)) (pictureFits (s .filter)) pictures;
         contained = met (inside (s .image) (s .filter)) (passed (filterInside s) (search (here, below) depth 20));
         blocks = λ on. met-given (itersFit s && epfOn s) (onBlocks (s .filter)) (passed (filterOnBlocks s) (search (here, below) depth 20)) (and-i (itersFit s) (epfOn s) iters on);
         iterations = leb→le (s .settings .epf .iters) 3 iters;
@@ -195,9 +195,9 @@ unfolding bandChecks
 band-accepted n t k p q r fits o =
     let s = t .run .setup in
     none-zero (bandChecks n t k) (
-      lengths-passed (sized (s .image)) (length (t .first)) (length (t .second)) (setLength n s) p q,
+      lengths-passed (sizeFits (s .image)) (length (t .first)) (length (t .second)) (setLength n s) p q,
       (
-        length-passed (itersFit s && (not (epfOn s) || sized (s .filter))) (length (t .sigmas)) (sigmaLength s) r,
+        length-passed (itersFit s && (not (epfOn s) || sizeFits (s .filter))) (length (t .sigmas)) (sigmaLength s) r,
         (and-none true (runFits (t .run)) (fits-run (t .run) fits), (open-band (t .run) k o, tt)),
       ),
     )
@@ -211,9 +211,9 @@ unfolding resultChecks
 result-accepted n r first second out p q l fits f =
     let s = r .setup in
     none-zero (resultChecks n r first second out) (
-      lengths-passed (sized (s .image)) (length first) (length second) (setLength n s) p q,
+      lengths-passed (sizeFits (s .image)) (length first) (length second) (setLength n s) p q,
       (
-        length-passed (fullFits s && sized (resultRegion s)) (length out) (resultLength n s) l,
+        length-passed (fullFits s && sizeFits (resultRegion s)) (length out) (resultLength n s) l,
         (and-none true (runFits r) (fits-run r fits), (and-none true (finished r) f, tt)),
       ),
     )

@@ -11,7 +11,7 @@ use Rattle.planes_layout.specs.Outcome.{layoutOf}
 use Rattle.planes.proofs.Stored.{and-first, and-second}
 use Rattle.frame.specs.Sizes.{dividedUp}
 use Rattle.run_setup.specs.declared.Setup.{Setup}
-use Rattle.run_setup.specs.Setup.{fullFits, sized, resultRegion, setLength, resultLength}
+use Rattle.run_setup.specs.Setup.{fullFits, sizeFits, resultRegion, setLength, resultLength}
 use Rattle.run_outcomes.specs.Band.{setCheck, sigmaCheck}
 use Rattle.run_outcomes.specs.Result.{sliceCheck}
 
@@ -21,22 +21,22 @@ pub record Sides (r : Region) : Type 0 where
   pub wide : r .width ≤ 16384
   pub high : r .height ≤ 16384
 
-pub sized-sides : (r : Region) → sized r ≡ true → Sides r
-unfolding sized
-sized-sides r e =
+pub size-sides : (r : Region) → sizeFits r ≡ true → Sides r
+unfolding sizeFits
+size-sides r e =
     let s = and-first (leb (r .width) 16384 && leb (r .height) 16384) _ e in
     record { wide = leb-true _ _ (and-first (leb (r .width) 16384) (leb (r .height) 16384) s); high = leb-true _ _ (and-second (leb (r .width) 16384) (leb (r .height) 16384) s) }
 
 -- ---- the sets
 
 module _ (n : ℕ) (s : Setup) (first second : ℕ) where
-  pub sets-unknown : sized (s .image) ≡ false → false ≡ applies (setCheck n s first second)
+  pub sets-unknown : sizeFits (s .image) ≡ false → false ≡ applies (setCheck n s first second)
   sets-unknown e = rw e
 
-  pub first-wrong : sized (s .image) ≡ true → (first ≡ setLength n s → ⊥) → true ≡ applies (setCheck n s first second)
+  pub first-wrong : sizeFits (s .image) ≡ true → (first ≡ setLength n s → ⊥) → true ≡ applies (setCheck n s first second)
   first-wrong e h = rw (e, ne-eqb first (setLength n s) h)
 
-  pub sets-by-second : sized (s .image) ≡ true → first ≡ setLength n s → not (eqb second (setLength n s)) ≡ applies (setCheck n s first second)
+  pub sets-by-second : sizeFits (s .image) ≡ true → first ≡ setLength n s → not (eqb second (setLength n s)) ≡ applies (setCheck n s first second)
   sets-by-second e h = rw (e, eq-eqb first (setLength n s) h)
 
 -- ---- the block sigmas
@@ -53,10 +53,10 @@ module _ (n : ℕ) (s : Setup) (sigmas : ℕ) where
   sigmas-none e = rw e
 
   module _ (i : s .settings .epf .iters ≤ 3) (o : 0 < s .settings .epf .iters) where
-    pub filter-unknown : sized (s .filter) ≡ false → false ≡ applies (sigmaCheck n s sigmas)
+    pub filter-unknown : sizeFits (s .filter) ≡ false → false ≡ applies (sigmaCheck n s sigmas)
     filter-unknown e = rw (le-leb (s .settings .epf .iters) 3 i, lt-ltb 0 (s .settings .epf .iters) o, e)
 
-    pub sigmas-by-count : sized (s .filter) ≡ true → (down across : ℕ) → down ≡ dividedUp (s .filter .height) 8 → across ≡ dividedUp (s .filter .width) 8
+    pub sigmas-by-count : sizeFits (s .filter) ≡ true → (down across : ℕ) → down ≡ dividedUp (s .filter .height) 8 → across ≡ dividedUp (s .filter .width) 8
         → not (eqb sigmas (down * across)) ≡ applies (sigmaCheck n s sigmas)
     unfolding layoutOf
     sigmas-by-count e down across d a =
@@ -68,11 +68,11 @@ pub no-result : (n : ℕ) (s : Setup) (out : ℕ) → fullFits s ≡ false → f
 no-result n s out f = rw f
 
 module _ (n : ℕ) (s : Setup) (out : ℕ) (f : fullFits s ≡ true) (r : Region) (p : r ≡ resultRegion s) where
-  pub slice-unknown : sized r ≡ false → false ≡ applies (sliceCheck n s out)
-  slice-unknown e = let z : sized (resultRegion s) ≡ false = sym (ap sized p) ∙ e in rw (f, z)
+  pub slice-unknown : sizeFits r ≡ false → false ≡ applies (sliceCheck n s out)
+  slice-unknown e = let z : sizeFits (resultRegion s) ≡ false = sym (ap sizeFits p) ∙ e in rw (f, z)
 
-  pub slice-by-length : sized r ≡ true → (k : ℕ) → k ≡ n * r .height * r .width → not (eqb out k) ≡ applies (sliceCheck n s out)
+  pub slice-by-length : sizeFits r ≡ true → (k : ℕ) → k ≡ n * r .height * r .width → not (eqb out k) ≡ applies (sliceCheck n s out)
   slice-by-length e k q =
-      let z : sized (resultRegion s) ≡ true = sym (ap sized p) ∙ e in
+      let z : sizeFits (resultRegion s) ≡ true = sym (ap sizeFits p) ∙ e in
       let l : k ≡ resultLength n s = q ∙ ap (λ (r : Region). n * r .height * r .width) p in
       rw (f, z, l)

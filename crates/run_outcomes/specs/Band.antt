@@ -12,7 +12,7 @@ use Rattle.run_passes.specs.Pass.{Pass, gaborLike, pass}
 use Rattle.run_passes.specs.Plan.{plan}
 use Rattle.run_setup.specs.declared.Setup.{Setup}
 use Rattle.run_record.specs.declared.Run.{Run}
-use Rattle.run_setup.specs.Setup.{layout, epfOn, area, bandFrom, bandTo, sized, itersFit, setLength, sigmaLength}
+use Rattle.run_setup.specs.Setup.{layout, epfOn, area, bandFrom, bandTo, sizeFits, itersFit, setLength, sigmaLength}
 use Rattle.run_record.specs.Record.{openChecks, overChecks, marked, advanced}
 use Rattle.run_outcomes.specs.declared.RunAnswer.{RunAnswer}
 
@@ -44,10 +44,10 @@ target t = cond (readsFirst (t .run)) (t .second) (t .first)
 module _ (n : ℕ) where
   -- both sets, also the one that is written
   abbrev pub setCheck : Setup → ℕ → ℕ → Check
-  setCheck s first second = given (sized (s .image)) wrongLength (not (eqb first (setLength n s) && eqb second (setLength n s)))
+  setCheck s first second = given (sizeFits (s .image)) wrongLength (not (eqb first (setLength n s) && eqb second (setLength n s)))
 
   abbrev pub sigmaCheck : Setup → ℕ → Check
-  sigmaCheck s sigmas = given (itersFit s && (not (epfOn s) || sized (s .filter))) wrongLength (not (eqb sigmas (sigmaLength s)))
+  sigmaCheck s sigmas = given (itersFit s && (not (epfOn s) || sizeFits (s .filter))) wrongLength (not (eqb sigmas (sigmaLength s)))
 
   -- ---- a band
 

@@ -12,7 +12,7 @@ use Rattle.planes.specs.Sets.{of, setOf}
 use Rattle.planes.specs.Band.{resultLeft, resultTop, resultWidth, resultHeight}
 use Rattle.run_setup.specs.declared.Setup.{Setup}
 use Rattle.run_record.specs.declared.Run.{Run}
-use Rattle.run_setup.specs.Setup.{fullFits, layout, sized, resultRegion, resultLength}
+use Rattle.run_setup.specs.Setup.{fullFits, layout, sizeFits, resultRegion, resultLength}
 use Rattle.run_record.specs.Record.{finishedChecks}
 use Rattle.run_outcomes.specs.Band.{readsFirst, setCheck}
 
@@ -24,7 +24,7 @@ pub record ResultOutcome : Type 0 where
 module _ (n : ℕ) where
   -- the length of the caller's slice
   abbrev pub sliceCheck : Setup → ℕ → Check
-  sliceCheck s out = given (fullFits s && sized (resultRegion s)) wrongLength (not (eqb out (resultLength n s)))
+  sliceCheck s out = given (fullFits s && sizeFits (resultRegion s)) wrongLength (not (eqb out (resultLength n s)))
 
   unfoldable pub resultChecks : Run → List Float → List Float → List Float → List Check
   resultChecks r first second out =

@@ -5,16 +5,16 @@ use Prim.Native.Nat.{ℕ, _/_}
 use lib.Dec.{eqb}
 use lib.ListN.{length}
 use lib.Ieee.{Float}
-use Rattle.refusals.specs.Numbers.{outOfMeasure, notInside, notOnBlocks, wrongLength, blockNotHeld, outOfRange}
+use Rattle.refusals.specs.Numbers.{outOfLimits, notInside, notOnBlocks, wrongLength, blockNotHeld, outOfRange}
 use Rattle.refusals.specs.Checks.{Check, always, given, firstOf}
 use Rattle.region.specs.Regions.{inside}
-use Rattle.region.specs.Measures.{pictured}
+use Rattle.region.specs.Measures.{pictureFits}
 use Rattle.frame.specs.declared.Frame.{Frame}
 use Rattle.sigma_blocks.specs.declared.Blocks.{Blocks}
 use Rattle.sigma_groups.specs.Held.{someNotHeld}
 use Rattle.sigma_groups.specs.Outcome.{tableRead, frameSides, gridSides, tableLength, gridsLength, frameSettings, presences}
 use Rattle.sigma.specs.Sigma.{blockSigmas}
-use Rattle.region_placement.specs.Blocks.{ahead, onBlocks}
+use Rattle.region_placement.specs.Blocks.{clampToZero, onBlocks}
 use Rattle.run_passes.specs.Plan.{gaborFits}
 use Rattle.run_setup.specs.declared.Setup.{Setup}
 use Rattle.run_setup.specs.Makers.{noSetup}
@@ -35,7 +35,7 @@ pub record Handed : Type 0 where
 
 -- the filter region in blocks; a negative left or top is refused with 6 if the EPF is on
 abbrev pub blocksOf : Setup → Blocks
-blocksOf s = record { left = ahead (s .filter .left) / 8; top = ahead (s .filter .top) / 8; width = s .filter .width; height = s .filter .height }
+blocksOf s = record { left = clampToZero (s .filter .left) / 8; top = clampToZero (s .filter .top) / 8; width = s .filter .width; height = s .filter .height }
 
 -- ---- the rows of start's table of checks, by name; crate `sigma_groups` has those of the frame, its group table and its grids
 
@@ -44,7 +44,7 @@ abbrev pub runsEpf : Setup → Bool
 runsEpf s = itersFit s && epfOn s
 
 abbrev pub regionSides : Setup → Check
-regionSides s = always outOfMeasure (not (pictured (s .image) && pictured (s .filter)))
+regionSides s = always outOfLimits (not (pictureFits (s .image) && pictureFits (s .filter)))
 
 abbrev pub filterInside : Setup → Check
 filterInside s = always notInside (not (inside (s .image) (s .filter)))

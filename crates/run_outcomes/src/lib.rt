@@ -6,13 +6,13 @@ use region::Region;
 use run_passes::MAX_ITERS;
 use run_record::Run;
 use run_setup::Setup;
-use run_setup::sized;
+use run_setup::size_fits;
 use sigma_blocks::blocks_along;
 ghost use mathlib.Core.Path.{_≡_};
 ghost use mathlib.Core.Bool.{true};
 ghost use Prim.Native.Nat.{_*_};
 ghost use Rattle.refusals.specs.Checks.{applies};
-ghost use Rattle.run_setup.specs.Setup.{sized, resultRegion};
+ghost use Rattle.run_setup.specs.Setup.{sizeFits, resultRegion};
 ghost use Rattle.run_outcomes.specs.Band.{setCheck, sigmaCheck};
 ghost use Rattle.run_outcomes.specs.Result.{sliceCheck};
 
@@ -27,7 +27,7 @@ pub struct RunAnswer {
 }
 
 fn set_length(r: Region) -> usize
-    requires { ⌜ sized r ≡ true ⌝ }
+    requires { ⌜ sizeFits r ≡ true ⌝ }
     ensures { λ n. ⌜ n ≡ 3 * r .height * r .width ⌝ }
 {
     PLANES * r.height as usize * r.width as usize
@@ -42,11 +42,11 @@ fn result_region(s: Setup) -> Region
     s.filter
 }
 
-// Whether a set has the wrong length; false if the image region is not sized (Specification 12.12).
-pub fn sets_wrong(s: Setup, first: usize, second: usize) -> bool
+// Whether a set has the wrong length; false if the image region's size does not fit (Specification 12.12).
+pub fn bad_sets(s: Setup, first: usize, second: usize) -> bool
     ensures { λ b. ⌜ b ≡ applies (setCheck 3 s first second) ⌝ }
 {
-    if !sized(s.image) {
+    if !size_fits(s.image) {
         return false;
     }
     let n = set_length(s.image);
@@ -57,8 +57,8 @@ pub fn sets_wrong(s: Setup, first: usize, second: usize) -> bool
 }
 
 // Whether the block sigmas have the wrong length; false if the iterations are over 3, or if the EPF is on and the
-// filter region is not sized (Specification 12.12).
-pub fn sigmas_wrong(s: Setup, sigmas: usize) -> bool
+// filter region's size does not fit (Specification 12.12).
+pub fn bad_sigmas(s: Setup, sigmas: usize) -> bool
     ensures { λ b. ⌜ b ≡ applies (sigmaCheck 3 s sigmas) ⌝ }
 {
     if MAX_ITERS < s.settings.epf.iters {
@@ -67,7 +67,7 @@ pub fn sigmas_wrong(s: Setup, sigmas: usize) -> bool
     if s.settings.epf.iters == 0 {
         return sigmas != 0;
     }
-    if !sized(s.filter) {
+    if !size_fits(s.filter) {
         return false;
     }
     let down = blocks_along(s.filter.height) as usize;
@@ -76,15 +76,15 @@ pub fn sigmas_wrong(s: Setup, sigmas: usize) -> bool
 }
 
 // Whether the slice for the result has the wrong length; false if `preserve_outside` is not a flag or the result
-// region is not sized (Specification 12.12).
-pub fn slice_wrong(s: Setup, out: usize) -> bool
+// region's size does not fit (Specification 12.12).
+pub fn bad_slice(s: Setup, out: usize) -> bool
     ensures { λ b. ⌜ b ≡ applies (sliceCheck 3 s out) ⌝ }
 {
     if !flag_fits(s.preserve_outside) {
         return false;
     }
     let r = result_region(s);
-    if !sized(r) {
+    if !size_fits(r) {
         return false;
     }
     out != set_length(r)

@@ -18,7 +18,7 @@ use Rattle.refusals.proofs.Tables.{is-true, of-true}
 use Rattle.run_setup.specs.Setup.{maxBands, bandCount, setupFits}
 use Rattle.run_setup.specs.SetupFits.{SetupFits}
 use Rattle.run_setup.proofs.Laws.{setup-fits}
-use Rattle.run_record.specs.Record.{passCount, isDone, noneDone, started, marked, advanced, finished, bandMissing, notOpen, notOver, openBands, strayFlag, strayDone, runFits}
+use Rattle.run_record.specs.Record.{passCount, isDone, noneDone, started, marked, advanced, finished, bandMissing, notOpen, notOver, openBands, badFlag, badDone, runFits}
 use Rattle.run_record.specs.RunFits.{RunFits}
 
 pub none-has : (n : ℕ) (has : ℕ → Bool) → ((k : ℕ) → k < n → has k ≡ false) → someBelow n has ≡ false
@@ -27,48 +27,48 @@ none-has zero has f = refl
 none-has (suc n) has f = rw (none-has n has (λ k l. f k (omega arith)), f n (omega arith))
 
 -- a flag of a valid record is 0 or 1, and 0 from the open bands on
-flag-most : (bands k f : ℕ) → strayFlag bands k f ≡ false → f ≤ 1
+flag-most : (bands k f : ℕ) → badFlag bands k f ≡ false → f ≤ 1
 flag-most bands k f e = go (ltb k bands) (ltb-false _ f e)
   where
     go : (b : Bool) → f ≤ oneIf b → f ≤ 1
     go true h = h
     go false h = omega (arith, h)
 
-flag-none : (bands k f : ℕ) → strayFlag bands k f ≡ false → bands ≤ k → f ≡ 0
+flag-none : (bands k f : ℕ) → badFlag bands k f ≡ false → bands ≤ k → f ≡ 0
 flag-none bands k f e h = let z : ltb 0 f ≡ false = rw (le-ltb k bands h) at e in omega (arith, ltb-false 0 f z)
 
-not-stray : (bands k f : ℕ) → f ≤ 1 → (bands ≤ k → eqb f 1 ≡ false) → strayFlag bands k f ≡ false
-not-stray bands k f h n = go (ltb k bands) refl
+not-bad-flag : (bands k f : ℕ) → f ≤ 1 → (bands ≤ k → eqb f 1 ≡ false) → badFlag bands k f ≡ false
+not-bad-flag bands k f h n = go (ltb k bands) refl
   where
     go : (b : Bool) → ltb k bands ≡ b → ltb (oneIf b) f ≡ false
     go true e = le-ltb 1 f h
     go false e = let z = eqb-false f 1 (n (ltb-false k bands e)) in le-ltb 0 f (omega arith)
 
 pub run-fits : (r : Run) → T (runFits r) → RunFits r
-unfolding runFits strayDone isDone
+unfolding runFits badDone isDone
 run-fits r t =
-    let q = and-r (setupFits (r .setup)) (leb (r .pass) (passCount (r .setup)) && not (strayDone r)) t in
-    let none : strayDone r ≡ false = not-true (strayDone r) (is-true (not (strayDone r)) (and-r (leb (r .pass) (passCount (r .setup))) (not (strayDone r)) q)) in
+    let q = and-r (setupFits (r .setup)) (leb (r .pass) (passCount (r .setup)) && not (badDone r)) t in
+    let none : badDone r ≡ false = not-true (badDone r) (is-true (not (badDone r)) (and-r (leb (r .pass) (passCount (r .setup))) (not (badDone r)) q)) in
     record {
-      setup = and-l (setupFits (r .setup)) (leb (r .pass) (passCount (r .setup)) && not (strayDone r)) t;
-      pass = leb→le (r .pass) (passCount (r .setup)) (and-l (leb (r .pass) (passCount (r .setup))) (not (strayDone r)) q);
+      setup = and-l (setupFits (r .setup)) (leb (r .pass) (passCount (r .setup)) && not (badDone r)) t;
+      pass = leb→le (r .pass) (passCount (r .setup)) (and-l (leb (r .pass) (passCount (r .setup))) (not (badDone r)) q);
       flag = λ k l. flag-most (openBands r) k (getD (r .done) k 0) (fair none k l);
-      stray = λ k l o. let z : getD (r .done) k 0 ≡ 0 = flag-none (openBands r) k (getD (r .done) k 0) (fair none k l) o in rw z;
+      none-past-count = λ k l o. let z : getD (r .done) k 0 ≡ 0 = flag-none (openBands r) k (getD (r .done) k 0) (fair none k l) o in rw z;
     }
   where
-    fair : strayDone r ≡ false → (k : ℕ) → k < maxBands → strayFlag (openBands r) k (getD (r .done) k 0) ≡ false
-    fair none k l = none-below maxBands k (λ k. strayFlag (openBands r) k (getD (r .done) k 0)) none l
+    fair : badDone r ≡ false → (k : ℕ) → k < maxBands → badFlag (openBands r) k (getD (r .done) k 0) ≡ false
+    fair none k l = none-below maxBands k (λ k. badFlag (openBands r) k (getD (r .done) k 0)) none l
 
 -- the same from the answer of a test
 pub fits-setup-of : (r : Run) → runFits r ≡ true → SetupFits (r .setup)
 fits-setup-of r e = setup-fits (r .setup) (run-fits r (of-true (runFits r) e) .setup)
 
 pub fits-run : (r : Run) → RunFits r → T (runFits r)
-unfolding runFits strayDone isDone
+unfolding runFits badDone isDone
 fits-run r f =
-    let none : strayDone r ≡ false = none-has maxBands (λ k. strayFlag (openBands r) k (getD (r .done) k 0)) (λ k l. not-stray (openBands r) k (getD (r .done) k 0) (f .flag k l) (f .stray k l)) in
-    and-i (setupFits (r .setup)) (leb (r .pass) (passCount (r .setup)) && not (strayDone r)) (f .setup)
-    (and-i (leb (r .pass) (passCount (r .setup))) (not (strayDone r)) (le→leb (r .pass) (passCount (r .setup)) (f .pass)) (rw none tt))
+    let none : badDone r ≡ false = none-has maxBands (λ k. badFlag (openBands r) k (getD (r .done) k 0)) (λ k l. not-bad-flag (openBands r) k (getD (r .done) k 0) (f .flag k l) (f .none-past-count k l)) in
+    and-i (setupFits (r .setup)) (leb (r .pass) (passCount (r .setup)) && not (badDone r)) (f .setup)
+    (and-i (leb (r .pass) (passCount (r .setup))) (not (badDone r)) (le→leb (r .pass) (passCount (r .setup)) (f .pass)) (rw none tt))
 
 -- a band that may run
 pub record Open (r : Run) (k : ℕ) : Type 0 where
@@ -119,7 +119,7 @@ pass-left r f e = let n = eqb-false (r .pass) (passCount (r .setup)) e in omega 
 
 pub started-fits : (s : Setup) → T (setupFits s) → RunFits (started s)
 unfolding started isDone
-started-fits s t = record { setup = t; pass = omega arith; flag = λ k l. rw (none-done k) (omega arith); stray = λ k l o. rw (none-done k) }
+started-fits s t = record { setup = t; pass = omega arith; flag = λ k l. rw (none-done k) (omega arith); none-past-count = λ k l o. rw (none-done k) }
 
 set-most : (l : List ℕ) (k j : ℕ) → getD l j 0 ≤ 1 → getD (set l k 1) j 0 ≤ 1
 set-most [] k j h = h
@@ -135,9 +135,9 @@ marked-fits r k f o =
       setup = f .setup;
       pass = f .pass;
       flag = λ j l. set-most (r .done) k j (f .flag j l);
-      stray = λ j l p. rw (getD-set-other (r .done) k j 1 0 (λ (e : j ≡ k). omega (arith, e, o .below, rw (o .unfinished) at p))) (f .stray j l p);
+      none-past-count = λ j l p. rw (getD-set-other (r .done) k j 1 0 (λ (e : j ≡ k). omega (arith, e, o .below, rw (o .unfinished) at p))) (f .none-past-count j l p);
     }
 
 pub advanced-fits : (r : Run) → RunFits r → Over r → RunFits (advanced r)
 unfolding advanced isDone
-advanced-fits r f o = record { setup = f .setup; pass = pass-left r f (o .unfinished); flag = λ k l. rw (none-done k) (omega arith); stray = λ k l p. rw (none-done k) }
+advanced-fits r f o = record { setup = f .setup; pass = pass-left r f (o .unfinished); flag = λ k l. rw (none-done k) (omega arith); none-past-count = λ k l p. rw (none-done k) }

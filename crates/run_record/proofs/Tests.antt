@@ -4,7 +4,7 @@ use mathlib.Core.Bool.{true, false, not}
 use Prim.Native.Nat.{ℕ, _-_, _<_, _≤_}
 use borrow.Author.Tests.{lt-leb, le-leb}
 use Rattle.run_record.specs.declared.Run.{Run}
-use Rattle.run_record.specs.Record.{passCount, finished, strayDone, notOpen, isDone, runFits}
+use Rattle.run_record.specs.Record.{passCount, finished, badDone, notOpen, isDone, runFits}
 use Rattle.run_setup.specs.Setup.{bandCount, setupFits}
 
 module _ (r : Run) where
@@ -16,7 +16,7 @@ module _ (r : Run) where
   unfolding runFits
   past-last e h = rw (e, lt-leb (r .pass) (passCount (r .setup)) h)
 
-  pub fits-by-done : setupFits (r .setup) ≡ true → r .pass ≤ passCount (r .setup) → not (strayDone r) ≡ runFits r
+  pub fits-by-done : setupFits (r .setup) ≡ true → r .pass ≤ passCount (r .setup) → not (badDone r) ≡ runFits r
   unfolding runFits
   fits-by-done e h = rw (e, le-leb (r .pass) (passCount (r .setup)) h)
 

@@ -68,15 +68,15 @@ abbrev pub openBands : Run → ℕ
 openBands r = cond (finished r) 0 (bandCount (r .setup))
 
 -- no accepted calls give band k this flag: it is over 1 below the open bands, or not 0 from there on
-abbrev pub strayFlag : ℕ → ℕ → ℕ → Bool
-strayFlag bands k flag = ltb (oneIf (ltb k bands)) flag
+abbrev pub badFlag : ℕ → ℕ → ℕ → Bool
+badFlag bands k flag = ltb (oneIf (ltb k bands)) flag
 
-unfoldable pub strayDone : Run → Bool
-strayDone r = someBelow maxBands (λ k. strayFlag (openBands r) k (getD (r .done) k 0))
+unfoldable pub badDone : Run → Bool
+badDone r = someBelow maxBands (λ k. badFlag (openBands r) k (getD (r .done) k 0))
 
 -- valid (Specification 12.8): the setup is in range, and accepted calls lead to `pass` and `done` (`Reached` and its two laws)
 unfoldable pub runFits : Run → Bool
-runFits r = setupFits (r .setup) && (leb (r .pass) (passCount (r .setup)) && not (strayDone r))
+runFits r = setupFits (r .setup) && (leb (r .pass) (passCount (r .setup)) && not (badDone r))
 
 -- the records to which accepted bands and advances lead from the one that start returns
 pub data Reached (s : Setup) : Run → Type 0 where

@@ -13,4 +13,4 @@ pub record RunFits (r : Run) : Type 0 where
   pub setup : T (setupFits (r .setup))
   pub pass : r .pass ≤ passCount (r .setup)
   pub flag : (k : ℕ) → k < maxBands → getD (r .done) k 0 ≤ 1
-  pub stray : (k : ℕ) → k < maxBands → openBands r ≤ k → isDone r k ≡ false
+  pub none-past-count : (k : ℕ) → k < maxBands → openBands r ≤ k → isDone r k ≡ false

@@ -17,7 +17,7 @@ ghost use lib.ListN.{getD};
 ghost use Rattle.refusals.specs.Checks.{firstOf};
 ghost use Rattle.sigma_grids.specs.Table.{someBelow};
 ghost use Rattle.run_setup.specs.Setup.{maxBands, bandCount};
-ghost use Rattle.run_record.specs.Record.{isDone, strayFlag, finished, openBands, runFits, notOpen, openChecks, overChecks, finishedChecks};
+ghost use Rattle.run_record.specs.Record.{isDone, badFlag, finished, openBands, runFits, notOpen, openChecks, overChecks, finishedChecks};
 
 // The record of a run. `pass` counts the completed passes. `done` has one flag per band of the next pass: 1 if the
 // band is done.
@@ -36,8 +36,8 @@ fn is_done(r: Run, k: usize) -> bool
 }
 
 // Whether no accepted calls give band k this flag, if only the first `bands` bands may be done.
-fn stray(bands: usize, k: usize, flag: u8) -> bool
-    ensures { λ b. ⌜ b ≡ strayFlag bands k flag ⌝ }
+fn bad_flag(bands: usize, k: usize, flag: u8) -> bool
+    ensures { λ b. ⌜ b ≡ badFlag bands k flag ⌝ }
 {
     if k < bands {
         return 1 < flag;
@@ -45,13 +45,13 @@ fn stray(bands: usize, k: usize, flag: u8) -> bool
     0 < flag
 }
 
-fn stray_done(r: Run, bands: usize) -> bool
-    ensures { λ b. ⌜ b ≡ someBelow maxBands (λ (k : ℕ). strayFlag bands k (getD (r .done) k 0)) ⌝ }
+fn bad_done(r: Run, bands: usize) -> bool
+    ensures { λ b. ⌜ b ≡ someBelow maxBands (λ (k : ℕ). badFlag bands k (getD (r .done) k 0)) ⌝ }
 {
     let done = r.done;
     let mut k = 0;
     while k < MAX_BANDS {
-        if stray(bands, k, done[k]) {
+        if bad_flag(bands, k, done[k]) {
             return true;
         }
         k += 1;
@@ -102,7 +102,7 @@ pub fn run_fits(r: Run) -> bool
     if pass_count(r.setup.settings) < r.pass {
         return false;
     }
-    !stray_done(r, open_bands(r))
+    !bad_done(r, open_bands(r))
 }
 
 // Whether band k cannot run: the run is finished, there is no band k, or it is done.

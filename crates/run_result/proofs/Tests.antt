@@ -17,7 +17,7 @@ use Rattle.run_record.specs.declared.Run.{Run}
 use Rattle.run_setup.specs.Setup.{fullFits, layout, setLength, resultLength}
 use Rattle.run_record.specs.Record.{runFits, finished, finishedChecks}
 use Rattle.run_setup.specs.SetupFits.{SetupFits}
-use Rattle.run_setup.proofs.Laws.{image-sized, result-sized}
+use Rattle.run_setup.proofs.Laws.{image-size, result-size}
 use Rattle.run_record.proofs.Laws.{fits-setup-of}
 use Rattle.run_outcomes.specs.Band.{readsFirst, setCheck}
 use Rattle.run_outcomes.specs.Result.{ResultOutcome, sliceCheck, resultChecks, resultNumber, resultOf, resultOutcome}
@@ -61,14 +61,14 @@ module _ (n : ℕ) (r : Run) (first second out : List Float) where
         fits = fits-setup-of r (fits-of (runFits r) (finished r) (sym e ∙ z))
 
         sets : (eqb (length first) (setLength n (r .setup)) && eqb (length second) (setLength n (r .setup))) ≡ true
-        sets = not-false _ (sym (rw (image-sized (r .setup) fits) at a))
+        sets = not-false _ (sym (rw (image-size (r .setup) fits) at a))
 
         pub lent : Lent n (r .setup) first second out
         lent = record {
           setup = fits;
           one = eqb-true _ _ (and-first (eqb (length first) (setLength n (r .setup))) (eqb (length second) (setLength n (r .setup))) sets);
           two = eqb-true _ _ (and-second (eqb (length first) (setLength n (r .setup))) (eqb (length second) (setLength n (r .setup))) sets);
-          slice = eqb-true _ _ (not-false _ (sym (rw (is-true (fullFits (r .setup)) (fits .full), result-sized (r .setup) fits) at b)));
+          slice = eqb-true _ _ (not-false _ (sym (rw (is-true (fullFits (r .setup)) (fits .full), result-size (r .setup) fits) at b)));
         }
 
         pub from-first : r .pass % 2 ≡ 0 → (c : List Float) → c ≡ resultOf n (layout (r .setup)) first

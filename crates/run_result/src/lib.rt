@@ -6,8 +6,8 @@ use planes_layout::layout_of;
 use refusals::ACCEPTED;
 use refusals::WRONG_LENGTH;
 use refusals::flag_set;
-use run_outcomes::sets_wrong;
-use run_outcomes::slice_wrong;
+use run_outcomes::bad_sets;
+use run_outcomes::bad_slice;
 use run_record::Run;
 use run_record::result_number;
 use run_setup::Setup;
@@ -89,10 +89,10 @@ fn copy_result(s: Setup, src: &[f32], out: &mut [f32])
 pub fn result(run: Run, first: &[f32], second: &[f32], out: &mut [f32]) -> u32
     ensures { λ r. ⌜ _≡_ {A = ResultOutcome} (record { number = r; out = now (out .exit) }) (resultOutcome 3 run (now (first .entry)) (now (second .entry)) (now (out .entry))) ⌝ }
 {
-    if sets_wrong(run.setup, first.len(), second.len()) {
+    if bad_sets(run.setup, first.len(), second.len()) {
         return WRONG_LENGTH;
     }
-    if slice_wrong(run.setup, out.len()) {
+    if bad_slice(run.setup, out.len()) {
         return WRONG_LENGTH;
     }
     let number = result_number(run);

@@ -8,8 +8,8 @@ use borrow.Author.Tests.{le-leb}
 use lib.Dec.{T, leb, leb→le, le→leb}
 use lib.Ieee.Fits.{and-l, and-r, and-i}
 use Rattle.region.specs.Regions.{inside}
-use Rattle.region.specs.Measures.{pictured}
-use Rattle.region.proofs.Laws.{pictured-measured, pictured-width, pictured-height, pictured-area, measured-width, measured-height}
+use Rattle.region.specs.Measures.{pictureFits}
+use Rattle.region.proofs.Laws.{picture-bounds, picture-width, picture-height, picture-area, bounds-width, bounds-height}
 use Rattle.refusals.specs.Checks.{firstOf}
 use Rattle.region.specs.declared.Region.{Region}
 use Rattle.region_placement.specs.Placed.{placedChecks}
@@ -19,7 +19,7 @@ use Rattle.region_placement.specs.Blocks.{onBlocks}
 use Rattle.run_passes.specs.Plan.{gaborFits}
 use Rattle.run_setup.specs.declared.Setup.{Setup}
 use Rattle.refusals.proofs.Tables.{is-true}
-use Rattle.run_setup.specs.Setup.{maxBands, fullPlanes, fullFits, numbersFit, layout, epfOn, rowCount, bandCount, bandFrom, bandTo, sized, resultRegion, itersFit, blocksFit, heightFits, countFits, setupFits}
+use Rattle.run_setup.specs.Setup.{maxBands, fullPlanes, fullFits, numbersFit, layout, epfOn, rowCount, bandCount, bandFrom, bandTo, sizeFits, resultRegion, itersFit, blocksFit, heightFits, countFits, setupFits}
 use Rattle.run_setup.specs.SetupFits.{SetupFits}
 
 blocks-are : (on b : Bool) → T (cond on b true) → T on → T b
@@ -33,7 +33,7 @@ are-blocks false b f = tt
 pub setup-fits : (s : Setup) → T (setupFits s) → SetupFits s
 unfolding setupFits numbersFit
 setup-fits s t =
-    let pictures = pictured (s .image) && pictured (s .filter) in
+    let pictures = pictureFits (s .image) && pictureFits (s .filter) in
     let placed = inside (s .image) (s .filter) && blocksFit s in
     let gabor = gaborFits (s .settings) in
     let bands = heightFits s && countFits s in
@@ -43,8 +43,8 @@ setup-fits s t =
     let u = and-r gabor bands (and-r (fullFits s) (gabor && bands) flags) in
     let h = and-l (heightFits s) (countFits s) u in
     record {
-      image = and-l (pictured (s .image)) (pictured (s .filter)) (and-l pictures placed p);
-      filter = and-r (pictured (s .image)) (pictured (s .filter)) (and-l pictures placed p);
+      image = and-l (pictureFits (s .image)) (pictureFits (s .filter)) (and-l pictures placed p);
+      filter = and-r (pictureFits (s .image)) (pictureFits (s .filter)) (and-l pictures placed p);
       contained = and-l (inside (s .image) (s .filter)) (blocksFit s) (and-r pictures placed p);
       blocks = blocks-are (epfOn s) (onBlocks (s .filter)) (and-r (inside (s .image) (s .filter)) (blocksFit s) (and-r pictures placed p));
       iterations = leb→le (s .settings .epf .iters) 3 (and-l (itersFit s) (fullFits s && (gabor && bands)) q);
@@ -60,9 +60,9 @@ unfolding setupFits numbersFit
 fits-setup s f =
     let gabor = gaborFits (s .settings) in
     let bands = heightFits s && countFits s in
-    and-i ((pictured (s .image) && pictured (s .filter)) && (inside (s .image) (s .filter) && blocksFit s)) (numbersFit s)
-    (and-i (pictured (s .image) && pictured (s .filter)) (inside (s .image) (s .filter) && blocksFit s)
-    (and-i (pictured (s .image)) (pictured (s .filter)) (f .image) (f .filter))
+    and-i ((pictureFits (s .image) && pictureFits (s .filter)) && (inside (s .image) (s .filter) && blocksFit s)) (numbersFit s)
+    (and-i (pictureFits (s .image) && pictureFits (s .filter)) (inside (s .image) (s .filter) && blocksFit s)
+    (and-i (pictureFits (s .image)) (pictureFits (s .filter)) (f .image) (f .filter))
     (and-i (inside (s .image) (s .filter)) (blocksFit s) (f .contained) (are-blocks (epfOn s) (onBlocks (s .filter)) (f .blocks))))
     (and-i (itersFit s) (fullFits s && (gabor && bands)) (le→leb (s .settings .epf .iters) 3 (f .iterations))
     (and-i (fullFits s) (gabor && bands) (f .full) (and-i gabor bands (f .gabor)
@@ -71,35 +71,35 @@ fits-setup s f =
     (le→leb (bandCount s) maxBands (f .count))))))
 
 -- sides and area of a picture's region
-pub pictured-sized : (r : Region) → T (pictured r) → sized r ≡ true
-unfolding sized
-pictured-sized r t =
-    let m = pictured-measured r t in
+pub picture-size : (r : Region) → T (pictureFits r) → sizeFits r ≡ true
+unfolding sizeFits
+picture-size r t =
+    let m = picture-bounds r t in
     rw (
-      le-leb (r .width) 16384 (measured-width r m),
-      le-leb (r .height) 16384 (measured-height r m),
-      le-leb 1 (r .width) (pictured-width r t),
-      le-leb 1 (r .height) (pictured-height r t),
-      le-leb (r .width * r .height) 16777216 (pictured-area r t),
+      le-leb (r .width) 16384 (bounds-width r m),
+      le-leb (r .height) 16384 (bounds-height r m),
+      le-leb 1 (r .width) (picture-width r t),
+      le-leb 1 (r .height) (picture-height r t),
+      le-leb (r .width * r .height) 16777216 (picture-area r t),
     )
 
 module _ (s : Setup) (f : SetupFits s) where
-  pub image-sized : sized (s .image) ≡ true
-  image-sized = pictured-sized (s .image) (f .image)
+  pub image-size : sizeFits (s .image) ≡ true
+  image-size = picture-size (s .image) (f .image)
 
-  pub filter-sized : sized (s .filter) ≡ true
-  filter-sized = pictured-sized (s .filter) (f .filter)
+  pub filter-size : sizeFits (s .filter) ≡ true
+  filter-size = picture-size (s .filter) (f .filter)
 
-  pub result-sized : sized (resultRegion s) ≡ true
-  result-sized = go (fullPlanes s)
+  pub result-size : sizeFits (resultRegion s) ≡ true
+  result-size = go (fullPlanes s)
     where
-      go : (b : Bool) → sized (cond b (s .image) (s .filter)) ≡ true
-      go true = image-sized
-      go false = filter-sized
+      go : (b : Bool) → sizeFits (cond b (s .image) (s .filter)) ≡ true
+      go true = image-size
+      go false = filter-size
 
   -- neither 4 nor 5 applies
   pub placed-accepted : firstOf (placedChecks (s .image) (s .filter)) ≡ 0
-  placed-accepted = placed-inside (s .image) (s .filter) (is-true (pictured (s .image)) (f .image)) (is-true (pictured (s .filter)) (f .filter)) (is-true (inside (s .image) (s .filter)) (f .contained))
+  placed-accepted = placed-inside (s .image) (s .filter) (is-true (pictureFits (s .image)) (f .image)) (is-true (pictureFits (s .filter)) (f .filter)) (is-true (inside (s .image) (s .filter)) (f .contained))
 
   -- in its layout the filter region lies inside the image region
   pub setup-layout : Accepted (layout s)

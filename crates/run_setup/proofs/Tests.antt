@@ -7,10 +7,10 @@ use borrow.Author.Tests.{lt-leb, le-leb, lt-ltb}
 use lib.Dec.{leb}
 use Rattle.region.specs.declared.Region.{Region}
 use Rattle.region.specs.Regions.{inside}
-use Rattle.region.specs.Measures.{pictured}
+use Rattle.region.specs.Measures.{pictureFits}
 use Rattle.region_placement.specs.declared.PlacedAnswer.{PlacedAnswer}
 use Rattle.region_placement.specs.Placed.{placedChecks, placedOutcome}
-use Rattle.refusals.specs.Numbers.{outOfMeasure, notInside}
+use Rattle.refusals.specs.Numbers.{outOfLimits, notInside}
 use Rattle.refusals.specs.Checks.{firstOf}
 use Rattle.planes_layout.specs.Outcome.{layoutOf}
 use Rattle.planes_layout.proofs.Fits.{zero-is}
@@ -18,30 +18,30 @@ use Rattle.region_placement.specs.Blocks.{onBlocks}
 use Rattle.run_passes.specs.Plan.{gaborFits}
 use Rattle.run_setup.specs.declared.Setup.{Setup}
 use Rattle.refusals.proofs.Tables.{is-true}
-use Rattle.run_setup.specs.Setup.{maxBands, fullPlanes, fullFits, rowCount, bandCount, sized, blocksFit, heightFits, numbersFit, setupFits}
+use Rattle.run_setup.specs.Setup.{maxBands, fullPlanes, fullFits, rowCount, bandCount, sizeFits, blocksFit, heightFits, numbersFit, setupFits}
 
 -- ---- a region's sides and area
 
 module _ (r : Region) where
-  pub too-wide : 16384 < r .width → false ≡ sized r
-  unfolding sized
+  pub too-wide : 16384 < r .width → false ≡ sizeFits r
+  unfolding sizeFits
   too-wide h = rw (lt-leb (r .width) 16384 h)
 
-  pub too-high : 16384 < r .height → false ≡ sized r
-  unfolding sized
+  pub too-high : 16384 < r .height → false ≡ sizeFits r
+  unfolding sizeFits
   too-high h = simp (lt-leb (r .height) 16384 h, and-false)
 
-  pub no-width : r .width < 1 → false ≡ sized r
-  unfolding sized
+  pub no-width : r .width < 1 → false ≡ sizeFits r
+  unfolding sizeFits
   no-width h = simp (lt-leb 1 (r .width) h, and-false)
 
-  pub no-height : r .height < 1 → false ≡ sized r
-  unfolding sized
+  pub no-height : r .height < 1 → false ≡ sizeFits r
+  unfolding sizeFits
   no-height h = simp (lt-leb 1 (r .height) h, and-false)
 
-  pub sized-by-area : r .width ≤ 16384 → r .height ≤ 16384 → 1 ≤ r .width → 1 ≤ r .height → leb (r .width * r .height) 16777216 ≡ sized r
-  unfolding sized
-  sized-by-area a b c d = rw (le-leb (r .width) 16384 a, le-leb (r .height) 16384 b, le-leb 1 (r .width) c, le-leb 1 (r .height) d)
+  pub size-by-area : r .width ≤ 16384 → r .height ≤ 16384 → 1 ≤ r .width → 1 ≤ r .height → leb (r .width * r .height) 16777216 ≡ sizeFits r
+  unfolding sizeFits
+  size-by-area a b c d = rw (le-leb (r .width) 16384 a, le-leb (r .height) 16384 b, le-leb 1 (r .width) c, le-leb 1 (r .height) d)
 
 -- ---- a setup
 
@@ -95,7 +95,7 @@ module _ (s : Setup) where
 
 -- ---- what start would refuse
 
-none-placed : (a b c d e : Bool) → (cond (true && not (a && b)) outOfMeasure (cond (true && not c) notInside 0) ≡ 0 → ⊥) → false ≡ (((a && b) && (c && d)) && e)
+none-placed : (a b c d e : Bool) → (cond (true && not (a && b)) outOfLimits (cond (true && not c) notInside 0) ≡ 0 → ⊥) → false ≡ (((a && b) && (c && d)) && e)
 none-placed true true true d e h = absurd (h refl)
 none-placed true true false d e h = refl
 none-placed true false c d e h = refl
@@ -109,13 +109,13 @@ module _ (s : Setup) (a : PlacedAnswer) (e : a ≡ placedOutcome (s .image) (s .
   pub not-placed : (a .number ≡ 0 → ⊥) → false ≡ setupFits s
   unfolding setupFits
   not-placed h =
-      none-placed (pictured (s .image)) (pictured (s .filter)) (inside (s .image) (s .filter)) (blocksFit s) (numbersFit s)
+      none-placed (pictureFits (s .image)) (pictureFits (s .filter)) (inside (s .image) (s .filter)) (blocksFit s) (numbersFit s)
       (λ z. h (number-is ∙ z))
 
   module _ (z : a .number ≡ 0) where
-    parts : (pictured (s .image) ≡ true) × (pictured (s .filter) ≡ true) × (inside (s .image) (s .filter) ≡ true)
+    parts : (pictureFits (s .image) ≡ true) × (pictureFits (s .filter) ≡ true) × (inside (s .image) (s .filter) ≡ true)
     parts =
-        let t = zero-is (pictured (s .image)) (pictured (s .filter)) (inside (s .image) (s .filter)) (sym number-is ∙ z) in
+        let t = zero-is (pictureFits (s .image)) (pictureFits (s .filter)) (inside (s .image) (s .filter)) (sym number-is ∙ z) in
         (is-true _ (t .0), is-true _ (t .1), is-true _ (t .2))
 
     pub not-on-blocks : blocksFit s ≡ false → false ≡ setupFits s

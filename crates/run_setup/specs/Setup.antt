@@ -7,12 +7,12 @@ use lib.Ieee.{Float}
 use Rattle.refusals.specs.Flags.{flagFits, flagSet}
 use Rattle.region.specs.declared.Region.{Region}
 use Rattle.region.specs.Regions.{inside}
-use Rattle.region.specs.Measures.{areaFits, pictured}
+use Rattle.region.specs.Measures.{areaFits, pictureFits}
 use Rattle.planes.specs.declared.Layout.{Layout}
 use Rattle.planes.specs.Band.{resultHeight}
 use Rattle.planes_layout.specs.Outcome.{layoutOf}
 use Rattle.epf_tiles.specs.Blocks.{blockColumns, sigmaOf, blockRows}
-use Rattle.region_placement.specs.Blocks.{ahead, onBlocks}
+use Rattle.region_placement.specs.Blocks.{clampToZero, onBlocks}
 use Rattle.run_passes.specs.Pass.{Area}
 use Rattle.run_passes.specs.Plan.{gaborFits, iterationsFit}
 use Rattle.run_setup.specs.declared.Setup.{Setup}
@@ -35,7 +35,7 @@ epfOn s = ltb 0 (s .settings .epf .iters)
 
 -- the filter region with its block sigmas, row of blocks by row of blocks
 abbrev pub area : Setup → List Float → Area
-area s sigmas = record { width = s .filter .width; height = s .filter .height; top = ahead (s .filter .top); sigma = sigmaOf (blockColumns (layout s)) sigmas }
+area s sigmas = record { width = s .filter .width; height = s .filter .height; top = clampToZero (s .filter .top); sigma = sigmaOf (blockColumns (layout s)) sigmas }
 
 -- ---- bands (Specification 12.4): rows of the result region; the last band may be shorter
 
@@ -55,8 +55,8 @@ bandTo s k = min (bandFrom s k + s .«band_height») (rowCount s)
 -- ---- setups that start would not refuse under 4, 5, 6 and 9
 
 -- sides of 1 to 16,384 and an area of at most 16,777,216
-unfoldable pub sized : Region → Bool
-sized r = (leb (r .width) 16384 && leb (r .height) 16384) && areaFits (r .width) (r .height)
+unfoldable pub sizeFits : Region → Bool
+sizeFits r = (leb (r .width) 16384 && leb (r .height) 16384) && areaFits (r .width) (r .height)
 
 abbrev pub itersFit : Setup → Bool
 itersFit s = iterationsFit (s .settings)
@@ -79,7 +79,7 @@ unfoldable pub numbersFit : Setup → Bool
 numbersFit s = itersFit s && (fullFits s && (gaborFits (s .settings) && (heightFits s && countFits s)))
 
 unfoldable pub setupFits : Setup → Bool
-setupFits s = ((pictured (s .image) && pictured (s .filter)) && (inside (s .image) (s .filter) && blocksFit s)) && numbersFit s
+setupFits s = ((pictureFits (s .image) && pictureFits (s .filter)) && (inside (s .image) (s .filter) && blocksFit s)) && numbersFit s
 
 -- ---- lengths of the slices, for n planes
 

@@ -2,7 +2,7 @@
 use Prim.Native.Nat.{_≤_}
 use lib.Dec.{T}
 use Rattle.region.specs.Regions.{inside}
-use Rattle.region.specs.Measures.{pictured}
+use Rattle.region.specs.Measures.{pictureFits}
 use Rattle.region_placement.specs.Blocks.{onBlocks}
 use Rattle.run_passes.specs.Plan.{gaborFits}
 use Rattle.run_setup.specs.declared.Setup.{Setup}
@@ -10,8 +10,8 @@ use Rattle.run_setup.specs.Setup.{maxBands, fullFits, epfOn, bandCount}
 
 -- a setup that start would not refuse under 4, 5, 6 and 9
 pub record SetupFits (s : Setup) : Type 0 where
-  pub image : T (pictured (s .image))
-  pub filter : T (pictured (s .filter))
+  pub image : T (pictureFits (s .image))
+  pub filter : T (pictureFits (s .filter))
   pub contained : T (inside (s .image) (s .filter))
   pub blocks : T (epfOn s) → T (onBlocks (s .filter))
   pub iterations : s .settings .epf .iters ≤ 3

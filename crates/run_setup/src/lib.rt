@@ -9,7 +9,7 @@ use run_passes::MAX_ITERS;
 use run_passes::Settings;
 ghost use mathlib.Core.Path.{_≡_};
 ghost use Prim.Native.Nat.{_<_};
-ghost use Rattle.run_setup.specs.Setup.{rowCount, sized, bandCount, blocksFit, heightFits, numbersFit, setupFits};
+ghost use Rattle.run_setup.specs.Setup.{rowCount, sizeFits, bandCount, blocksFit, heightFits, numbersFit, setupFits};
 
 // Specification 4.1.
 pub const MAX_SIDE: u32 = 16384;
@@ -31,8 +31,8 @@ pub struct Setup {
 }
 
 // Whether a region's sides are 1 to 16,384 and its area at most 16,777,216 (Specification 4.3).
-pub fn sized(r: Region) -> bool
-    ensures { λ b. ⌜ b ≡ sized r ⌝ }
+pub fn size_fits(r: Region) -> bool
+    ensures { λ b. ⌜ b ≡ sizeFits r ⌝ }
 {
     if MAX_SIDE < r.width {
         return false;

@@ -8,13 +8,13 @@ use borrow.Author.Tests.{le-leb, le-ltb, ne-eqb, not-false}
 use lib.Dec.{T, eqb}
 use lib.ListN.{length}
 use lib.Ieee.{Float}
-use Rattle.refusals.specs.Numbers.{outOfMeasure}
+use Rattle.refusals.specs.Numbers.{outOfLimits}
 use Rattle.refusals.specs.Checks.{Check, firstOf}
 use Rattle.refusals.specs.Flags.{flagFits, flagSet}
 use Rattle.region_axis.proofs.Laws.{place-size}
 use Rattle.region.specs.declared.Region.{Region}
-use Rattle.region.specs.Measures.{pictured}
-use Rattle.region.proofs.Laws.{pictured-measured, pictured-width, pictured-height, pictured-area, measured-left, measured-top, measured-width, measured-height}
+use Rattle.region.specs.Measures.{pictureFits}
+use Rattle.region.proofs.Laws.{picture-bounds, picture-width, picture-height, picture-area, bounds-left, bounds-top, bounds-width, bounds-height}
 use Rattle.region_placement.specs.Placed.{placedChecks}
 use Rattle.planes.proofs.Stored.{and-first, and-second}
 use Rattle.planes_layout.specs.Outcome.{layoutOf}
@@ -26,48 +26,48 @@ use Rattle.sigma_groups.specs.Held.{someNotHeld}
 use Rattle.frame.specs.Outcome.{badSides, badSettings}
 use Rattle.sigma_groups.specs.Outcome.{frameFits, tableFits, tableRead, someGroup, gridsFit, frameSides, gridSides, tableLength, gridsLength, frameSettings, presences, sigmaChecks, sigmaNumber}
 use Rattle.sigma.specs.Outcome.{SigmasOutcome, leftIn, sigmasOutcome}
-use Rattle.region_placement.specs.Blocks.{ahead}
-use Rattle.region_placement.proofs.BlockLaws.{ahead-small}
+use Rattle.region_placement.specs.Blocks.{clampToZero}
+use Rattle.region_placement.proofs.BlockLaws.{clamp-small}
 use Rattle.run_setup.specs.declared.Setup.{Setup}
 use Rattle.run_record.specs.declared.Run.{Run}
-use Rattle.run_setup.specs.Setup.{layout, epfOn, itersFit, sized}
+use Rattle.run_setup.specs.Setup.{layout, epfOn, itersFit, sizeFits}
 use Rattle.run_record.specs.Record.{started}
-use Rattle.run_setup.proofs.Tests.{sized-by-area}
+use Rattle.run_setup.proofs.Tests.{size-by-area}
 use Rattle.run_outcomes.proofs.Tests.{blocks-same}
 use Rattle.run_outcomes.specs.Start.{Handed, StartOutcome, blocksOf, runsEpf, regionSides, filterInside, filterOnBlocks, setLengths, sigmasLength, blocksHeld, itersInRange, pictureChecks, startNumber, startLeaves, sigmasFilled, noRun, startOutcome}
 use Rattle.run_outcomes.proofs.Rows.{here, below, row-passed, or-zero}
 use Rattle.run_outcomes.proofs.Laws.{start-parts}
 use Rattle.run_start.specs.Lowest.{lowest}
 use Rattle.run_start.proofs.LowestLaws.{Parted, none, left, right, first-lowest, lowest-left, lowest-none, ascending-from}
-use Rattle.run_start.specs.Pieces.{epfFlag, sigmasAsked, ownChecks, numberOf, toldChecks}
+use Rattle.run_start.specs.Pieces.{epfFlag, sigmasAsked, setupChecks, numberOf, settingsChecks}
 
 -- ---- a region, as the parts check it
 
-module _ (r : Region) (e : pictured r ≡ true) where
-  fits : T (pictured r)
+module _ (r : Region) (e : pictureFits r ≡ true) where
+  fits : T (pictureFits r)
   fits = subst T (sym e) tt
 
-  is-sized : sized r ≡ true
-  is-sized =
-      let m = pictured-measured r fits in
-      sym (sized-by-area r (measured-width r m) (measured-height r m) (pictured-width r fits) (pictured-height r fits)) ∙ le-leb _ 16777216 (pictured-area r fits)
+  is-size : sizeFits r ≡ true
+  is-size =
+      let m = picture-bounds r fits in
+      sym (size-by-area r (bounds-width r m) (bounds-height r m) (picture-width r fits) (picture-height r fits)) ∙ le-leb _ 16777216 (picture-area r fits)
 
-blocks-good : (s : Setup) → pictured (s .filter) ≡ true → badBlocks (blocksOf s) ≡ false
+blocks-good : (s : Setup) → pictureFits (s .filter) ≡ true → badBlocks (blocksOf s) ≡ false
 unfolding badBlocks
 blocks-good s e =
     let r = s .filter in
     let t = fits r e in
-    let m = pictured-measured r t in
-    let l : ahead (r .left) / 8 ≤ 131072 = omega (arith, ahead-small (r .left), place-size (r .left) (measured-left r m)) in
-    let u : ahead (r .top) / 8 ≤ 131072 = omega (arith, ahead-small (r .top), place-size (r .top) (measured-top r m)) in
+    let m = picture-bounds r t in
+    let l : clampToZero (r .left) / 8 ≤ 131072 = omega (arith, clamp-small (r .left), place-size (r .left) (bounds-left r m)) in
+    let u : clampToZero (r .top) / 8 ≤ 131072 = omega (arith, clamp-small (r .top), place-size (r .top) (bounds-top r m)) in
     rw (
-      le-ltb (r .width) 1 (pictured-width r t),
-      le-ltb 16384 (r .width) (measured-width r m),
-      le-ltb (r .height) 1 (pictured-height r t),
-      le-ltb 16384 (r .height) (measured-height r m),
-      le-ltb 16777216 (r .width * r .height) (pictured-area r t),
-      le-ltb 131072 (ahead (r .left) / 8) l,
-      le-ltb 131072 (ahead (r .top) / 8) u,
+      le-ltb (r .width) 1 (picture-width r t),
+      le-ltb 16384 (r .width) (bounds-width r m),
+      le-ltb (r .height) 1 (picture-height r t),
+      le-ltb 16384 (r .height) (bounds-height r m),
+      le-ltb 16777216 (r .width * r .height) (picture-area r t),
+      le-ltb 131072 (clampToZero (r .left) / 8) l,
+      le-ltb 131072 (clampToZero (r .top) / 8) u,
     )
 
 -- ---- rows of the table, by the code's tests
@@ -116,7 +116,7 @@ module _ (n : ℕ) (h : Handed) where
   ownRows =
       filterOnBlocks s
       ∷ setLengths n h
-      ∷ toldChecks s
+      ∷ settingsChecks s
 
   abbrev groupRows : List Check
   groupRows =
@@ -149,13 +149,13 @@ module _ (n : ℕ) (h : Handed) where
   rows-lowest = first-lowest whole refl ∙ ap (λ (k : ℕ). lowest k (firstOf groupRows)) (first-lowest placed-own refl)
 
   -- if the regions are within the limits, the parts check these rows
-  own-number : pictured (s .image) ≡ true → firstOf ownRows ≡ firstOf (ownChecks n s (length (h .first)) (length (h .second)))
-  own-number e = rw (is-sized (s .image) e)
+  setup-number : pictureFits (s .image) ≡ true → firstOf ownRows ≡ firstOf (setupChecks n s (length (h .first)) (length (h .second)))
+  setup-number e = rw (is-size (s .image) e)
 
   abbrev groupsNumber : ℕ → ℕ
   groupsNumber = sigmaNumber (epfFlag s) f (blocksOf s) t (h .grids)
 
-  groups-number : pictured (s .filter) ≡ true → firstOf groupRows ≡ groupsNumber (sigmasAsked s (length (h .sigmas)))
+  groups-number : pictureFits (s .filter) ≡ true → firstOf groupRows ≡ groupsNumber (sigmasAsked s (length (h .sigmas)))
   groups-number e =
       rw (blocks-good s e, flag-fits (runsEpf s), flag-set (runsEpf s), sigmas-row (itersFit s) (epfOn s) (length (h .sigmas)) _ _ (count-same s), held-row (tableRead f t) (runsEpf s) (someNotHeld f (blocksOf s) t))
 
@@ -166,17 +166,17 @@ module _ (n : ℕ) (h : Handed) where
 
   picture-same : firstOf (pictureChecks n h) ≡ number
   unfolding numberOf pictureChecks
-  picture-same = go (pictured (s .image) && pictured (s .filter)) refl
+  picture-same = go (pictureFits (s .image) && pictureFits (s .filter)) refl
     where
-      go : (p : Bool) → (pictured (s .image) && pictured (s .filter)) ≡ p → firstOf (pictureChecks n h) ≡ number
-      go true e = rows-lowest ∙ rw (own-number (and-first (pictured (s .image)) (pictured (s .filter)) e), groups-number (and-second (pictured (s .image)) (pictured (s .filter)) e))
+      go : (p : Bool) → (pictureFits (s .image) && pictureFits (s .filter)) ≡ p → firstOf (pictureChecks n h) ≡ number
+      go true e = rows-lowest ∙ rw (setup-number (and-first (pictureFits (s .image)) (pictureFits (s .filter)) e), groups-number (and-second (pictureFits (s .image)) (pictureFits (s .filter)) e))
       go false e =
-          let own = ownChecks n s (length (h .first)) (length (h .second)) in
+          let own = setupChecks n s (length (h .first)) (length (h .second)) in
           let groups = sigmaChecks (epfFlag s) f (blocksOf s) t (h .grids) (sigmasAsked s (length (h .sigmas))) in
           rw (
             e,
-            lowest-left outOfMeasure (firstOf own) (omega arith) (ascending-from outOfMeasure own refl),
-            lowest-left outOfMeasure (firstOf groups) (omega arith) (ascending-from outOfMeasure groups refl),
+            lowest-left outOfLimits (firstOf own) (omega arith) (ascending-from outOfLimits own refl),
+            lowest-left outOfLimits (firstOf groups) (omega arith) (ascending-from outOfLimits groups refl),
           )
 
   -- ---- start's number, and its outcome
@@ -196,12 +196,12 @@ module _ (n : ℕ) (h : Handed) where
 
     module _ (z : k ≡ 0) where
       -- every part's number is 0
-      pieces : (firstOf (ownChecks n s (length (h .first)) (length (h .second))) ≡ 0) × (groupsNumber (sigmasAsked s (length (h .sigmas))) ≡ 0)
+      pieces : (firstOf (setupChecks n s (length (h .first)) (length (h .second))) ≡ 0) × (groupsNumber (sigmasAsked s (length (h .sigmas))) ≡ 0)
       unfolding numberOf
       pieces = let b = lowest-none _ _ (sym e ∙ z) in (lowest-none _ _ (b .0) .1, b .1)
 
       iters : itersFit s ≡ true
-      iters = not-false (itersFit s) (row-passed (ownChecks n s (length (h .first)) (length (h .second))) tt (pieces .0) (itersInRange s) (search (here, below) depth 20))
+      iters = not-false (itersFit s) (row-passed (setupChecks n s (length (h .first)) (length (h .second))) tt (pieces .0) (itersInRange s) (search (here, below) depth 20))
 
       sigmas-fit : groupsNumber (length (h .sigmas)) ≡ 0
       sigmas-fit = let a : length (h .sigmas) ≡ sigmasAsked s (length (h .sigmas)) = rw iters in ap groupsNumber a ∙ pieces .1

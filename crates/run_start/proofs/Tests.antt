@@ -9,24 +9,24 @@ use Rattle.frame.specs.declared.Frame.{Frame}
 use Rattle.sigma_blocks.specs.declared.Blocks.{Blocks}
 use Rattle.sigma_groups.specs.Outcome.{sigmaNumber}
 use Rattle.sigma.specs.Outcome.{sigmasOutcome}
-use Rattle.region_placement.specs.Blocks.{ahead}
+use Rattle.region_placement.specs.Blocks.{clampToZero}
 use Rattle.run_setup.specs.declared.Setup.{Setup}
 use Rattle.run_outcomes.specs.Start.{Handed, blocksOf}
 use Rattle.run_start.specs.Pieces.{epfFlag, sigmasAsked}
 
 -- the last five rows, of the setup's settings, as one test
-pub told-row : (iters full gabor height count : Bool)
+pub settings-row : (iters full gabor height count : Bool)
     → cond (not (iters && (full && (gabor && (height && count))))) outOfRange 0
     ≡ cond (not iters) outOfRange (cond (not full) outOfRange (cond (not gabor) outOfRange (cond (not height) outOfRange (cond ((full && height) && not count) outOfRange 0))))
-told-row true true true true true = refl
-told-row true true true true false = refl
-told-row true true true false count = refl
-told-row true true false height count = refl
-told-row true false gabor height count = refl
-told-row false full gabor height count = refl
+settings-row true true true true true = refl
+settings-row true true true true false = refl
+settings-row true true true false count = refl
+settings-row true true false height count = refl
+settings-row true false gabor height count = refl
+settings-row false full gabor height count = refl
 
 -- left and top divided by 8
-pub same-blocks : (s : Setup) (x y : ℕ) → x ≡ ahead (s .filter .left) → y ≡ ahead (s .filter .top)
+pub same-blocks : (s : Setup) (x y : ℕ) → x ≡ clampToZero (s .filter .left) → y ≡ clampToZero (s .filter .top)
     → _≡_ {A = Blocks} (record { left = x / 8; top = y / 8; width = s .filter .width; height = s .filter .height }) (blocksOf s)
 same-blocks s x y p q = rw (p, q)
 

@@ -23,8 +23,8 @@ abbrev pub sigmasAsked : Setup → ℕ → ℕ
 sigmasAsked s sigmas = cond (itersFit s) sigmas 0
 
 -- the settings of the setup: iterations, both flags, band height and number of bands
-abbrev pub toldChecks : Setup → List Check
-toldChecks s =
+abbrev pub settingsChecks : Setup → List Check
+settingsChecks s =
     itersInRange s
     ∷ fullInRange s
     ∷ gaborInRange s
@@ -33,14 +33,14 @@ toldChecks s =
     ∷ []
 
 -- the corner, the lengths of both sets, and the settings of the setup
-abbrev pub ownChecks : ℕ → Setup → ℕ → ℕ → List Check
-ownChecks n s first second =
+abbrev pub setupChecks : ℕ → Setup → ℕ → ℕ → List Check
+setupChecks n s first second =
     filterOnBlocks s
     ∷ setCheck n s first second
-    ∷ toldChecks s
+    ∷ settingsChecks s
 
 -- the lowest number of the regions, of those, and of frame, table, grids and block sigmas
 unfoldable pub numberOf : ℕ → Setup → Frame → List ℕ → List Float → ℕ → ℕ → ℕ → ℕ
 numberOf n s f t grids first second sigmas =
-    lowest (lowest (firstOf (placedChecks (s .image) (s .filter))) (firstOf (ownChecks n s first second)))
+    lowest (lowest (firstOf (placedChecks (s .image) (s .filter))) (firstOf (setupChecks n s first second)))
     (sigmaNumber (epfFlag s) f (blocksOf s) t grids (sigmasAsked s sigmas))

@@ -6,11 +6,11 @@ use refusals::NOT_ON_BLOCKS;
 use refusals::OUT_OF_RANGE;
 use refusals::WRONG_LENGTH;
 use region::Region;
-use region_placement::ahead;
+use region_placement::clamp_to_zero;
 use region_placement::on_blocks;
 use region_placement::placed;
 use run_outcomes::RunAnswer;
-use run_outcomes::sets_wrong;
+use run_outcomes::bad_sets;
 use run_passes::EpfSettings;
 use run_passes::MAX_ITERS;
 use run_passes::Settings;
@@ -32,7 +32,7 @@ ghost use Rattle.run_passes.specs.Makers.{noEpf, noSettings};
 ghost use Rattle.run_record.specs.Record.{started};
 ghost use Rattle.run_outcomes.specs.Start.{StartOutcome, blocksOf, runsEpf, noRun, startOutcome};
 ghost use Rattle.run_start.specs.Lowest.{lowest};
-ghost use Rattle.run_start.specs.Pieces.{epfFlag, sigmasAsked, ownChecks, numberOf};
+ghost use Rattle.run_start.specs.Pieces.{epfFlag, sigmasAsked, setupChecks, numberOf};
 
 const BLOCK_DIM: usize = 8;
 
@@ -81,8 +81,8 @@ fn blocks_of(s: Setup) -> Blocks
     ensures { λ r. ⌜ r ≡ blocksOf s ⌝ }
 {
     Blocks {
-        left: (ahead(s.filter.left) / BLOCK_DIM) as u32,
-        top: (ahead(s.filter.top) / BLOCK_DIM) as u32,
+        left: (clamp_to_zero(s.filter.left) / BLOCK_DIM) as u32,
+        top: (clamp_to_zero(s.filter.top) / BLOCK_DIM) as u32,
         width: s.filter.width,
         height: s.filter.height,
     }
@@ -108,13 +108,13 @@ fn off_blocks(s: Setup) -> bool
 }
 
 // The number of the setup alone and of both sets: 6, 7, 9 or 0.
-fn own_number(s: Setup, first: usize, second: usize) -> u32
-    ensures { λ r. ⌜ r ≡ firstOf (ownChecks 3 s first second) ⌝ }
+fn setup_number(s: Setup, first: usize, second: usize) -> u32
+    ensures { λ r. ⌜ r ≡ firstOf (setupChecks 3 s first second) ⌝ }
 {
     if off_blocks(s) {
         return NOT_ON_BLOCKS;
     }
-    if sets_wrong(s, first, second) {
+    if bad_sets(s, first, second) {
         return WRONG_LENGTH;
     }
     if !numbers_fit(s) {
@@ -144,7 +144,7 @@ fn picture_number(
     ensures { λ r. ⌜ r ≡ numberOf 3 s frame (now (table .entry)) (now (grids .entry)) first second sigmas ⌝ }
 {
     let place = placed(s.image, s.filter);
-    let own = own_number(s, first, second);
+    let own = setup_number(s, first, second);
     let groups = groups_number(s, frame, table, grids, sigmas);
     lowest(lowest(place.number, own), groups)
 }

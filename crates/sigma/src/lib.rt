@@ -1,6 +1,7 @@
 // The sigma of each block of a filter region, from the frame's groups and their grids (Specification 7.6).
 use frame::Frame;
 use frame::GroupSizes;
+use limits::min_u32;
 use planes::copy_run;
 use sigma_blocks::Blocks;
 use sigma_grids::ENTRY;
@@ -86,13 +87,6 @@ struct Run {
     n: u32,
 }
 
-fn smaller(a: u32, b: u32) -> u32
-    requires { ⌜ (0 < a) × (0 < b) ⌝ }
-    ensures { λ r. ⌜ (0 < r) × (r ≤ a) × (r ≤ b) ⌝ }
-{
-    if a < b { a } else { b }
-}
-
 // The run that starts at block (bx, by) and has at most `limit` blocks.
 fn run_at(frame: Frame, sizes: GroupSizes, bx: u32, by: u32, limit: u32) -> Run
     requires { ⌜ Sound frame × (sizes ≡ sizesOf frame) × (0 < limit) ⌝ }
@@ -103,7 +97,7 @@ fn run_at(frame: Frame, sizes: GroupSizes, bx: u32, by: u32, limit: u32) -> Run
     let column = frame::split_block(bx, frame.group_size_shift);
     let row = frame::split_block(by, frame.group_size_shift);
     let group = row.group * sizes.groups_per_row + column.group;
-    let n = smaller(sizes.group_dim - column.inner, limit);
+    let n = min_u32(sizes.group_dim - column.inner, limit);
     Run {
         group,
         column: column.inner,

@@ -12,9 +12,9 @@ use Rattle.sigma_blocks.specs.declared.Blocks.{Blocks}
 use Rattle.sigma_blocks.specs.Measures.{blocksAcross, blocksDown, badBlocks}
 use Rattle.sigma_blocks.specs.Measured.{Measured}
 
-pub measured : (b : Blocks) → badBlocks b ≡ false → Measured b
+pub boundsFit : (b : Blocks) → badBlocks b ≡ false → Measured b
 unfolding badBlocks
-measured b h =
+boundsFit b h =
     let t = neither _ (ltb 131072 (b .top)) h in
     let l = neither _ (ltb 131072 (b .left)) (t .0) in
     let a = neither _ (ltb 16777216 (b .width * b .height)) (l .0) in

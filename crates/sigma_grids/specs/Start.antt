@@ -4,7 +4,7 @@ use mathlib.Core.List.{List, [], _∷_}
 use Prim.Native.Nat.{ℕ, _*_}
 use lib.Dec.{ltb, eqb}
 use lib.ListN.{length}
-use Rattle.refusals.specs.Numbers.{outOfMeasure, wrongLength}
+use Rattle.refusals.specs.Numbers.{outOfLimits, wrongLength}
 use Rattle.refusals.specs.Checks.{Check, always, given, firstOf}
 use Rattle.sigma_grids.specs.declared.StartAnswer.{StartAnswer}
 use Rattle.sigma_grids.specs.Table.{gridStart, badGrid, someBelow}
@@ -16,7 +16,7 @@ noEntries t group = ltb 768 (length t) || ltb (length t) (3 * group)
 -- 4 for a grid before this one with a side out of range, 7 for a table of the wrong length
 abbrev pub startChecks : List ℕ → ℕ → List Check
 startChecks t group =
-    given (not (noEntries t group)) outOfMeasure (someBelow group (badGrid t))
+    given (not (noEntries t group)) outOfLimits (someBelow group (badGrid t))
     ∷ always wrongLength (noEntries t group)
     ∷ []
 

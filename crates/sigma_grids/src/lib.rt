@@ -110,7 +110,7 @@ pub fn grid_start(table: &[u32], group: u32) -> StartAnswer
         return no_start(refusals::WRONG_LENGTH);
     }
     if some_bad_grid(table, before) {
-        return no_start(refusals::OUT_OF_MEASURE);
+        return no_start(refusals::OUT_OF_LIMITS);
     }
     StartAnswer {
         number: refusals::ACCEPTED,

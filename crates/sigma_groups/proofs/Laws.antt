@@ -16,13 +16,13 @@ use Rattle.frame.specs.declared.SplitAnswer.{SplitAnswer}
 use Rattle.frame.specs.Sizes.{groupOf, innerOf, sizesOf}
 use Rattle.frame.proofs.Laws.{Bounded, sizes-bounded, split-accepted}
 use Rattle.frame.specs.Outcome.{badSides, badSettings, frameChecks, splitOutcome}
-use Rattle.refusals.specs.Numbers.{accepted, outOfMeasure, wrongLength, blockNotHeld, outOfRange}
+use Rattle.refusals.specs.Numbers.{accepted, outOfLimits, wrongLength, blockNotHeld, outOfRange}
 use Rattle.refusals.specs.Checks.{firstOf}
 use Rattle.refusals.specs.Flags.{flagFits, flagSet}
 use Rattle.sigma_blocks.specs.declared.Blocks.{Blocks}
 use Rattle.sigma_blocks.specs.Measures.{badBlocks}
 use Rattle.sigma_blocks.specs.Measured.{Measured}
-use Rattle.sigma_blocks.proofs.Laws.{measured}
+use Rattle.sigma_blocks.proofs.Laws.{boundsFit}
 use Rattle.sigma_grids.specs.Table.{badPresence, badGrid, lacks, gridStart}
 use Rattle.sigma_grids.proofs.Laws.{neither}
 use Rattle.sigma_groups.specs.Held.{groupAt, notHeld, someNotHeld}
@@ -73,21 +73,21 @@ held f t bx by h =
 -- ---- refused and accepted inputs
 
 -- from the number of a frame to the values that are out of range
-pub sides-bad : (a b : Bool) → cond a outOfMeasure (cond b outOfRange accepted) ≡ 4 → a ≡ true
+pub sides-bad : (a b : Bool) → cond a outOfLimits (cond b outOfRange accepted) ≡ 4 → a ≡ true
 sides-bad true b e = refl
 sides-bad false true e = absurd (omega arith)
 sides-bad false false e = absurd (omega arith)
 
-pub sides-fit : (a b : Bool) → (cond a outOfMeasure (cond b outOfRange accepted) ≡ 4 → ⊥) → a ≡ false
+pub sides-fit : (a b : Bool) → (cond a outOfLimits (cond b outOfRange accepted) ≡ 4 → ⊥) → a ≡ false
 sides-fit true b e = absurd (e refl)
 sides-fit false b e = refl
 
-pub settings-bad : (a b : Bool) → (cond a outOfMeasure (cond b outOfRange accepted) ≡ 4 → ⊥) → (cond a outOfMeasure (cond b outOfRange accepted) ≡ 0 → ⊥) → b ≡ true
+pub settings-bad : (a b : Bool) → (cond a outOfLimits (cond b outOfRange accepted) ≡ 4 → ⊥) → (cond a outOfLimits (cond b outOfRange accepted) ≡ 0 → ⊥) → b ≡ true
 settings-bad true b e n = absurd (e refl)
 settings-bad false true e n = refl
 settings-bad false false e n = absurd (n refl)
 
-pub settings-fit : (a b : Bool) → cond a outOfMeasure (cond b outOfRange accepted) ≡ 0 → (a ≡ false) × (b ≡ false)
+pub settings-fit : (a b : Bool) → cond a outOfLimits (cond b outOfRange accepted) ≡ 0 → (a ≡ false) × (b ≡ false)
 settings-fit true b e = absurd (omega arith)
 settings-fit false true e = absurd (omega arith)
 settings-fit false false e = (refl, refl)
@@ -122,7 +122,7 @@ module _ (on : ℕ) (f : Frame) (b : Blocks) (t : List ℕ) (grids : List Float)
       let clear : someGroup f (badPresence t) ≡ false = rw (s, q, fits) at p in
       record {
         frame-fits = rw (s, q);
-        blocks = measured b k;
+        blocks = boundsFit b k;
         entries = eqb-true (length t) (3 * sizesOf f .«num_groups») fits;
         sides = rw (s, q, fits) at g;
         presences = clear;
@@ -134,9 +134,9 @@ module _ (on : ℕ) (f : Frame) (b : Blocks) (t : List ℕ) (grids : List Float)
 
   pub accepted-fits : sigmaNumber on f b t grids n ≡ 0 → Accepted on f b t grids n
   accepted-fits e =
-      let a1 = passed (badSides f) outOfMeasure _ (omega arith) e in
-      let a2 = passed (badBlocks b) outOfMeasure _ (omega arith) (a1 .1) in
-      let a3 = passed (tableRead f t && someGroup f (badGrid t)) outOfMeasure _ (omega arith) (a2 .1) in
+      let a1 = passed (badSides f) outOfLimits _ (omega arith) e in
+      let a2 = passed (badBlocks b) outOfLimits _ (omega arith) (a1 .1) in
+      let a3 = passed (tableRead f t && someGroup f (badGrid t)) outOfLimits _ (omega arith) (a2 .1) in
       let a4 = passed (frameFits f && not (tableFits f t)) wrongLength _ (omega arith) (a3 .1) in
       let a5 = passed (tableRead f t && not (someGroup f (badPresence t)) && not (gridsFit f t grids)) wrongLength _ (omega arith) (a4 .1) in
       let a6 = passed (not (badBlocks b) && flagFits on && not (eqb n (sigmaCount (flagSet on) b))) wrongLength _ (omega arith) (a5 .1) in

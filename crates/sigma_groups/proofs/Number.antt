@@ -5,7 +5,7 @@ use mathlib.Core.List.{List}
 use Prim.Native.Nat.{ℕ}
 use lib.Dec.{eqb}
 use lib.Ieee.{Float}
-use Rattle.refusals.specs.Numbers.{accepted, outOfMeasure, wrongLength, blockNotHeld, outOfRange}
+use Rattle.refusals.specs.Numbers.{accepted, outOfLimits, wrongLength, blockNotHeld, outOfRange}
 use Rattle.refusals.specs.Flags.{flagFits, flagSet}
 use Rattle.frame.specs.declared.Frame.{Frame}
 use Rattle.sigma_blocks.specs.declared.Blocks.{Blocks}
@@ -17,21 +17,21 @@ use Rattle.sigma_groups.specs.Held.{someNotHeld}
 
 module _ (on : ℕ) (f : Frame) (b : Blocks) (t : List ℕ) (grids : List Float) (n : ℕ) where
   -- the number of sigmas is checked only if the flag is in range
-  abbrev pub wrongCount : Bool
-  wrongCount = flagFits on && not (eqb n (sigmaCount (flagSet on) b))
+  abbrev pub badCount : Bool
+  badCount = flagFits on && not (eqb n (sigmaCount (flagSet on) b))
 
-  pub sides-out : badSides f ≡ true → outOfMeasure ≡ sigmaNumber on f b t grids n
+  pub sides-out : badSides f ≡ true → outOfLimits ≡ sigmaNumber on f b t grids n
   sides-out s = rw s
 
-  pub blocks-out : badSides f ≡ false → badBlocks b ≡ true → outOfMeasure ≡ sigmaNumber on f b t grids n
+  pub blocks-out : badSides f ≡ false → badBlocks b ≡ true → outOfLimits ≡ sigmaNumber on f b t grids n
   blocks-out s k = rw (s, k)
 
   -- settings out of range: of the lengths, only that of the sigmas is checked
   module _ (s : badSides f ≡ false) (k : badBlocks b ≡ false) (q : badSettings f ≡ true) where
-    pub count-wrong : wrongCount ≡ true → wrongLength ≡ sigmaNumber on f b t grids n
+    pub count-wrong : badCount ≡ true → wrongLength ≡ sigmaNumber on f b t grids n
     count-wrong c = rw (s, k, q, c)
 
-    pub settings-out : wrongCount ≡ false → outOfRange ≡ sigmaNumber on f b t grids n
+    pub settings-out : badCount ≡ false → outOfRange ≡ sigmaNumber on f b t grids n
     settings-out c = rw (s, k, q, c)
 
   module _ (s : badSides f ≡ false) (k : badBlocks b ≡ false) (q : badSettings f ≡ false) where
@@ -39,7 +39,7 @@ module _ (on : ℕ) (f : Frame) (b : Blocks) (t : List ℕ) (grids : List Float)
     table-wrong l = rw (s, k, q, l)
 
     module _ (l : tableFits f t ≡ true) where
-      pub grid-out : someGroup f (badGrid t) ≡ true → outOfMeasure ≡ sigmaNumber on f b t grids n
+      pub grid-out : someGroup f (badGrid t) ≡ true → outOfLimits ≡ sigmaNumber on f b t grids n
       grid-out g = rw (s, k, q, l, g)
 
       module _ (g : someGroup f (badGrid t) ≡ false) where
@@ -47,10 +47,10 @@ module _ (on : ℕ) (f : Frame) (b : Blocks) (t : List ℕ) (grids : List Float)
         grids-wrong w = rw (s, k, q, l, g, w)
 
         module _ (w : (not (someGroup f (badPresence t)) && not (gridsFit f t grids)) ≡ false) where
-          pub sigmas-wrong : wrongCount ≡ true → wrongLength ≡ sigmaNumber on f b t grids n
+          pub sigmas-wrong : badCount ≡ true → wrongLength ≡ sigmaNumber on f b t grids n
           sigmas-wrong c = rw (s, k, q, l, g, w, c)
 
-          module _ (c : wrongCount ≡ false) where
+          module _ (c : badCount ≡ false) where
             pub block-out : (flagSet on && someNotHeld f b t) ≡ true → blockNotHeld ≡ sigmaNumber on f b t grids n
             block-out h = rw (s, k, q, l, g, w, c, h)
 

@@ -5,7 +5,7 @@ use Prim.Native.Nat.{ℕ, _*_}
 use lib.Dec.{eqb}
 use lib.ListN.{length}
 use lib.Ieee.{Float}
-use Rattle.refusals.specs.Numbers.{outOfMeasure, wrongLength, blockNotHeld, outOfRange}
+use Rattle.refusals.specs.Numbers.{outOfLimits, wrongLength, blockNotHeld, outOfRange}
 use Rattle.refusals.specs.Checks.{Check, always, given, firstOf}
 use Rattle.refusals.specs.Flags.{flagFits, flagSet}
 use Rattle.frame.specs.declared.Frame.{Frame}
@@ -46,10 +46,10 @@ sigmaCount on b = cond on (blocksDown b * blocksAcross b) 0
 
 -- frame sides, and sides of present grids
 abbrev pub frameSides : Frame → Check
-frameSides f = always outOfMeasure (badSides f)
+frameSides f = always outOfLimits (badSides f)
 
 abbrev pub gridSides : Frame → List ℕ → Check
-gridSides f t = given (tableRead f t) outOfMeasure (someGroup f (badGrid t))
+gridSides f t = given (tableRead f t) outOfLimits (someGroup f (badGrid t))
 
 -- lengths of the table and of the grids slice; the latter is passed over if a presence is out of range
 abbrev pub tableLength : Frame → List ℕ → Check
@@ -73,7 +73,7 @@ presences f t = given (tableRead f t) outOfRange (someGroup f (badPresence t))
 abbrev pub sigmaChecks : ℕ → Frame → Blocks → List ℕ → List Float → ℕ → List Check
 sigmaChecks on f b t grids sigmas =
     frameSides f
-    ∷ always outOfMeasure (badBlocks b)
+    ∷ always outOfLimits (badBlocks b)
     ∷ gridSides f t
     ∷ tableLength f t
     ∷ gridsLength f t grids

@@ -29,7 +29,7 @@ fn sigma_count(on: bool, blocks: Blocks) -> usize
 }
 
 // Whether the number of sigmas is wrong; false if the flag is out of range.
-fn wrong_count(on: u32, blocks: Blocks, sigmas: usize) -> bool
+fn bad_count(on: u32, blocks: Blocks, sigmas: usize) -> bool
     requires { ⌜ Measured blocks ⌝ }
     ensures { λ r. ⌜ r ≡ (flagFits on && not (eqb sigmas (sigmaCount (flagSet on) blocks))) ⌝ }
 {
@@ -156,7 +156,7 @@ fn touched_not_held(
 }
 
 // Whether the grids slice has the wrong length; false if a presence is out of range.
-fn wrong_grids(faulty: bool, cells: usize, len: usize) -> bool
+fn bad_grids(faulty: bool, cells: usize, len: usize) -> bool
     ensures { λ r. ⌜ r ≡ (not faulty && not (eqb len cells)) ⌝ }
 {
     if faulty {
@@ -183,14 +183,14 @@ fn check_table(
         return refusals::WRONG_LENGTH;
     }
     let end = sigma_grids::grid_start(table, sizes.num_groups);
-    if end.number == refusals::OUT_OF_MEASURE {
-        return refusals::OUT_OF_MEASURE;
+    if end.number == refusals::OUT_OF_LIMITS {
+        return refusals::OUT_OF_LIMITS;
     }
     let bad_presence = some_bad_presence(table, groups);
-    if wrong_grids(bad_presence, end.start, grids.len()) {
+    if bad_grids(bad_presence, end.start, grids.len()) {
         return refusals::WRONG_LENGTH;
     }
-    if wrong_count(on, blocks, sigmas_len) {
+    if bad_count(on, blocks, sigmas_len) {
         return refusals::WRONG_LENGTH;
     }
     if touched_not_held(refusals::flag_set(on), frame, sizes, blocks, table) {
@@ -217,17 +217,17 @@ pub fn check(
     ensures { λ r. ⌜ r ≡ sigmaNumber on frame blocks (now (table .entry)) (now (grids .entry)) «sigmas_len» ⌝ }
 {
     let answer = frame::group_sizes(frame);
-    if answer.number == refusals::OUT_OF_MEASURE {
-        return refusals::OUT_OF_MEASURE;
+    if answer.number == refusals::OUT_OF_LIMITS {
+        return refusals::OUT_OF_LIMITS;
     }
     if sigma_blocks::bad_blocks(blocks) {
-        return refusals::OUT_OF_MEASURE;
+        return refusals::OUT_OF_LIMITS;
     }
     if answer.number == refusals::ACCEPTED {
         let sizes = answer.sizes;
         return check_table(on, frame, sizes, blocks, table, grids, sigmas_len);
     }
-    if wrong_count(on, blocks, sigmas_len) {
+    if bad_count(on, blocks, sigmas_len) {
         return refusals::WRONG_LENGTH;
     }
     refusals::OUT_OF_RANGE

@@ -74,8 +74,8 @@ mod tests {
 
     #[test]
     fn only_refusals_have_a_number() {
-        let refused = Error::Refused("--rect 0,0,0,5".into(), Refusal::OutOfMeasure);
-        let meaning = Refusal::OutOfMeasure.meaning();
+        let refused = Error::Refused("--rect 0,0,0,5".into(), Refusal::OutOfLimits);
+        let meaning = Refusal::OutOfLimits.meaning();
         let line = format!("--rect 0,0,0,5: {meaning} (refusal 4)");
         assert_eq!(refused.to_string(), line);
         assert_eq!(Error::invalid("x").to_string(), "x");

@@ -68,7 +68,7 @@ fn smooth_file(job: Job) -> Result<(), Error> {
     let name = job.input.input_name();
     let invalid = |what| Error::invalid(format!("{name}: {what}"));
     let file = pfm::parse(job.input.read()?).map_err(invalid)?;
-    smooth::judge(file.region, file.region).of(|| format!("{name} ({})", file.sides))?;
+    smooth::check_regions(file.region, file.region).of(|| format!("{name} ({})", file.sides))?;
     let (picture, scale) = file.picture().map_err(invalid)?;
     let part = part(picture.region, job.rect)?;
     let smooth = smoothed(picture, part, &job.filters).of(|| name.clone())?;
@@ -91,7 +91,7 @@ fn part(picture: Region, rect: Option<Rect>) -> Result<Region, Error> {
     let Some(rect) = rect else {
         return Ok(picture);
     };
-    smooth::judge(picture, rect.region).of(|| format!("--rect {}", rect.text))?;
+    smooth::check_regions(picture, rect.region).of(|| format!("--rect {}", rect.text))?;
     Ok(rect.region)
 }
 

@@ -100,7 +100,7 @@ fn header(bits: u8) -> Settings {
 
 /// Whether a picture's sides are in range and a part lies inside it: `start` decides. It reads only
 /// the lengths of its planes, so their memory is never touched.
-pub fn judge(picture: Region, part: Region) -> Result<(), Refusal> {
+pub fn check_regions(picture: Region, part: Region) -> Result<(), Refusal> {
     let setup = setup(picture, part, header(OFF));
     // Sides out of range are refused before lengths are compared.
     let count = sample_count(picture);
@@ -134,15 +134,15 @@ mod tests {
 
     #[test]
     fn sides_are_in_range_up_to_the_largest_picture() {
-        let judge = |(width, height)| {
+        let check_regions = |(width, height)| {
             let picture = at_corner(width, height);
-            judge(picture, picture)
+            check_regions(picture, picture)
         };
         for sides in [(1, 1), (4096, 4096), (16_384, 1024), (1024, 16_384)] {
-            assert_eq!(judge(sides), Ok(()), "{sides:?}");
+            assert_eq!(check_regions(sides), Ok(()), "{sides:?}");
         }
         for sides in [(0, 1), (4097, 4096), (16_385, 1), (u32::MAX, u32::MAX)] {
-            assert_eq!(judge(sides), Err(Refusal::OutOfMeasure), "{sides:?}");
+            assert_eq!(check_regions(sides), Err(Refusal::OutOfLimits), "{sides:?}");
         }
     }
 

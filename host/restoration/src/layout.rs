@@ -82,7 +82,7 @@ const _: () = {
     assert!(offset_of!(RestorationAnswer, next) == 104);
     assert!(size_of::<MirrorAnswer>() == 16);
     assert!(offset_of!(MirrorAnswer, number) == 0);
-    assert!(offset_of!(MirrorAnswer, place) == 8);
+    assert!(offset_of!(MirrorAnswer, index) == 8);
     assert!(size_of::<GaborSettings>() == 28);
     assert!(offset_of!(GaborSettings, enabled) == 0);
     assert!(offset_of!(GaborSettings, weights) == 4);

@@ -5,7 +5,7 @@
 //! let longest = Region::with_size(MAX_SIDE, 1);
 //! assert_eq!(region_right(longest).value(), Ok(MAX_SIDE as i32));
 //! let longer = Region::with_size(MAX_SIDE + 1, 1);
-//! assert_eq!(region_right(longer).value(), Err(Refusal::OutOfMeasure));
+//! assert_eq!(region_right(longer).value(), Err(Refusal::OutOfLimits));
 //! ```
 
 /// Planes of a picture.

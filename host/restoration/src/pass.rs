@@ -29,7 +29,7 @@ impl EpfStep {
 defaults! { EpfStep }
 
 answers! {
-    MirrorAnswer { place: usize }
+    MirrorAnswer { index: usize }
 }
 
 entries! {

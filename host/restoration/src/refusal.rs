@@ -47,7 +47,7 @@ refusals! {
     1 BitsRunOut "the header's bits run out"
     2 HalfNotFinite "a half-precision number of the header is not finite"
     3 KernelNearZero "the weights of a channel and its centre's 1 add up to nearly 0"
-    4 OutOfMeasure "a side, area, left or top is out of range"
+    4 OutOfLimits "a side, area, left or top is out of range"
     5 NotInside "the filter region is not inside the image region"
     6 NotOnBlocks "the filter region's left or top is negative or no multiple of 8"
     7 WrongLength "a slice has a wrong length"

@@ -14,7 +14,7 @@ pub mod runs;
 pub mod sigma;
 
 use limits::*;
-use numbers::{OUT_OF_MEASURE, OUT_OF_RANGE};
+use numbers::{OUT_OF_LIMITS, OUT_OF_RANGE};
 
 /// A result or the number of a refusal.
 pub type Ruled<T> = Result<T, u32>;
@@ -40,7 +40,7 @@ impl Region {
         let side = |length| (0..=MAX_SIDE).contains(&length);
         let corner = |place: i128| place.abs() <= MAX_OFFSET;
         let fits = corner(self.left) && corner(self.top) && side(self.width) && side(self.height);
-        fits.then_some(self).ok_or(OUT_OF_MEASURE)
+        fits.then_some(self).ok_or(OUT_OF_LIMITS)
     }
 
     fn right(self) -> i128 {
@@ -179,7 +179,7 @@ pub fn group_sizes(
 ) -> Ruled<[i128; 7]> {
     let side = |length| (1..=MAX_SIDE).contains(&length);
     if !side(width) || !side(height) {
-        return Err(OUT_OF_MEASURE);
+        return Err(OUT_OF_LIMITS);
     }
     let known = [1, 2, 4, 8].contains(&upsampling);
     if !known || lf_level > MAX_LF_LEVEL || group_size_shift > MAX_GROUP_SIZE_SHIFT {

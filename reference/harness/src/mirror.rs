@@ -13,7 +13,7 @@ pub const MIRROR: Subject = Subject {
     numbers: &[0, 9],
     ours: |c| {
         let answer = restoration::mirror(c[0] as isize, c[1] as usize);
-        Answer::new(answer.number, &[answer.place as i128])
+        Answer::new(answer.number, &[answer.index as i128])
     },
     rule: |c| match expected::mirror(c[0], c[1]) {
         Ok(place) => Answer::new(0, &[place]),

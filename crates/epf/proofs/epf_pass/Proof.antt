@@ -40,7 +40,7 @@ module _ (c : tie.Else2) where
   layout = placed .layout-of .result .layout
 
   fits : StepFits 3 layout (first .args .s .step) (first .args .from) (first .args .to) (length (now (first .args .sigmas))) (length (now (first .args .src))) (length (now (first .args .dst)))
-  fits = step-fits 3 layout (first .args .filter) (first .args .preserve-outside) (first .args .s .step) (first .args .from) (first .args .to) _ _ _ (sym (c .before .judged .ensures) ∙ c .if2 .left)
+  fits = step-fits 3 layout (first .args .filter) (first .args .preserve-outside) (first .args .s .step) (first .args .from) (first .args .to) _ _ _ (sym (c .before .check-pass .ensures) ∙ c .if2 .left)
 
 returns-3 : tie.Need-returns-3
 unfolding stepOver
@@ -48,9 +48,9 @@ returns-3 c =
     let d = c .before .before .before .before .before .before .before in
     let a = first d .args in
     let l = placed d .layout-of in
-    let j = d .before .judged in
+    let j = d .before .check-pass in
     done (a .image) (a .filter) (a .preserve-outside) (a .s) (now (a .sigmas)) (a .from) (a .to) (now (a .src)) (now (a .dst)) (l .result) (laid (placed d)) (d .before .before .before .before .if1 .left) (j .result) (j .ensures) (d .if2 .left) _
-    (rw (c .before .before .before .ahead .ensures .0, toZ-ofZ (record { sfits = c .before .before .before .before .struct-told .given .1 .0 .1 }), c .before .before .before .before .before .before .step-of .ensures) at (c .before .before .epf-band .ensures))
+    (rw (c .before .before .before .clamp-to-zero .ensures .0, toZ-ofZ (record { sfits = c .before .before .before .before .struct-told .given .1 .0 .1 }), c .before .before .before .before .before .before .step-of .ensures) at (c .before .before .epf-band .ensures))
 
 pub epf-pass-spec : {M : Type 1} → statement M
 epf-pass-spec = tie.close
@@ -60,11 +60,11 @@ epf-pass-spec = tie.close
     (λ c. let s = start (c .before) .args in not-placed (s .image) (s .filter) (s .preserve-outside) (s .s) (now (s .sigmas)) (s .from) (s .to) (now (s .src)) (now (s .dst)) (c .before .layout-of .result) (laid (c .before)) (c .if1 .taken))
     (λ c. search needs)
     (λ c κs. held (c .before .before) .fits)
-    (λ c. let l = c .before .before .before .before .before in let s = start l .args in refused (s .image) (s .filter) (s .preserve-outside) (s .s) (now (s .sigmas)) (s .from) (s .to) (now (s .src)) (now (s .dst)) (l .layout-of .result) (laid l) (c .before .before .before .before .if1 .left) (c .before .judged .result) (c .before .judged .ensures) (c .if2 .taken))
+    (λ c. let l = c .before .before .before .before .before in let s = start l .args in refused (s .image) (s .filter) (s .preserve-outside) (s .s) (now (s .sigmas)) (s .from) (s .to) (now (s .src)) (now (s .dst)) (l .layout-of .result) (laid l) (c .before .before .before .before .if1 .left) (c .before .check-pass .result) (c .before .check-pass .ensures) (c .if2 .taken))
     (λ c κs. search needs)
     (λ c κs. search needs)
     (λ c κs. let d = c .before .before .before .before in let f = fits d in let g = held (d .before .before .before .before) .fits in
     let step = ap (λ (z : Step). z .step) (c .before .before .before .step-of .ensures) in
-    (band-fits 3 _ _ _ _ _ _ _ (omega arith) g f, record { layout = g; planes = omega arith; set = f .target; sigmas = f .blocks; low = omega (arith, f .low, step); place = c .ahead .ensures .1 }))
+    (band-fits 3 _ _ _ _ _ _ _ (omega arith) g f, record { layout = g; planes = omega arith; set = f .target; sigmas = f .blocks; low = omega (arith, f .low, step); place = c .clamp-to-zero .ensures .1 }))
     (λ c. search needs)
     returns-3)

@@ -2,7 +2,7 @@
 use native.Mathlib.Omega.{arith}
 use borrow.Author.Needs.{needs}
 use denote.Ref.{now}
-use Rattle.header_bits.proofs.Judged.{u-long, u-short, u-whole}
+use Rattle.header_bits.proofs.Checked.{u-long, u-short, u-whole}
 use Rattle.header_bits.proofs.read_bits.Statement.{statement}
 use Rattle.header_bits.proofs.read_bits.Tie as tie
 

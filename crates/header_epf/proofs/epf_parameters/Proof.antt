@@ -2,7 +2,7 @@
 use borrow.Author.Needs.{needs}
 use mathlib.Core.Path.{ap, _∙_}
 use Rattle.header_epf.specs.EdgeFilter.{epfAnswer}
-use Rattle.header_epf_tables.proofs.Told.{sharp-accepted, sharp-refused, scale-accepted, scale-refused}
+use Rattle.header_epf_tables.proofs.Answers.{sharp-accepted, sharp-refused, scale-accepted, scale-refused}
 use Rattle.header_epf.proofs.EpfCases.{parameters-refused, parameters-short, parameters}
 use Rattle.header_epf.proofs.epf_parameters.Statement.{statement}
 use Rattle.header_epf.proofs.epf_parameters.Tie as tie

@@ -8,7 +8,7 @@ use lib.ListN.{length, take, length-set}
 use Rattle.header_bits.specs.Outcome.{accepted}
 use Rattle.header_half.specs.Half.{halfOutcome}
 use Rattle.header_fields.specs.Fields.{f16s}
-use Rattle.header_fields.proofs.Rows.{told}
+use Rattle.header_fields.proofs.Rows.{answer-is}
 use Rattle.header_epf_tables.proofs.Halves.{halves-none, halves-more, halves-stop, halves-all}
 use Rattle.header_epf_tables.proofs.read_halves.Statement.{statement}
 use Rattle.header_epf_tables.proofs.read_halves.Tie as tie
@@ -26,13 +26,13 @@ loop-holds c = (omega arith, refl, halves-none _ _ (now (c .before .before .args
 
 returns : tie.Need-returns Inv-loop μ-loop
 returns c =
-    halves-stop _ _ _ _ _ _ _ (omega arith) (c .before .before .before .before .before .loop .inv .2) (told halfOutcome (c .before .number .given .1) (c .before .before .before .read-f16-as-f32 .ensures))
+    halves-stop _ _ _ _ _ _ _ (omega arith) (c .before .before .before .before .before .loop .inv .2) (answer-is halfOutcome (c .before .number .given .1) (c .before .before .before .read-f16-as-f32 .ensures))
 
 loop-again : tie.Need-loop-again Inv-loop μ-loop
 loop-again c = (
   omega arith,
   simp length-set (c .before .before .before .before .before .loop .inv .1),
-  halves-more _ _ (c .before .before .before .before .before .loop .out) _ _ _ _ (omega arith) (c .before .before .before .before .before .loop .inv .2) (told halfOutcome (c .before .value .given .1) (c .before .before .before .read-f16-as-f32 .ensures)),
+  halves-more _ _ (c .before .before .before .before .before .loop .out) _ _ _ _ (omega arith) (c .before .before .before .before .before .loop .inv .2) (answer-is halfOutcome (c .before .value .given .1) (c .before .before .before .read-f16-as-f32 .ensures)),
 )
 
 returns-2 : tie.Need-returns-2 Inv-loop μ-loop

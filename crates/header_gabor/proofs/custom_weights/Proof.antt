@@ -4,7 +4,7 @@ use mathlib.Core.Path.{_∙_}
 use Rattle.header_fields.specs.Fields.{read}
 use Rattle.header_gabor_channel.specs.Channel.{channelOutcome}
 use Rattle.header_gabor.specs.Gabor.{channelsFields}
-use Rattle.header_fields.proofs.Rows.{told, read-nested}
+use Rattle.header_fields.proofs.Rows.{answer-is, read-nested}
 use Rattle.header_gabor.proofs.custom_weights.Statement.{statement}
 use Rattle.header_gabor.proofs.custom_weights.Tie as tie
 
@@ -14,11 +14,11 @@ returns c =
     c .gabor-accepted .ensures
     ∙ rw (
       read-nested,
-      told channelOutcome (c .before .before .before .before .before .before .before .before .before .before .x0 .given .1) (c .before .before .before .before .before .before .before .before .before .before .before .before .read-channel .ensures),
+      answer-is channelOutcome (c .before .before .before .before .before .before .before .before .before .before .x0 .given .1) (c .before .before .before .before .before .before .before .before .before .before .before .before .read-channel .ensures),
       read-nested,
-      told channelOutcome (c .before .before .before .before .before .before .y0 .given .1) (c .before .before .before .before .before .before .before .before .read-channel2 .ensures),
+      answer-is channelOutcome (c .before .before .before .before .before .before .y0 .given .1) (c .before .before .before .before .before .before .before .before .read-channel2 .ensures),
       read-nested,
-      told channelOutcome (c .before .before .b0 .given .1) (c .before .before .before .before .read-channel3 .ensures),
+      answer-is channelOutcome (c .before .before .b0 .given .1) (c .before .before .before .before .read-channel3 .ensures),
     )
 
 returns-2 : tie.Need-returns-2
@@ -27,11 +27,11 @@ returns-2 c =
     c .gabor-refused .ensures
     ∙ rw (
       read-nested,
-      told channelOutcome (c .before .before .before .before .before .before .before .before .before .before .x0 .given .1) (c .before .before .before .before .before .before .before .before .before .before .before .before .read-channel .ensures),
+      answer-is channelOutcome (c .before .before .before .before .before .before .before .before .before .before .x0 .given .1) (c .before .before .before .before .before .before .before .before .before .before .before .before .read-channel .ensures),
       read-nested,
-      told channelOutcome (c .before .before .before .before .before .before .y0 .given .1) (c .before .before .before .before .before .before .before .before .read-channel2 .ensures),
+      answer-is channelOutcome (c .before .before .before .before .before .before .y0 .given .1) (c .before .before .before .before .before .before .before .before .read-channel2 .ensures),
       read-nested,
-      told channelOutcome (c .before .before .number .given .1) (c .before .before .before .before .read-channel3 .ensures),
+      answer-is channelOutcome (c .before .before .number .given .1) (c .before .before .before .before .read-channel3 .ensures),
     )
 
 returns-3 : tie.Need-returns-3
@@ -40,9 +40,9 @@ returns-3 c =
     c .gabor-refused2 .ensures
     ∙ rw (
       read-nested,
-      told channelOutcome (c .before .before .before .before .before .before .x0 .given .1) (c .before .before .before .before .before .before .before .before .read-channel .ensures),
+      answer-is channelOutcome (c .before .before .before .before .before .before .x0 .given .1) (c .before .before .before .before .before .before .before .before .read-channel .ensures),
       read-nested,
-      told channelOutcome (c .before .before .number2 .given .1) (c .before .before .before .before .read-channel2 .ensures),
+      answer-is channelOutcome (c .before .before .number2 .given .1) (c .before .before .before .before .read-channel2 .ensures),
     )
 
 returns-4 : tie.Need-returns-4
@@ -51,7 +51,7 @@ returns-4 c =
     c .gabor-refused3 .ensures
     ∙ rw (
       read-nested,
-      told channelOutcome (c .before .before .number3 .given .1) (c .before .before .before .before .read-channel .ensures),
+      answer-is channelOutcome (c .before .before .number3 .given .1) (c .before .before .before .before .read-channel .ensures),
     )
 
 pub custom-weights-spec : {M : Type 1} → statement M

@@ -6,7 +6,7 @@ use Prim.Native.Nat.{ℕ}
 use Rattle.header_bits.specs.Outcome.{Outcome, andThen}
 use Rattle.header_bits.specs.Bits.{bitsOutcome}
 use Rattle.header_half.specs.Half.{f16, finite}
-use Rattle.header_bits.proofs.Judged.{u-below}
+use Rattle.header_bits.proofs.Checked.{u-below}
 use Rattle.header_half.proofs.read_f16_as_f32.Statement.{statement}
 use Rattle.header_half.proofs.read_f16_as_f32.Tie as tie
 

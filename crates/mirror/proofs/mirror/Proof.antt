@@ -41,10 +41,10 @@ returns-5 c =
     let z = s .args .offset in
     let n = s .args .len in
     let e = toZ-ofZ (s .fits .offset) in
-    let place : c .place .result ≡ mirror z n = c .place .ensures ∙ ap (λ (k : ℕ). mirror (pos k) n) (c .before .unsigned .ensures ∙ ap mag e) ∙ mirror-mag z n in
+    let index : c .reflected .result ≡ mirror z n = c .reflected .ensures ∙ ap (λ (k : ℕ). mirror (pos k) n) (c .before .unsigned .ensures ∙ ap mag e) ∙ mirror-mag z n in
     rw
     (le-ltb n 1 (omega arith), le-ltb 16384 n (omega arith), rw e at (c .before .before .before .if3 .left), rw e at (c .before .before .if4 .left))
-    (ap (mirrorAnswered 0) place)
+    (ap (mirrorAnswered 0) index)
 
 pub mirror-spec : {M : Type 1} → statement M
 mirror-spec =

@@ -8,9 +8,9 @@ use mir.Facts.{toZ-ofZ}
 use Rattle.region_interval.proofs.Flags.{not-true, not-false, yes, true-of}
 use Rattle.region_overlap.specs.Overlap.{vacant, meet}
 use Rattle.region.proofs.Answers.{given-holds}
-use Rattle.region_arithmetic.specs.Answers.{regionAnswer, judgedNumber}
-use Rattle.region.specs.Measures.{measured}
-use Rattle.region.proofs.Laws.{meet-measured}
+use Rattle.region_arithmetic.specs.Answers.{regionAnswer, regionNumber}
+use Rattle.region.specs.Measures.{boundsFit}
+use Rattle.region.proofs.Laws.{meet-bounds}
 use Rattle.region.specs.Regions.{columns, rows, regionOf}
 use Rattle.region_arithmetic.specs.Arithmetic.{intersected}
 use Rattle.region_interval.specs.declared.Span.{Span}
@@ -49,21 +49,21 @@ returns-2 c =
     let w = rw (down m) at (sym (k .vacant2 .ensures) ∙ c .before .if2 .taken) in
     c .refused2 .ensures ∙ rw (v, w)
 
-judged-of : {a : RegionAnswer} {x y u v : Span} → a ≡ regionAnswer (judgedNumber (regionOf x y)) (regionOf x y) → x ≡ u → y ≡ v
-    → a ≡ regionAnswer (judgedNumber (regionOf u v)) (regionOf u v)
-judged-of e p q = rw (p, q) at e
+checked-of : {a : RegionAnswer} {x y u v : Span} → a ≡ regionAnswer (regionNumber (regionOf x y)) (regionOf x y) → x ≡ u → y ≡ v
+    → a ≡ regionAnswer (regionNumber (regionOf u v)) (regionOf u v)
+checked-of e p q = rw (p, q) at e
 
 returns-3 : tie.Need-returns-3
-unfolding intersected judgedNumber
+unfolding intersected regionNumber
 returns-3 c =
     let k = c .before .before in
     let m = k .before .before .before in
     let s = start m in
     let v = rw (across m) at (sym (k .before .before .vacant .ensures) ∙ k .before .if1 .left) in
     let w = rw (down m) at (sym (k .vacant2 .ensures) ∙ c .before .if2 .left) in
-    let e = judged-of (c .judged .ensures) (across m) (down m) in
+    let e = checked-of (c .check-made .ensures) (across m) (down m) in
     let r = regionOf (meet (columns (s .args .a)) (columns (s .args .b))) (meet (rows (s .args .a)) (rows (s .args .b))) in
-    let z = given-holds r (true-of (measured r) (meet-measured (s .args .a) (s .args .b) (s .pre .0) (s .pre .1) v w)) in
+    let z = given-holds r (true-of (boundsFit r) (meet-bounds (s .args .a) (s .args .b) (s .pre .0) (s .pre .1) v w)) in
     rw (v, w) (e ∙ ap (λ (n : ℕ). regionAnswer n r) z)
 
 pub common-spec : {M : Type 1} → statement M

@@ -8,10 +8,10 @@ use Rattle.region_interval.proofs.Flags.{not-true, not-false, yes}
 use lib.Count.{trailingZeros}
 use mir.Facts.{toZ-ofZ}
 use Rattle.region_arithmetic.specs.Answers.{regionAnswer, isAlignment}
-use Rattle.region_arithmetic.proofs.Answers.{setting-given, setting-fails, setting-judged}
+use Rattle.region_arithmetic.proofs.Answers.{setting-given, setting-fails, setting-checked}
 use Rattle.region_interval.proofs.Powers.{power-found}
 use Rattle.region_arithmetic.specs.Arithmetic.{alignedTo}
-use Rattle.region.specs.Measures.{measured}
+use Rattle.region.specs.Measures.{boundsFit}
 use Rattle.region_arithmetic.proofs.container_aligned.Statement.{statement}
 use Rattle.region_arithmetic.proofs.container_aligned.Tie as tie
 
@@ -19,7 +19,7 @@ returns : tie.Need-returns
 unfolding regionAnswer
 returns c =
     let s = c .before .before .before .args in
-    let m = sym (c .before .before .measured .ensures) ∙ not-true (c .before .if1 .taken) in
+    let m = sym (c .before .before .bounds-fit .ensures) ∙ not-true (c .before .if1 .taken) in
     let made = alignedTo (s .grid-dim) (s .r) in
     c .refused .ensures ∙ ap (λ (n : ℕ). regionAnswer n made) (sym (setting-given (s .r) made (isAlignment (s .grid-dim)) m))
 
@@ -27,7 +27,7 @@ returns-2 : tie.Need-returns-2
 unfolding regionAnswer
 returns-2 c =
     let s = c .before .before .before .before .before .args in
-    let m = sym (c .before .before .before .before .measured .ensures) ∙ not-false (c .before .before .before .if1 .left) in
+    let m = sym (c .before .before .before .before .bounds-fit .ensures) ∙ not-false (c .before .before .before .if1 .left) in
     let made = alignedTo (s .grid-dim) (s .r) in
     let d = sym (c .before .before .is-alignment .ensures) ∙ not-true (c .before .if2 .taken) in
     c .refused2 .ensures ∙ ap (λ (n : ℕ). regionAnswer n made) (sym (setting-fails (s .r) made (isAlignment (s .grid-dim)) m d))
@@ -41,14 +41,14 @@ returns-3 c =
     let k = c .before .before .before .before .before in
     let s = k .before .before .before .before in
     let g = c .before .before .before .before .struct-told .given in
-    let m = sym (k .before .before .before .measured .ensures) ∙ not-false (k .before .before .if1 .left) in
+    let m = sym (k .before .before .before .bounds-fit .ensures) ∙ not-false (k .before .before .if1 .left) in
     let p = power-found (s .args .grid-dim) (sound k) in
     let l : min (trailingZeros 32 (s .args .grid-dim)) 13 ≡ trailingZeros 32 (s .args .grid-dim) = omega (arith, p .0) in
     let x = rw (toZ-ofZ (record { sfits = g .0 .1 }), l, p .1) at (c .before .before .before .aligned .ensures) in
     let y = rw (toZ-ofZ (record { sfits = g .1 .0 .1 }), l, p .1) at (c .before .aligned2 .ensures) in
     let made = alignedTo (s .args .grid-dim) (s .args .r) in
-    (rw (x, y) at (c .judged .ensures))
-    ∙ ap (λ (n : ℕ). regionAnswer n made) (sym (setting-judged (s .args .r) made (isAlignment (s .args .grid-dim)) m (sound k)))
+    (rw (x, y) at (c .check-made .ensures))
+    ∙ ap (λ (n : ℕ). regionAnswer n made) (sym (setting-checked (s .args .r) made (isAlignment (s .args .grid-dim)) m (sound k)))
 
 pub container-aligned-spec : {M : Type 1} → statement M
 container-aligned-spec =

@@ -8,7 +8,7 @@ use Rattle.region_interval.proofs.Flags.{not-true, not-false, yes}
 use Rattle.region.proofs.Answers.{pair-first, pair-second, pair-holds}
 use Rattle.region_arithmetic.specs.Answers.{regionAnswer}
 use Rattle.region_arithmetic.specs.Arithmetic.{intersected}
-use Rattle.region.specs.Measures.{measured}
+use Rattle.region.specs.Measures.{boundsFit}
 use Rattle.region_arithmetic.proofs.intersection.Statement.{statement}
 use Rattle.region_arithmetic.proofs.intersection.Tie as tie
 
@@ -16,20 +16,20 @@ returns : tie.Need-returns
 unfolding regionAnswer
 returns c =
     let s = c .before .before .before .args in
-    let m = sym (c .before .before .measured .ensures) ∙ not-true (c .before .if1 .taken) in
+    let m = sym (c .before .before .bounds-fit .ensures) ∙ not-true (c .before .if1 .taken) in
     c .refused .ensures ∙ ap (λ (n : ℕ). regionAnswer n (intersected (s .a) (s .b))) (sym (pair-first (s .a) (s .b) m))
 
 returns-2 : tie.Need-returns-2
 unfolding regionAnswer
 returns-2 c =
     let s = c .before .before .before .before .before .args in
-    let m = sym (c .before .before .before .before .measured .ensures) ∙ not-false (c .before .before .before .if1 .left) in
-    let k = sym (c .before .before .measured2 .ensures) ∙ not-true (c .before .if2 .taken) in
+    let m = sym (c .before .before .before .before .bounds-fit .ensures) ∙ not-false (c .before .before .before .if1 .left) in
+    let k = sym (c .before .before .bounds-fit2 .ensures) ∙ not-true (c .before .if2 .taken) in
     c .refused2 .ensures ∙ ap (λ (n : ℕ). regionAnswer n (intersected (s .a) (s .b))) (sym (pair-second (s .a) (s .b) m k))
 
-both : (c : tie.Else2) → (measured (c .before .before .before .before .args .a) ≡ true) × (measured (c .before .before .before .before .args .b) ≡ true)
+both : (c : tie.Else2) → (boundsFit (c .before .before .before .before .args .a) ≡ true) × (boundsFit (c .before .before .before .before .args .b) ≡ true)
 both c =
-    (sym (c .before .before .before .measured .ensures) ∙ not-false (c .before .before .if1 .left), sym (c .before .measured2 .ensures) ∙ not-false (c .if2 .left))
+    (sym (c .before .before .before .bounds-fit .ensures) ∙ not-false (c .before .before .if1 .left), sym (c .before .bounds-fit2 .ensures) ∙ not-false (c .if2 .left))
 
 common-requires : tie.Need-common-requires
 common-requires c κs = (yes (both c .0), yes (both c .1))

@@ -7,9 +7,9 @@ use borrow.Author.Needs.{needs}
 use Rattle.region_interval.proofs.Flags.{not-true, not-false, yes}
 use mir.Facts.{toZ-ofZ}
 use Rattle.region_arithmetic.specs.Answers.{regionAnswer}
-use Rattle.region_arithmetic.proofs.Answers.{result-fails, result-judged}
+use Rattle.region_arithmetic.proofs.Answers.{result-fails, result-checked}
 use Rattle.region_arithmetic.specs.Arithmetic.{translated}
-use Rattle.region.specs.Measures.{measured}
+use Rattle.region.specs.Measures.{boundsFit}
 use Rattle.region_arithmetic.proofs.translate.Statement.{statement}
 use Rattle.region_arithmetic.proofs.translate.Tie as tie
 
@@ -17,7 +17,7 @@ returns : tie.Need-returns
 unfolding regionAnswer
 returns c =
     let s = c .before .before .before .args in
-    let m = sym (c .before .before .measured .ensures) ∙ not-true (c .before .if1 .taken) in
+    let m = sym (c .before .before .bounds-fit .ensures) ∙ not-true (c .before .if1 .taken) in
     let made = translated (s .x) (s .y) (s .r) in
     c .refused .ensures ∙ ap (λ (n : ℕ). regionAnswer n made) (sym (result-fails (s .r) made m))
 
@@ -27,11 +27,11 @@ returns-2 c =
     let k = c .before .before .before .before .before in
     let s = k .before .before in
     let g = c .before .before .before .before .struct-told .given in
-    let m = sym (k .before .measured .ensures) ∙ not-false (k .if1 .left) in
+    let m = sym (k .before .bounds-fit .ensures) ∙ not-false (k .if1 .left) in
     let x = rw (toZ-ofZ (record { sfits = g .0 .1 }), toZ-ofZ (s .fits .x)) at (c .before .before .before .moved .ensures) in
     let y = rw (toZ-ofZ (record { sfits = g .1 .0 .1 }), toZ-ofZ (s .fits .y)) at (c .before .moved2 .ensures) in
     let made = translated (s .args .x) (s .args .y) (s .args .r) in
-    (rw (x, y) at (c .judged .ensures)) ∙ ap (λ (n : ℕ). regionAnswer n made) (sym (result-judged (s .args .r) made m))
+    (rw (x, y) at (c .check-made .ensures)) ∙ ap (λ (n : ℕ). regionAnswer n made) (sym (result-checked (s .args .r) made m))
 
 pub translate-spec : {M : Type 1} → statement M
 translate-spec =

@@ -8,7 +8,7 @@ use lib.Signed.{leZ, nonNeg, mag, natAbs-le}
 use mir.Syntax.{w64}
 use mir.Val.{SFits, Fits}
 use mir.Facts.{toZ-ofZ}
-use Rattle.region_interval.proofs.Order.{le-to, not-le, ahead, not-negative, size-is, same-size, mag-add, mag-neg, above, below}
+use Rattle.region_interval.proofs.Order.{le-to, not-le, not-negative-difference, not-negative, size-is, same-size, mag-add, mag-neg, above, below}
 use Rattle.region_axis.proofs.distance.Statement.{statement}
 use Rattle.region_axis.proofs.distance.Tie as tie
 use Prim.Native.Nat.{_<_, _≤_, _+_}
@@ -21,7 +21,7 @@ module _ (a b : ℤ) (h : mag a < 0x4_0000_0000_0000) (k : mag b < 0x4_0000_0000
   fits = record { sfits = omega (arith, mag-add b (negℤ a), mag-neg a) }
 
   cast-fits : above a + below b ≤ above b + below a → T (nonNeg (b -ℤ a)) × Fits w64 (natAbs (b -ℤ a))
-  cast-fits l = (not-negative (b -ℤ a) (ahead a b l), record { fits = omega (arith, mag-add b (negℤ a), mag-neg a, natAbs-le (b -ℤ a) {H = 0x10_0000_0000_0000} (omega (arith, mag-add b (negℤ a), mag-neg a))) })
+  cast-fits l = (not-negative (b -ℤ a) (not-negative-difference a b l), record { fits = omega (arith, mag-add b (negℤ a), mag-neg a, natAbs-le (b -ℤ a) {H = 0x10_0000_0000_0000} (omega (arith, mag-add b (negℤ a), mag-neg a))) })
 
 sub-result : tie.Need-sub-result
 sub-result c = let s = c .before in rw (toZ-ofZ (s .fits .a), toZ-ofZ (s .fits .b)) (fits (s .args .a) (s .args .b) (s .pre .0) (s .pre .1))

@@ -8,30 +8,30 @@ use Rattle.region_interval.proofs.aligned.Statement.{statement}
 use Rattle.region_interval.proofs.aligned.Tie as tie
 
 floor-shift-requires : tie.Need-floor-shift-requires
-floor-shift-requires c κs = omega (arith, c .before .at-most .ensures)
+floor-shift-requires c κs = omega (arith, c .before .min-u32 .ensures)
 
 multiple-requires : tie.Need-multiple-requires
 multiple-requires c κs =
     let w = c .before .wide in
     let l = rw (back (w .result) (w .ok)) at (c .floor-shift .ensures .1) in
     rw (back (c .floor-shift .result) (c .floor-shift .ok))
-    (omega (arith, c .before .before .at-most .ensures), omega (arith, l, w .ensures .1))
+    (omega (arith, c .before .before .min-u32 .ensures), omega (arith, l, w .ensures .1))
 
 ceil-shift-requires : tie.Need-ceil-shift-requires
 ceil-shift-requires c κs =
-    rw (back (c .end-of .result) (c .end-of .ok)) (omega (arith, c .before .before .before .before .at-most .ensures), omega (arith, c .end-of .ensures .1))
+    rw (back (c .end-of .result) (c .end-of .ok)) (omega (arith, c .before .before .before .before .min-u32 .ensures), omega (arith, c .end-of .ensures .1))
 
 multiple-requires-2 : tie.Need-multiple-requires-2
 multiple-requires-2 c κs =
     let e = c .before .end-of in
     let l = rw (back (e .result) (e .ok)) at (c .ceil-shift .ensures .1) in
     rw (back (c .ceil-shift .result) (c .ceil-shift .ok))
-    (omega (arith, c .before .before .before .before .before .at-most .ensures), omega (arith, l, e .ensures .1))
+    (omega (arith, c .before .before .before .before .before .min-u32 .ensures), omega (arith, l, e .ensures .1))
 
 returns : tie.Need-returns
 returns c =
     let s = c .before .before .before .before .before .before .before in
-    let f = c .before .before .before .before .before .before .at-most .ensures in
+    let f = c .before .before .before .before .before .before .min-u32 .ensures in
     let w = c .before .before .before .before .before .wide in
     let d = c .before .before .before .before .floor-shift in
     let m = c .before .before .before .multiple in

@@ -10,4 +10,4 @@ on-block-spec = tie.close
     (tie.spec
     (λ c. negative (c .before .args .z) (rw (toZ-ofZ (c .before .fits .z)) at (c .if1 .taken)) .1)
     (λ c κs. search needs)
-    (λ c. multiple (c .before .before .args .z) _ (rw (toZ-ofZ (c .before .before .fits .z)) at (c .before .if1 .left)) (rw (toZ-ofZ (c .before .before .fits .z)) at (c .ahead .ensures .0))))
+    (λ c. multiple (c .before .before .args .z) _ (rw (toZ-ofZ (c .before .before .fits .z)) at (c .before .if1 .left)) (rw (toZ-ofZ (c .before .before .fits .z)) at (c .clamp-to-zero .ensures .0))))

@@ -10,8 +10,8 @@ use mir.Syntax.{w32}
 use mir.Facts.{toZ-ofZ}
 use Rattle.region_placement.specs.Placed.{placedAnswer}
 use Rattle.region_placement.proofs.PlacedLaws.{placed-image, placed-filter, placed-outside, placed-inside}
-use Rattle.region.specs.Measures.{measured, pictured}
-use Rattle.region.proofs.Laws.{pictured-measured, pictured-width, pictured-height}
+use Rattle.region.specs.Measures.{boundsFit, pictureFits}
+use Rattle.region.proofs.Laws.{picture-bounds, picture-width, picture-height}
 use Rattle.region.specs.Regions.{inside}
 use Rattle.region.specs.Answers.{containsOutcome}
 use Rattle.region.proofs.Answers.{pair-holds}
@@ -21,29 +21,29 @@ use Rattle.region_placement.proofs.placed.Statement.{statement}
 use Rattle.region_placement.proofs.placed.Tie as tie
 
 -- for regions whose sides are all at least 1
-contains-is : (r t : Region) → pictured r ≡ true → pictured t ≡ true → containsOutcome r t .holds ≡ inside r t
+contains-is : (r t : Region) → pictureFits r ≡ true → pictureFits t ≡ true → containsOutcome r t .holds ≡ inside r t
 contains-is r t e f =
-    let m = true-of (measured r) (pictured-measured r (yes e)) in
-    let n = true-of (measured t) (pictured-measured t (yes f)) in
-    let w = ne-eqb (t .width) 0 (λ z. omega (arith, pictured-width t (yes f))) in
-    let h = ne-eqb (t .height) 0 (λ z. omega (arith, pictured-height t (yes f))) in
+    let m = true-of (boundsFit r) (picture-bounds r (yes e)) in
+    let n = true-of (boundsFit t) (picture-bounds t (yes f)) in
+    let w = ne-eqb (t .width) 0 (λ z. omega (arith, picture-width t (yes f))) in
+    let h = ne-eqb (t .height) 0 (λ z. omega (arith, picture-height t (yes f))) in
     rw (pair-holds r t m n, w, h)
 
-both : (c : tie.Else2) → (pictured (c .before .before .before .before .args .image) ≡ true) × (pictured (c .before .before .before .before .args .filter) ≡ true)
+both : (c : tie.Else2) → (pictureFits (c .before .before .before .before .args .image) ≡ true) × (pictureFits (c .before .before .before .before .args .filter) ≡ true)
 both c =
-    (sym (c .before .before .before .pictured .ensures) ∙ not-false (c .before .before .if1 .left), sym (c .before .pictured2 .ensures) ∙ not-false (c .if2 .left))
+    (sym (c .before .before .before .picture-fits .ensures) ∙ not-false (c .before .before .if1 .left), sym (c .before .picture-fits2 .ensures) ∙ not-false (c .if2 .left))
 
 returns : tie.Need-returns
 returns c =
     let s = c .before .before .before .args in
-    let m = sym (c .before .before .pictured .ensures) ∙ not-true (c .before .if1 .taken) in
+    let m = sym (c .before .before .picture-fits .ensures) ∙ not-true (c .before .if1 .taken) in
     c .unplaced .ensures ∙ ap (λ (n : ℕ). placedAnswer n (s .image) (s .filter)) (sym (placed-image (s .image) (s .filter) m))
 
 returns-2 : tie.Need-returns-2
 returns-2 c =
     let s = c .before .before .before .before .before .args in
-    let m = sym (c .before .before .before .before .pictured .ensures) ∙ not-false (c .before .before .before .if1 .left) in
-    let k = sym (c .before .before .pictured2 .ensures) ∙ not-true (c .before .if2 .taken) in
+    let m = sym (c .before .before .before .before .picture-fits .ensures) ∙ not-false (c .before .before .before .if1 .left) in
+    let k = sym (c .before .before .picture-fits2 .ensures) ∙ not-true (c .before .if2 .taken) in
     c .unplaced2 .ensures ∙ ap (λ (n : ℕ). placedAnswer n (s .image) (s .filter)) (sym (placed-filter (s .image) (s .filter) m k))
 
 inside-is : (c : tie.After-contains) → c .contains .result .holds ≡ inside (c .before .before .before .before .before .args .image) (c .before .before .before .before .before .args .filter)

@@ -18,8 +18,8 @@ fits : (s : tie.Start) → Room (lent s) (s .args .k) (s .pre)
 fits s = room (lent s) (s .args .k) (s .pre)
 
 -- the first row after the band
-to-is : (c : tie.After-smaller) → c .smaller .result ≡ bandTo (c .before .before .before .before .before .args .run .setup) (c .before .before .before .before .before .args .k)
-to-is c = c .smaller .ensures ∙ ap (min (c .before .before .before .before .before .args .k * c .before .before .before .before .before .args .run .setup .«band_height» + c .before .before .before .before .before .args .run .setup .«band_height»)) (c .before .row-count .ensures .0)
+to-is : (c : tie.After-min-u32) → c .min-u32 .result ≡ bandTo (c .before .before .before .before .before .args .run .setup) (c .before .before .before .before .before .args .k)
+to-is c = c .min-u32 .ensures ∙ ap (min (c .before .before .before .before .before .args .k * c .before .before .before .before .before .args .run .setup .«band_height» + c .before .before .before .before .before .args .run .setup .«band_height»)) (c .before .row-count .ensures .0)
 
 returns : tie.Need-returns
 returns c =

@@ -9,8 +9,8 @@ refusal-spec =
     tie.close
     (tie.spec
     (λ c κs. search needs)
-    (λ c. rw (sym (c .before .sets-wrong .ensures) ∙ c .if1 .taken))
+    (λ c. rw (sym (c .before .bad-sets .ensures) ∙ c .if1 .taken))
     (λ c κs. search needs)
-    (λ c. rw (sym (c .before .before .before .sets-wrong .ensures) ∙ c .before .before .if1 .left, sym (c .before .sigmas-wrong .ensures) ∙ c .if2 .taken))
+    (λ c. rw (sym (c .before .before .before .bad-sets .ensures) ∙ c .before .before .if1 .left, sym (c .before .bad-sigmas .ensures) ∙ c .if2 .taken))
     (λ c κs. search needs)
-    (λ c. rw (sym (c .before .before .before .before .sets-wrong .ensures) ∙ c .before .before .before .if1 .left, sym (c .before .before .sigmas-wrong .ensures) ∙ c .before .if2 .left) (c .band-number .ensures)))
+    (λ c. rw (sym (c .before .before .before .before .bad-sets .ensures) ∙ c .before .before .before .if1 .left, sym (c .before .before .bad-sigmas .ensures) ∙ c .before .if2 .left) (c .band-number .ensures)))

@@ -18,10 +18,10 @@ module _ (c : tie.Else2) where
   start = c .before .before .before .before .before .before .before
 
   sets : false ≡ applies (setCheck 3 (start .args .run .setup) (length (now (start .args .first))) (length (now (start .args .second))))
-  sets = sym (c .before .before .if1 .left) ∙ c .before .before .before .sets-wrong .ensures
+  sets = sym (c .before .before .if1 .left) ∙ c .before .before .before .bad-sets .ensures
 
   slice : false ≡ applies (sliceCheck 3 (start .args .run .setup) (length (now (start .args .out))))
-  slice = sym (c .if2 .left) ∙ c .before .slice-wrong .ensures
+  slice = sym (c .if2 .left) ∙ c .before .bad-slice .ensures
 
 -- and the record's number is 0
 module _ (c : tie.Else3) where
@@ -36,9 +36,9 @@ result-spec =
     tie.close
     (tie.spec
     (λ c κs. search needs)
-    (λ c. sets-refused 3 _ _ _ _ (sym (c .if1 .taken) ∙ c .before .sets-wrong .ensures))
+    (λ c. sets-refused 3 _ _ _ _ (sym (c .if1 .taken) ∙ c .before .bad-sets .ensures))
     (λ c κs. search needs)
-    (λ c. slice-refused 3 _ _ _ _ (sym (c .before .before .if1 .left) ∙ c .before .before .before .sets-wrong .ensures) (sym (c .if2 .taken) ∙ c .before .slice-wrong .ensures))
+    (λ c. slice-refused 3 _ _ _ _ (sym (c .before .before .if1 .left) ∙ c .before .before .before .bad-sets .ensures) (sym (c .if2 .taken) ∙ c .before .bad-slice .ensures))
     (λ c κs. search needs)
     (λ c. let d = c .before .before in record-refused 3 (start d .args .run) _ _ _ (sets d) (slice d) _ (c .before .result-number .ensures) (c .if3 .taken))
     (λ c κs. let l = given (c .before .before .before) in (l .setup, l .one, l .slice))

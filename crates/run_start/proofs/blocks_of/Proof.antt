@@ -14,5 +14,5 @@ blocks-of-spec =
     (λ c κs. search needs)
     (λ c. search needs)
     (λ c. same-blocks (c .before .before .before .before .args .s) _ _
-    (rw (toZ-ofZ (record { sfits = c .before .before .before .struct-told .given .1 .0 .1 .1 .0 .1 })) at (c .before .before .ahead .ensures .0))
-    (rw (toZ-ofZ (record { sfits = c .before .struct-told2 .given .1 .0 .1 .1 .1 .0 .1 })) at (c .ahead2 .ensures .0))))
+    (rw (toZ-ofZ (record { sfits = c .before .before .before .struct-told .given .1 .0 .1 .1 .0 .1 })) at (c .before .before .clamp-to-zero .ensures .0))
+    (rw (toZ-ofZ (record { sfits = c .before .struct-told2 .given .1 .0 .1 .1 .1 .0 .1 })) at (c .clamp-to-zero2 .ensures .0))))

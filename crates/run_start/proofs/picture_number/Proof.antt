@@ -11,7 +11,7 @@ returns : tie.Need-returns
 unfolding numberOf
 returns c =
     let p = ap (λ (a : PlacedAnswer). a .number) (c .before .before .before .before .placed .ensures) in
-    c .lowest2 .ensures ∙ rw (← p, ← c .before .before .before .own-number .ensures, ← c .before .before .groups-number .ensures, ← c .before .lowest .ensures)
+    c .lowest2 .ensures ∙ rw (← p, ← c .before .before .before .setup-number .ensures, ← c .before .before .groups-number .ensures, ← c .before .lowest .ensures)
 
 pub picture-number-spec : {M : Type 1} → statement M
 picture-number-spec =

@@ -65,9 +65,9 @@ returns c =
       group-is = number-is (s .args .frame) (s .args .sizes) _ _ _ _ (s .pre .0 .1) (row-group d) (column-group d);
       column-is = column-inner d;
       row-is = row-inner d;
-      some = c .smaller .ensures .0;
-      within = c .smaller .ensures .2;
-      one-group = omega (arith, c .smaller .ensures .1, inner-in d, dim-is d);
+      some = omega (arith, c .min-u32 .ensures, inner-in d, s .pre .0 .2);
+      within = omega (arith, c .min-u32 .ensures);
+      one-group = omega (arith, c .min-u32 .ensures, inner-in d, dim-is d);
     }
 
 pub run-at-spec : {M : Type 1} → statement M
@@ -79,5 +79,5 @@ run-at-spec =
     (λ c. omega (arith, product-le (c .before .before)))
     (λ c. let d = c .before .before .before in omega (arith, product-le d, column-group d, column-in d, bounded d .row-le))
     (λ c. omega (arith, inner-in (c .before .before .before .before .before)))
-    (λ c κs. let d = c .before .before .before .before .before in (omega (arith, inner-in d), start d .pre .0 .2))
+    (λ c κs. search needs)
     returns)

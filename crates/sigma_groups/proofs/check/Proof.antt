@@ -6,14 +6,14 @@ use Prim.Native.Nat.{ℕ}
 use borrow.Author.Needs.{needs}
 use denote.Ref.{now}
 use lib.Ieee.{Float}
-use Rattle.refusals.specs.Numbers.{accepted, outOfMeasure, outOfRange}
+use Rattle.refusals.specs.Numbers.{accepted, outOfLimits, outOfRange}
 use Rattle.frame.specs.declared.Frame.{Frame}
 use Rattle.frame.specs.declared.FrameAnswer.{FrameAnswer}
 use Rattle.frame.proofs.Laws.{frame-sizes}
 use Rattle.sigma_blocks.specs.declared.Blocks.{Blocks}
 use Rattle.frame.specs.Outcome.{badSides, badSettings}
 use Rattle.sigma_blocks.specs.Measures.{badBlocks}
-use Rattle.sigma_blocks.proofs.Laws.{measured}
+use Rattle.sigma_blocks.proofs.Laws.{boundsFit}
 use Rattle.sigma_groups.proofs.Laws.{sides-bad, sides-fit, settings-bad, settings-fit}
 use Rattle.sigma_groups.proofs.Number as number
 use Rattle.sigma_groups.proofs.check.Statement.{statement}
@@ -40,7 +40,7 @@ module _ (c : tie.After-group-sizes) where
   start = c .before .before .before
 
   -- the number of the frame
-  number-is : c .group-sizes .result .number ≡ cond (badSides (f start)) outOfMeasure (cond (badSettings (f start)) outOfRange accepted)
+  number-is : c .group-sizes .result .number ≡ cond (badSides (f start)) outOfLimits (cond (badSettings (f start)) outOfRange accepted)
   number-is = ap (λ (a : FrameAnswer). a .number) (c .group-sizes .ensures)
 
 returns : tie.Need-returns
@@ -51,27 +51,27 @@ returns c =
 
 -- after the test of the frame's sides
 module _ (c : tie.After-bad-blocks) where
-  abbrev sized : tie.After-group-sizes
-  sized = c .before .before .before
+  abbrev sizeFits : tie.After-group-sizes
+  sizeFits = c .before .before .before
 
-  sides-good : badSides (f (start sized)) ≡ false
-  sides-good = sides-fit (badSides (f (start sized))) (badSettings (f (start sized))) (λ e. c .before .if1 .left (number-is sized ∙ e))
+  sides-good : badSides (f (start sizeFits)) ≡ false
+  sides-good = sides-fit (badSides (f (start sizeFits))) (badSettings (f (start sizeFits))) (λ e. c .before .if1 .left (number-is sizeFits ∙ e))
 
 returns-2 : tie.Need-returns-2
 returns-2 c =
     let d = c .before in
-    let s = start (sized d) in
+    let s = start (sizeFits d) in
     number.blocks-out (s .args .on) (f s) (b s) (t s) (grids s) (n s) (sides-good d) (sym (d .bad-blocks .ensures) ∙ c .if2 .taken)
 
 -- after the test of the filter region
 module _ (c : tie.Else2) where
-  blocks-good : badBlocks (b (start (sized (c .before)))) ≡ false
+  blocks-good : badBlocks (b (start (sizeFits (c .before)))) ≡ false
   blocks-good = sym (c .before .bad-blocks .ensures) ∙ c .if2 .left
 
 check-table-requires : tie.Need-check-table-requires
 check-table-requires c κs =
     let e = c .before .before .before in
-    let d = sized (e .before) in
+    let d = sizeFits (e .before) in
     let z = settings-fit (badSides (f (start d))) (badSettings (f (start d))) (sym (number-is d) ∙ c .before .if3 .taken) in
     record {
       sides = z .0;
@@ -88,11 +88,11 @@ module _ (c : tie.Else3) where
   else2 = c .before .before
 
   abbrev start3 : tie.Start
-  start3 = start (sized (else2 .before))
+  start3 = start (sizeFits (else2 .before))
 
   settings-bad3 : badSettings (f start3) ≡ true
   settings-bad3 =
-      let d = sized (else2 .before) in
+      let d = sizeFits (else2 .before) in
       settings-bad (badSides (f start3)) (badSettings (f start3)) (λ e. else2 .before .before .if1 .left (number-is d ∙ e)) (λ e. c .if3 .left (number-is d ∙ e))
 
 returns-4 : tie.Need-returns-4
@@ -100,14 +100,14 @@ returns-4 c =
     let e = c .before .before in
     let s = start3 e in
     number.count-wrong (s .args .on) (f s) (b s) (t s) (grids s) (n s) (sides-good (else2 e .before)) (blocks-good (else2 e)) (settings-bad3 e)
-    (sym (c .before .wrong-count .ensures) ∙ c .if4 .taken)
+    (sym (c .before .bad-count .ensures) ∙ c .if4 .taken)
 
 returns-5 : tie.Need-returns-5
 returns-5 c =
     let e = c .before .before in
     let s = start3 e in
     number.settings-out (s .args .on) (f s) (b s) (t s) (grids s) (n s) (sides-good (else2 e .before)) (blocks-good (else2 e)) (settings-bad3 e)
-    (sym (c .before .wrong-count .ensures) ∙ c .if4 .left)
+    (sym (c .before .bad-count .ensures) ∙ c .if4 .left)
 
 pub check-spec : {M : Type 1} → statement M
 check-spec =
@@ -119,6 +119,6 @@ check-spec =
     returns-2
     check-table-requires
     (λ c. search needs)
-    (λ c κs. measured (b (start3 c)) (blocks-good (else2 c)))
+    (λ c κs. boundsFit (b (start3 c)) (blocks-good (else2 c)))
     returns-4
     returns-5)

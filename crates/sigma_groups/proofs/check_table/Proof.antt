@@ -23,7 +23,7 @@ use Rattle.sigma_groups.specs.Held.{someNotHeld}
 use Rattle.sigma_groups.specs.Outcome.{tableFits, someGroup, gridsFit}
 use Rattle.sigma_groups.specs.Fitting.{TableOf}
 use Rattle.sigma_blocks.specs.Measured.{Measured}
-use Rattle.sigma_blocks.proofs.Laws.{measured}
+use Rattle.sigma_blocks.proofs.Laws.{boundsFit}
 use Rattle.sigma_groups.proofs.Number as number
 use Rattle.sigma_groups.proofs.check_table.Statement.{statement}
 use Rattle.sigma_groups.proofs.check_table.Tie as tie
@@ -44,8 +44,8 @@ module _ (s : tie.Start) where
   abbrev n : ℕ
   n = s .args .sigmas-len
 
-  blocks-measured : Measured b
-  blocks-measured = measured b (s .pre .blocks)
+  blocks-bounds : Measured b
+  blocks-bounds = boundsFit b (s .pre .blocks)
 
 wrong-is : (r p q : Bool) (len k m : ℕ) → r ≡ (not p && not (eqb len k)) → p ≡ q → k ≡ m → r ≡ (not q && not (eqb len m))
 wrong-is r p q len k m e pe ke = e ∙ rw (pe, ke)
@@ -110,7 +110,7 @@ module _ (c : tie.After-grid-start) where
         ap (λ (a : StartAnswer). a .start) (start-inside (t start2) _ _ short2 room2 (c .grid-start .ensures) grids-good)
         ∙ ap (gridStart (t start2)) groups2
 
-module _ (c : tie.After-wrong-grids) where
+module _ (c : tie.After-bad-grids) where
   abbrev else1 : tie.Else1
   else1 = c .before .before .before .before .before
 
@@ -120,9 +120,9 @@ module _ (c : tie.After-wrong-grids) where
   presences-are : c .before .some-bad-presence .result ≡ someGroup (f start3) (badPresence (t start3))
   presences-are = c .before .some-bad-presence .ensures ∙ ap (λ (k : ℕ). someBelow k (badPresence (t start3))) (groups-are (else1 .before))
 
-  wrong-grids-are : c .wrong-grids .result ≡ (not (someGroup (f start3) (badPresence (t start3))) && not (gridsFit (f start3) (t start3) (grids start3)))
+  bad-grids-are : c .bad-grids .result ≡ (not (someGroup (f start3) (badPresence (t start3))) && not (gridsFit (f start3) (t start3) (grids start3)))
   unfolding gridsFit
-  wrong-grids-are = wrong-is _ _ _ _ _ _ (c .wrong-grids .ensures) presences-are (end-is (c .before .before .before .before) (c .before .before .if2 .left))
+  bad-grids-are = wrong-is _ _ _ _ _ _ (c .bad-grids .ensures) presences-are (end-is (c .before .before .before .before) (c .before .before .if2 .left))
 
 returns : tie.Need-returns
 returns c =
@@ -137,7 +137,7 @@ returns-2 c =
     (grids-bad (c .before .before) (c .if2 .taken))
 
 -- after the test of the grid sides
-module _ (c : tie.After-wrong-grids) where
+module _ (c : tie.After-bad-grids) where
   grids-fit : someGroup (f (start3 c)) (badGrid (t (start3 c))) ≡ false
   grids-fit = rw (← groups2 (c .before .before .before .before)) (grids-good (c .before .before .before .before) (c .before .before .if2 .left))
 
@@ -146,7 +146,7 @@ returns-3 c =
     let d = c .before in
     let s = start3 d in
     number.grids-wrong (s .args .on) (f s) (b s) (t s) (grids s) (n s) (s .pre .sides) (s .pre .blocks) (s .pre .settings) (table-fits (else1 d))
-    (grids-fit d) (sym (wrong-grids-are d) ∙ c .if3 .taken)
+    (grids-fit d) (sym (bad-grids-are d) ∙ c .if3 .taken)
 
 returns-4 : tie.Need-returns-4
 returns-4 c =
@@ -154,21 +154,21 @@ returns-4 c =
     let d = e .before in
     let s = start3 d in
     number.sigmas-wrong (s .args .on) (f s) (b s) (t s) (grids s) (n s) (s .pre .sides) (s .pre .blocks) (s .pre .settings) (table-fits (else1 d))
-    (grids-fit d) (sym (wrong-grids-are d) ∙ e .if3 .left) (sym (c .before .wrong-count .ensures) ∙ c .if4 .taken)
+    (grids-fit d) (sym (bad-grids-are d) ∙ e .if3 .left) (sym (c .before .bad-count .ensures) ∙ c .if4 .taken)
 
 -- after the test of the number of sigmas
 module _ (c : tie.Else4) where
-  abbrev wrong4 : tie.After-wrong-grids
+  abbrev wrong4 : tie.After-bad-grids
   wrong4 = c .before .before .before
 
   abbrev start4 : tie.Start
   start4 = start3 wrong4
 
-  count-is : number.wrongCount (start4 .args .on) (f start4) (b start4) (t start4) (grids start4) (n start4) ≡ false
-  count-is = sym (c .before .wrong-count .ensures) ∙ c .if4 .left
+  count-is : number.badCount (start4 .args .on) (f start4) (b start4) (t start4) (grids start4) (n start4) ≡ false
+  count-is = sym (c .before .bad-count .ensures) ∙ c .if4 .left
 
   grids-right : (not (someGroup (f start4) (badPresence (t start4))) && not (gridsFit (f start4) (t start4) (grids start4))) ≡ false
-  grids-right = sym (wrong-grids-are wrong4) ∙ c .before .before .if3 .left
+  grids-right = sym (bad-grids-are wrong4) ∙ c .before .before .if3 .left
 
 -- blocks that are not held, with the EPF on
 module _ (c : tie.After-touched-not-held) where
@@ -224,10 +224,10 @@ check-table-spec =
     (λ c κs. search needs)
     (λ c κs. search needs)
     returns-3
-    (λ c κs. blocks-measured (start3 (c .before)))
+    (λ c κs. blocks-bounds (start3 (c .before)))
     returns-4
     (λ c κs. search needs)
-    (λ c κs. (table-of (else1 (wrong4 (c .before))), blocks-measured (start4 (c .before))))
+    (λ c κs. (table-of (else1 (wrong4 (c .before))), blocks-bounds (start4 (c .before))))
     returns-5
     returns-6
     (λ c κs. search needs)

@@ -5,7 +5,7 @@ use restoration::Refusal;
 pub const BITS_RUN_OUT: u32 = Refusal::BitsRunOut as u32;
 pub const HALF_NOT_FINITE: u32 = Refusal::HalfNotFinite as u32;
 pub const KERNEL_NEAR_ZERO: u32 = Refusal::KernelNearZero as u32;
-pub const OUT_OF_MEASURE: u32 = Refusal::OutOfMeasure as u32;
+pub const OUT_OF_LIMITS: u32 = Refusal::OutOfLimits as u32;
 pub const NOT_INSIDE: u32 = Refusal::NotInside as u32;
 pub const NOT_ON_BLOCKS: u32 = Refusal::NotOnBlocks as u32;
 pub const WRONG_LENGTH: u32 = Refusal::WrongLength as u32;

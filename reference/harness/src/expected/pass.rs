@@ -2,7 +2,7 @@
 
 use super::{
     CHANNELS, MAX_AREA, MAX_OFFSET, MAX_SIDE, Region, Ruled,
-    numbers::{NOT_INSIDE, OUT_OF_MEASURE, OUT_OF_RANGE, WRONG_LENGTH},
+    numbers::{NOT_INSIDE, OUT_OF_LIMITS, OUT_OF_RANGE, WRONG_LENGTH},
 };
 
 /// Sides, of at least 1, and area are in range, so that lengths can be computed from them.
@@ -31,7 +31,7 @@ pub fn inside(inner: Region, outer: Region) -> bool {
 /// Both regions are in range, and the filter region lies inside the image region.
 pub fn placed(image: Region, filter: Region) -> Ruled<()> {
     if !in_range(image) || !in_range(filter) {
-        return Err(OUT_OF_MEASURE);
+        return Err(OUT_OF_LIMITS);
     }
     inside(filter, image).then_some(()).ok_or(NOT_INSIDE)
 }

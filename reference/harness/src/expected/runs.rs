@@ -145,11 +145,11 @@ pub fn start(input: Start) -> u32 {
     let table_fits = input.sigmas_of().table_fits();
     let entries = of_entries(input.sigmas_of());
     first_that_applies(&[
-        (OUT_OF_MEASURE, true, &|| !in_range(s.image)),
-        (OUT_OF_MEASURE, true, &|| !in_range(s.filter)),
-        (OUT_OF_MEASURE, true, &|| groups == Err(OUT_OF_MEASURE)),
-        (OUT_OF_MEASURE, table_fits, &|| {
-            entries.contains(&OUT_OF_MEASURE)
+        (OUT_OF_LIMITS, true, &|| !in_range(s.image)),
+        (OUT_OF_LIMITS, true, &|| !in_range(s.filter)),
+        (OUT_OF_LIMITS, true, &|| groups == Err(OUT_OF_LIMITS)),
+        (OUT_OF_LIMITS, table_fits, &|| {
+            entries.contains(&OUT_OF_LIMITS)
         }),
         (NOT_INSIDE, true, &|| !inside(s.filter, s.image)),
         (NOT_ON_BLOCKS, edge_runs, &|| !s.on_blocks()),

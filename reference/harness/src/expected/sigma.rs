@@ -6,7 +6,7 @@ use super::{
     BLOCK, Region, Ruled, blocks,
     checks::first_that_applies,
     group_sizes, limits,
-    numbers::{BLOCK_NOT_HELD, OUT_OF_MEASURE, OUT_OF_RANGE, WRONG_LENGTH},
+    numbers::{BLOCK_NOT_HELD, OUT_OF_LIMITS, OUT_OF_RANGE, WRONG_LENGTH},
     pass::{flag, in_range},
     split_block,
 };
@@ -65,10 +65,10 @@ pub fn number(input: Input) -> u32 {
     let (groups, table_fits) = (input.frame.groups(), input.table_fits());
     let entries = of_entries(input);
     first_that_applies(&[
-        (OUT_OF_MEASURE, true, &|| !region_fits),
-        (OUT_OF_MEASURE, true, &|| groups == Err(OUT_OF_MEASURE)),
-        (OUT_OF_MEASURE, table_fits, &|| {
-            entries.contains(&OUT_OF_MEASURE)
+        (OUT_OF_LIMITS, true, &|| !region_fits),
+        (OUT_OF_LIMITS, true, &|| groups == Err(OUT_OF_LIMITS)),
+        (OUT_OF_LIMITS, table_fits, &|| {
+            entries.contains(&OUT_OF_LIMITS)
         }),
         (WRONG_LENGTH, region_fits && on.is_ok(), &|| {
             input.sigmas as i128 != expected_sigmas(input, on == Ok(true))
@@ -110,7 +110,7 @@ pub fn of_entries(input: Input) -> Vec<u32> {
             1 => {
                 let side = |length: u32| (1..=MAX_GRID_SIDE).contains(&length);
                 if !side(entry[1]) || !side(entry[2]) {
-                    numbers.push(OUT_OF_MEASURE);
+                    numbers.push(OUT_OF_LIMITS);
                 }
                 cells = cells.map(|n| n + u128::from(entry[1]) * u128::from(entry[2]));
             }

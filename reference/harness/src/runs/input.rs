@@ -201,7 +201,7 @@ fn setup_fields(setup: &Setup) -> Vec<u32> {
         settings,
         band_height,
     } = setup;
-    let mut all = settings_fields(&settings);
+    let mut all = settings_fields(settings);
     for r in [image, filter] {
         all.extend([r.left as u32, r.top as u32, r.width, r.height]);
     }
@@ -209,11 +209,21 @@ fn setup_fields(setup: &Setup) -> Vec<u32> {
     all
 }
 
-fn settings_fields(settings: &Settings) -> Vec<u32> {
-    let &Settings { gabor, epf } = settings;
-    let GaborSettings { enabled, weights } = gabor;
+fn settings_fields(mut settings: Settings) -> Vec<u32> {
+    let numbers = [settings.gabor.enabled, settings.epf.iters];
+    let bits = floats(&mut settings).into_iter().map(|f| f.to_bits());
+    numbers.into_iter().chain(bits).collect()
+}
+
+/// All floats of the settings. The patterns name all fields, so that a new one is not forgotten.
+pub fn floats(settings: &mut Settings) -> Vec<&mut f32> {
+    let Settings { gabor, epf } = settings;
+    let GaborSettings {
+        enabled: _,
+        weights,
+    } = gabor;
     let EpfSettings {
-        iters,
+        iters: _,
         channel_scale,
         sigma,
         sigma_for_modular,
@@ -224,16 +234,13 @@ fn settings_fields(settings: &Settings) -> Vec<u32> {
         pass2_sigma_scale,
         border_sad_mul,
     } = sigma;
-    let sigma = [
+    let single = [
         quant_mul,
         pass0_sigma_scale,
         pass2_sigma_scale,
         border_sad_mul,
+        sigma_for_modular,
     ];
-    let floats = [weights.as_flattened(), &channel_scale, &sigma].concat();
-    let bits = floats
-        .into_iter()
-        .chain([sigma_for_modular])
-        .map(f32::to_bits);
-    [enabled, iters].into_iter().chain(bits).collect()
+    let many = weights.as_flattened_mut().iter_mut().chain(channel_scale);
+    many.chain(single).collect()
 }

@@ -24,7 +24,7 @@ abbrev μ-loop : tie.MeasureT-loop
 μ-loop dst₀ src l n s sigmas top y rows win₀ fields₀ slopes₀ lanes₀ x₀ dst win fields slopes lanes x = l .width - x
 
 -- in an iteration
-module _ (c : tie.After-at-most Inv-loop μ-loop) where
+module _ (c : tie.After-min Inv-loop μ-loop) where
   abbrev start : tie.Start Inv-loop μ-loop
   start = c .before .before .before .before .before .before .before .before .before
 
@@ -32,19 +32,19 @@ module _ (c : tie.After-at-most Inv-loop μ-loop) where
   at = c .before .before .before .before
 
   abbrev rect : Rect
-  rect = record { x = at .loop .x; y = start .args .y; rows = start .args .rows; cols = c .at-most .result }
+  rect = record { x = at .loop .x; y = start .args .y; rows = start .args .rows; cols = c .min .result }
 
   begins : at .loop .x % 8 ≡ 0
   begins = at .loop .inv .1 (c .before .before .if1 .taken)
 
   fits : TileFits (start .args .l) (start .args .n) rect
-  fits = tile-fits (start .args .l) (start .args .n) (start .args .s) (start .args .top) _ _ (start .args .y) (start .args .rows) (at .loop .x) _ (start .pre .0) (start .pre .2) (c .before .before .if1 .taken) begins (c .at-most .ensures)
+  fits = tile-fits (start .args .l) (start .args .n) (start .args .s) (start .args .top) _ _ (start .args .y) (start .args .rows) (at .loop .x) _ (start .pre .0) (start .pre .2) (c .before .before .if1 .taken) begins (c .min .ensures)
 
   room : RectFits (start .args .l) (start .args .n) rect (length (now (start .args .dst)))
-  room = tile-room (start .args .l) (start .args .n) (start .args .s) (start .args .top) _ _ (start .args .y) (start .args .rows) (at .loop .x) _ (start .pre .0) (start .pre .2) (c .before .before .if1 .taken) (c .at-most .ensures)
+  room = tile-room (start .args .l) (start .args .n) (start .args .s) (start .args .top) _ _ (start .args .y) (start .args .rows) (at .loop .x) _ (start .pre .0) (start .pre .2) (c .before .before .if1 .taken) (c .min .ensures)
 
   sigmas : sigmaFirst (start .args .l) rect + blocksAlong (rect .cols) ≤ length (now (start .args .sigmas))
-  sigmas = tile-sigmas (start .args .l) (start .args .n) (start .args .s) (start .args .top) _ _ (start .args .y) (start .args .rows) (at .loop .x) _ (start .pre .0) (start .pre .2) (c .before .before .if1 .taken) begins (c .at-most .ensures)
+  sigmas = tile-sigmas (start .args .l) (start .args .n) (start .args .s) (start .args .top) _ _ (start .args .y) (start .args .rows) (at .loop .x) _ (start .pre .0) (start .pre .2) (c .before .before .if1 .taken) begins (c .min .ensures)
 
 loop-again : tie.Need-loop-again Inv-loop μ-loop
 loop-again c =
@@ -54,7 +54,7 @@ loop-again c =
     let inv = at d .loop .inv in
     let t = c .before .before .before .before .tile in (
       omega (arith, fits d .across),
-      (λ h. omega (arith, begins d, d .at-most .ensures)),
+      (λ h. omega (arith, begins d, d .min .ensures)),
       t .kept .0 ∙ inv .2,
       t .kept .1 .1 .1 .1 .1 .1 .1 .1 .1 .1 .1 .0 ∙ inv .3,
       t .ensures .1,

@@ -21,15 +21,15 @@ abbrev μ-loop : tie.MeasureT-loop
 μ-loop dst₀ src l n s sigmas top from to win₀ fields₀ slopes₀ lanes₀ y₀ dst win fields slopes lanes y = to - y
 
 -- in an iteration
-module _ (c : tie.After-at-most Inv-loop μ-loop) where
+module _ (c : tie.After-min Inv-loop μ-loop) where
   abbrev start : tie.Start Inv-loop μ-loop
   start = c .before .before .before .before .before .before
 
   abbrev at : tie.At-loop Inv-loop μ-loop
   at = c .before .before
 
-  fits : StripFits (start .args .l) (at .loop .y) (c .at-most .result)
-  fits = strip-fits (start .args .l) (at .loop .y) (start .args .to) _ (c .before .loop-test .taken) (start .pre .3) (c .at-most .ensures)
+  fits : StripFits (start .args .l) (at .loop .y) (c .min .result)
+  fits = strip-fits (start .args .l) (at .loop .y) (start .args .to) _ (c .before .loop-test .taken) (start .pre .3) (c .min .ensures)
 
 loop-again : tie.Need-loop-again Inv-loop μ-loop
 loop-again c =
@@ -39,7 +39,7 @@ loop-again c =
     let inv = at d .loop .inv in
     let t = c .before .before .before .strip in (
       omega (arith, inv .0),
-      omega (arith, d .at-most .ensures),
+      omega (arith, d .min .ensures),
       t .kept .0 ∙ inv .2,
       t .ensures .1,
       strip-below (a .l) (a .n) (stepOver (a .n) (a .l) (a .s) (a .top) (now (a .sigmas)) (now (a .src))) _ _ _ (a .from) (at d .loop .y) _ (s .pre .0 .set) (s .pre .0 .layout) (inv .0) (fits d .inside) (inv .4) (t .ensures .0),
@@ -63,7 +63,7 @@ strips-spec = tie.close
     (λ c. sym (c .before .before .before .before .before .before .before .loop .inv .3 .tile))
     (λ c κs. let d = c .before .before .before .before .before in let s = start d in let inv = at d .loop .inv in (region-long (inv .2) (s .pre .0), omega (arith, inv .2, s .pre .1), fits d, inv .3))
     (λ c. let d = c .before .before .before .before .before .before .before .before .before in omega (arith, fits d .inside, start d .pre .0 .layout))
-    (λ c. let d = c .before .before .before .before .before .before .before .before .before in omega (arith, fits d .some, d .at-most .ensures))
+    (λ c. let d = c .before .before .before .before .before .before .before .before .before in omega (arith, fits d .some, d .min .ensures))
     loop-again
     (λ c. c .before .loop .inv .2)
     returns)

@@ -35,7 +35,7 @@ loop-again c =
     let inv = d .before .loop .inv in (
       omega arith,
       c .before .before .restore-block .kept .0 ∙ inv .1,
-      restored-next (a .l) (a .n) (a .limit) (now (a .sigmas)) (now (a .src)) (a .first) (a .rect) _ _ _ (b d) _ (some d) (c .before .before .before .before .before .at-most .ensures) (inv .2) (c .before .before .restore-block .ensures),
+      restored-next (a .l) (a .n) (a .limit) (now (a .sigmas)) (now (a .src)) (a .first) (a .rect) _ _ _ (b d) _ (some d) (c .before .before .before .before .before .min .ensures) (inv .2) (c .before .before .restore-block .ensures),
     )
 
 pub restore-spec : {M : Type 1} → statement M
@@ -53,7 +53,7 @@ restore-spec = tie.close
     (λ c. omega (arith, c .before .before .before .before .loop-test .taken, c .before .before .before .before .before .before .blocks-of .ensures, start (c .before .before .before .before) .pre))
     (λ c. omega (arith, c .before .before .before .before .before .loop-test .taken, c .before .before .before .before .before .before .before .blocks-of .ensures, start (c .before .before .before .before .before) .pre))
     (λ c κs. let d = c .before .before .before .before .before in let s = start d in let a = s .args in let e = d .before .loop .inv .1 in
-    (rect-long e (part-fits (a .l) (a .n) (a .limit) (now (a .sigmas)) (now (a .src)) (a .first) (a .rect) (b d) _ _ (s .pre .0) (some d) (c .before .before .at-most .ensures)), omega (arith, e, s .pre .1)))
+    (rect-long e (part-fits (a .l) (a .n) (a .limit) (now (a .sigmas)) (now (a .src)) (a .first) (a .rect) (b d) _ _ (s .pre .0) (some d) (c .before .before .min .ensures)), omega (arith, e, s .pre .1)))
     (λ c. omega arith)
     (λ c. omega arith)
     loop-again

@@ -8,21 +8,21 @@ use Rattle.region_interval.proofs.Flags.{not-true, not-false, yes}
 use Rattle.region.specs.Answers.{boolAnswer}
 use Rattle.region.proofs.Answers.{given-fails, given-holds}
 use Rattle.region.specs.Regions.{isEmpty}
-use Rattle.region.specs.Measures.{measured}
+use Rattle.region.specs.Measures.{boundsFit}
 use Rattle.region.proofs.Region.is_empty.Statement.{statement}
 use Rattle.region.proofs.Region.is_empty.Tie as tie
 
 returns : tie.Need-returns
 returns c =
     let s = c .before .before .before .args in
-    let m = sym (c .before .before .measured .ensures) ∙ not-true (c .before .if1 .taken) in
-    c .untold .ensures ∙ ap (λ (n : ℕ). boolAnswer n (isEmpty (s .self))) (sym (given-fails (s .self) m))
+    let m = sym (c .before .before .bounds-fit .ensures) ∙ not-true (c .before .if1 .taken) in
+    c .bool-refused .ensures ∙ ap (λ (n : ℕ). boolAnswer n (isEmpty (s .self))) (sym (given-fails (s .self) m))
 
 returns-2 : tie.Need-returns-2
 returns-2 c =
     let s = c .before .before .before .before .args in
-    let m = sym (c .before .before .before .measured .ensures) ∙ not-false (c .before .before .if1 .left) in
-    let e = rw (c .before .empty .ensures) at (c .told .ensures) in
+    let m = sym (c .before .before .before .bounds-fit .ensures) ∙ not-false (c .before .before .if1 .left) in
+    let e = rw (c .before .empty .ensures) at (c .bool-answer .ensures) in
     e ∙ ap (λ (n : ℕ). boolAnswer n (isEmpty (s .self))) (sym (given-holds (s .self) m))
 
 pub is-empty-spec : {M : Type 1} → statement M
