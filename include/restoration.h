@@ -43,6 +43,7 @@ enum {
     RESTORATION_PASS_NOT_DONE = 11, // an advance with a band missing or after the finish, or a result before the finish
 };
 
+// A rectangle of samples: the column and row of its corner, and its sides. It is empty if a side is 0.
 typedef struct RestorationRegion {
     int32_t left;
     int32_t top;
@@ -50,16 +51,19 @@ typedef struct RestorationRegion {
     uint32_t height;
 } RestorationRegion;
 
+// Whether a test of regions holds; false in a refused call.
 typedef struct RestorationBoolAnswer {
     uint32_t number;
     bool holds;
 } RestorationBoolAnswer;
 
+// The first column right of a region or the first row below it; 0 in a refused call.
 typedef struct RestorationEdgeAnswer {
     uint32_t number;
     int32_t edge;
 } RestorationEdgeAnswer;
 
+// A region made from others; zeros in a refused call.
 typedef struct RestorationRegionAnswer {
     uint32_t number;
     RestorationRegion region;
@@ -123,6 +127,7 @@ typedef struct RestorationGaborAnswer {
     size_t next;
 } RestorationGaborAnswer;
 
+// The edge-preserving filter's sigma settings: `quant_mul`, the scales of steps 0 and 2, and that of block borders.
 typedef struct RestorationEpfSigma {
     float quant_mul;
     float pass0_sigma_scale;
@@ -130,6 +135,7 @@ typedef struct RestorationEpfSigma {
     float border_sad_mul;
 } RestorationEpfSigma;
 
+// The edge-preserving filter's bundle, as read from a frame header.
 typedef struct RestorationEdgePreservingFilter {
     bool enabled;
     uint32_t iters;
@@ -156,6 +162,7 @@ typedef struct RestorationAnswer {
     size_t next;
 } RestorationAnswer;
 
+// The mirrored place, counted from 0; 0 in a refused call.
 typedef struct RestorationMirrorAnswer {
     uint32_t number;
     size_t index;
@@ -185,6 +192,7 @@ typedef struct RestorationEpfSettings {
     float sigma_for_modular;
 } RestorationEpfSettings;
 
+// The settings of both filters.
 typedef struct RestorationSettings {
     RestorationGaborSettings gabor;
     RestorationEpfSettings epf;

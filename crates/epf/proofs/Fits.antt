@@ -11,11 +11,9 @@ use lib.Dec.{eqb, leb, ltb}
 use lib.ListN.{length}
 use lib.Ieee.{Float}
 use Rattle.refusals.specs.Numbers.{notOnBlocks, wrongLength, outOfRange}
-use Rattle.refusals.specs.Checks.{firstOf}
+use Rattle.refusals.specs.Checks.{Check, firstOf}
 use Rattle.refusals.specs.Flags.{flagFits, flagSet}
 use Rattle.region.specs.declared.Region.{Region}
-use Rattle.region.specs.Regions.{inside}
-use Rattle.region.specs.Measures.{pictureFits}
 use Rattle.region_placement.specs.Placed.{placedChecks}
 use Rattle.planes.specs.declared.Layout.{Layout}
 use Rattle.planes.specs.Picture.{Picture}
@@ -25,7 +23,7 @@ use Rattle.planes.specs.Fits.{LayoutFits, BandFits}
 use Rattle.planes.proofs.Stored.{passed-over, fits-copied, and-first, and-second}
 use Rattle.planes_layout.specs.declared.LayoutAnswer.{LayoutAnswer}
 use Rattle.planes_layout.specs.Outcome.{layoutOf, layoutOutcome, PassOutcome}
-use Rattle.planes_layout.proofs.Fits.{Accepted, layout-accepted, placed-or, then, answer-number, answer-layout, pass-refused, pass-done}
+use Rattle.planes_layout.proofs.Fits.{Accepted, layout-accepted, placed-first, placed-then, answer-number, answer-layout, pass-refused, pass-done}
 use Rattle.epf_tiles.specs.Blocks.{blockColumns, blockRows}
 use Rattle.epf_tiles.proofs.Region.{BlocksRoom, blocks-room}
 use Rattle.epf.specs.declared.EpfStep.{EpfStep}
@@ -91,7 +89,7 @@ pub record StepFits (n : ℕ) (l : Layout) (step from to sigmas src dst : ℕ) :
   pub source : src ≡ n * l .image .height * l .image .width
   pub target : dst ≡ n * l .image .height * l .image .width
   pub blocks : sigmas ≡ blockRows l * blockColumns l
-  pub low : step ≤ 2
+  pub step-le : step ≤ 2
   pub order : from ≤ to
   pub rows : to ≤ resultHeight l
 
@@ -108,24 +106,24 @@ step-fits n l filter full step from to sigmas src dst e =
       source = eqb-true _ _ (and-first p (q && r) (z .1));
       target = eqb-true _ _ (and-first q r qr);
       blocks = eqb-true _ _ (and-second q r qr);
-      low = ltb-false _ _ (z .2);
+      step-le = ltb-false _ _ (z .2);
       order = leb-true _ _ (and-first (leb from to) (leb to (resultHeight l)) (z .3));
       rows = leb-true _ _ (and-second (leb from to) (leb to (resultHeight l)) (z .3));
     }
 
 pub band-fits : (n : ℕ) (l : Layout) (step from to sigmas : ℕ) (src dst : List Float) → n ≤ 3 → LayoutFits l → StepFits n l step from to sigmas (length src) (length dst) → BandFits l n from to src dst
-band-fits n l step from to sigmas src dst few f s = record { layout = f; planes = few; source = s .source; target = s .target; order = s .order; rows = s .rows }
+band-fits n l step from to sigmas src dst planes-le f s = record { layout = f; planes = planes-le; source = s .source; target = s .target; order = s .order; rows = s .rows }
 
 -- bounds in machine integers
 pub record SizeRoom (l : Layout) : Type 0 where
-  pub lines : 3 * l .image .height ≤ 49152
-  pub samples : 3 * l .image .height * l .image .width ≤ 805306368
+  pub lines-le : 3 * l .image .height ≤ 49152
+  pub samples-le : 3 * l .image .height * l .image .width ≤ 805306368
   pub blocks : BlocksRoom l
 
 pub size-room : (l : Layout) → LayoutFits l → SizeRoom l
 size-room l f =
     let a : 3 * l .image .height ≤ 49152 = omega (arith, f .high) in
-    record { lines = a; samples = mul-le-mul a (f .wide); blocks = blocks-room l f }
+    record { lines-le = a; samples-le = mul-le-mul a (f .wide); blocks = blocks-room l f }
 
 -- ---- a band: copied outside the filter region, then filtered inside it
 pub band-passed : (l : Layout) (n from to f t : ℕ) (p : Picture) (src dst a b : List Float) → BandFits l n from to src dst
@@ -139,9 +137,13 @@ module _ (image filter : Region) (full : ℕ) (s : EpfStep) (sigmas : List Float
   abbrev Outcome : ℕ → List Float → Type 0
   Outcome k d = _≡_ {A = PassOutcome} (record { number = k; target = d }) (epfOutcome image filter full s sigmas from to src dst)
 
+  -- the checks after 4 and 5
+  abbrev own : List Check
+  own = stepChecks 3 (layoutOf image filter (flagSet full)) filter full (s .step) from to (length sigmas) (length src) (length dst)
+
   pub not-placed : (a .number ≡ 0 → ⊥) → Outcome (a .number) dst
   unfolding epfOutcome epfChecks
-  not-placed h = pass-refused (a .number) _ _ dst (placed-or (pictureFits image) (pictureFits filter) (inside image filter) (a .number) _ (answer-number image filter (flagSet full) a e) h) h
+  not-placed h = pass-refused (a .number) _ _ dst (placed-first image filter own (a .number) (answer-number image filter (flagSet full) a e) h) h
 
   module _ (z : a .number ≡ 0) where
     ok : firstOf (placedChecks image filter) ≡ 0
@@ -156,7 +158,7 @@ module _ (image filter : Region) (full : ℕ) (s : EpfStep) (sigmas : List Float
     module _ (k : ℕ) (p : k ≡ firstOf (stepChecks 3 (a .layout) filter full (s .step) from to (length sigmas) (length src) (length dst))) where
       number-is : k ≡ firstOf (epfChecks image filter full s sigmas from to src dst)
       unfolding epfChecks
-      number-is = rw l-is at p ∙ then (pictureFits image) (pictureFits filter) (inside image filter) _ ok
+      number-is = placed-then image filter own ok k (rw l-is at p)
 
       pub refused : (k ≡ 0 → ⊥) → Outcome k dst
       unfolding epfOutcome

@@ -2,7 +2,7 @@
 use mathlib.Core.Path.{_≡_, refl, sym, ap, _∙_}
 use mathlib.Core.Bool.{and-false}
 use mathlib.Core.List.{List, [], _∷_, _++_}
-use mathlib.Core.Logic.{_⊎_, inl, inr}
+use mathlib.Core.Logic.{inl, inr}
 use Prim.Native.Nat.{ℕ, zero, suc, _+_, _-_, _*_, _<_, _≤_}
 use native.Mathlib.Nat.{le-of-suc-le-suc}
 use native.Mathlib.Decide.{ℕ-discrete}
@@ -17,9 +17,9 @@ use Rattle.planes.proofs.Fill.{length-fill, fill-before, fill-cong}
 use Rattle.epf_step.specs.Steps.{Scaled, kernel, dists, along, scaledFrom, scaled, distance}
 use Rattle.epf_distances.proofs.Runs.{run-at, run-anew, run-same}
 use Rattle.epf_distances.specs.Seen.{nearby, apartBy}
-use Rattle.epf_distances.proofs.Seen.{seen, nearby-cong, Inner, nearby-ahead, nearby-back}
+use Rattle.epf_distances.proofs.Seen.{seen, nearby-cong, Inner, nearby-forward, nearby-backward}
 use Rattle.epf_distances.specs.Taps.{half, shift, tapOf, neighbour}
-use Rattle.epf_distances.proofs.Taps.{half-few, TapIs, tap-is}
+use Rattle.epf_distances.proofs.Taps.{half-le, OnSide, TapIs, tap-is}
 use Rattle.epf_distances.specs.Fields.{distAt, fieldFrom, fieldLen, fieldsFill, distancesOf}
 
 -- ---- folds
@@ -78,21 +78,20 @@ module _ (step : ℕ) (cs : List Scaled) (win : List Float) (rows : ℕ) (few : 
       → getD (fieldsFill step cs win rows e (half step)) (tapOf step q .start + i) nan ≡ distance cs (dists step) (seen win i) (neighbour step q)
   neighbour-at q i l r len = go (tap-is step q l) (tap-is step q l .side)
     where
-      go : (t : TapIs step q (tapOf step q))
-          → ((tapOf step q .place ≡ 196 + shift step (t .field)) × (tapOf step q .start ≡ t .field * 896 + 196)) ⊎ ((tapOf step q .place ≡ 196 - shift step (t .field)) × (tapOf step q .start ≡ t .field * 896 + (196 - shift step (t .field))))
+      go : (t : TapIs step q (tapOf step q)) → OnSide step (t .field) (tapOf step q)
           → getD (fieldsFill step cs win rows e (half step)) (tapOf step q .start + i) nan ≡ distance cs (dists step) (seen win i) (neighbour step q)
       go t (inl s) =
           let h = t .field in
           let k : tapOf step q .start + i ≡ h * 896 + (i + 196) = omega (arith, s .1) in
           let g : Inner (196 + shift step h) = rw (s .0) at (t .inner) in
-          rw (k, ← (t .offset)) (fields-at (half step) h (i + 196) (t .among) (omega arith) r (omega (arith, t .among, half-few step))
-          ∙ unfold distAt distance in along-same _ _ (λ d c. rw (nearby-ahead step win (c .0) i (shift step h) g, s .0)) cs b0)
+          rw (k, ← (t .offset)) (fields-at (half step) h (i + 196) (t .field-lt) (omega arith) r (omega (arith, t .field-lt, half-le step))
+          ∙ unfold distAt distance in along-same _ _ (λ d c. rw (nearby-forward step win (c .0) i (shift step h) g, s .0)) cs b0)
       go t (inr s) =
           let h = t .field in
           let k : tapOf step q .start + i ≡ h * 896 + (i + (196 - shift step h)) = omega (arith, s .1) in
           let g : Inner (196 - shift step h) = rw (s .0) at (t .inner) in
-          rw (k, ← (t .offset)) (fields-at (half step) h (i + (196 - shift step h)) (t .among) (omega arith) (omega arith) (omega (arith, t .among, half-few step))
-          ∙ unfold distAt distance in along-same _ _ (λ d c. rw (nearby-back step win (c .0) i (shift step h) (omega (arith, t .far)) g, s .0)) cs b0)
+          rw (k, ← (t .offset)) (fields-at (half step) h (i + (196 - shift step h)) (t .field-lt) (omega arith) (omega arith) (omega (arith, t .field-lt, half-le step))
+          ∙ unfold distAt distance in along-same _ _ (λ d c. rw (nearby-backward step win (c .0) i (shift step h) (omega (arith, t .shift-le)) g, s .0)) cs b0)
 
 -- ---- the loops
 
@@ -169,6 +168,9 @@ nearby-stored step c by win d d' e b at from n scale len lo hi ed eb = eb ∙ fi
         let k = p - (from - 64) in
         let z : from - 64 + k ≡ p = omega arith in
         rw ed (rw z at (run-at d (from - 64) (n + 2 * 64) (λ i. apartBy win c by (from - 64 + i)) k (omega arith) (omega arith)))
+
+pub stored-length : (c by : ℕ) (win d d' : List Float) (from n : ℕ) → d' ≡ fill d (from - 64) (n + 2 * 64) (λ i. apartBy win c by (from - 64 + i)) → length d ≡ 896 → length d' ≡ 896
+stored-length c by win d d' from n e len = rw e (length-fill d (from - 64) (n + 2 * 64) _ ∙ len)
 
 -- step 2 and above: single differences
 pub nearby-single : (step c by : ℕ) (win e b : List Float) (at from n : ℕ) (scale : Float) → 1 < step

@@ -60,21 +60,21 @@ nearby-cong (suc (suc s)) j d e h = rw (h .2)
 
 -- an index with a neighbour on each side
 pub record Inner (k : ℕ) : Type 0 where
-  pub left : 1 ≤ k % 64
-  pub up : 64 ≤ k
+  pub col-pos : 1 ≤ k % 64
+  pub row-pos : 64 ≤ k
 
 module _ (win : List Float) (c i k : ℕ) (h : Inner k) where
   here : flat (way k .0 +ℤ pos 0) (way k .1 +ℤ pos 0) ≡ k
   here = flat-way k 0 0 0 0 (omega arith) (omega arith) ∙ omega arith
 
   above : flat (way k .0 +ℤ pos 0) (way k .1 +ℤ negsuc 0) ≡ k - 64
-  above = let u = h .up in flat-way k 0 0 0 1 (omega arith) (omega arith) ∙ omega arith
+  above = let u = h .row-pos in flat-way k 0 0 0 1 (omega arith) (omega arith) ∙ omega arith
 
   below : flat (way k .0 +ℤ pos 0) (way k .1 +ℤ pos 1) ≡ k + 64
   below = flat-way k 0 0 1 0 (omega arith) (omega arith) ∙ omega arith
 
   before : flat (way k .0 +ℤ negsuc 0) (way k .1 +ℤ pos 0) ≡ k - 1
-  before = let u = h .left in flat-way k 0 1 0 0 (omega arith) (omega arith) ∙ omega arith
+  before = let u = h .col-pos in flat-way k 0 1 0 0 (omega arith) (omega arith) ∙ omega arith
 
   after : flat (way k .0 +ℤ pos 1) (way k .1 +ℤ pos 0) ≡ k + 1
   after = flat-way k 1 0 0 0 (omega arith) (omega arith) ∙ omega arith
@@ -99,9 +99,9 @@ gap-swap win c a b a' b' p q = rw (p, q) (difference-swap binary32 _ _)
 
 module _ (step : ℕ) (win : List Float) (c i shift : ℕ) where
   -- the neighbour that comes this far after the centre
-  pub nearby-ahead : Inner (196 + shift) → nearby step (apartBy win c shift) (i + 196) ≡ apart (dists step) (seen win i) c (way (196 + shift))
+  pub nearby-forward : Inner (196 + shift) → nearby step (apartBy win c shift) (i + 196) ≡ apart (dists step) (seen win i) c (way (196 + shift))
   unfolding apartBy
-  nearby-ahead h = apart-is win c i (196 + shift) h step (apartBy win c shift) (i + 196) (
+  nearby-forward h = apart-is win c i (196 + shift) h step (apartBy win c shift) (i + 196) (
     gap-same win c _ _ _ _ (omega arith) (omega arith),
     gap-same win c _ _ _ _ (omega arith) (omega arith),
     gap-same win c _ _ _ _ (omega arith) (omega arith),
@@ -110,12 +110,12 @@ module _ (step : ℕ) (win : List Float) (c i shift : ℕ) where
   )
 
   -- the neighbour that comes this far before it: the same differences with operands exchanged, from an index that much earlier
-  pub nearby-back : shift ≤ 132 → Inner (196 - shift) → nearby step (apartBy win c shift) (i + (196 - shift)) ≡ apart (dists step) (seen win i) c (way (196 - shift))
+  pub nearby-backward : shift ≤ 132 → Inner (196 - shift) → nearby step (apartBy win c shift) (i + (196 - shift)) ≡ apart (dists step) (seen win i) c (way (196 - shift))
   unfolding apartBy
-  nearby-back s h = apart-is win c i (196 - shift) h step (apartBy win c shift) (i + (196 - shift)) (
-    gap-swap win c _ _ _ _ (omega (arith, h .up)) (omega (arith, h .up)),
+  nearby-backward s h = apart-is win c i (196 - shift) h step (apartBy win c shift) (i + (196 - shift)) (
+    gap-swap win c _ _ _ _ (omega (arith, h .row-pos)) (omega (arith, h .row-pos)),
     gap-swap win c _ _ _ _ (omega arith) (omega arith),
     gap-swap win c _ _ _ _ (omega arith) (omega arith),
-    gap-swap win c _ _ _ _ (omega (arith, h .up)) (omega (arith, h .up)),
+    gap-swap win c _ _ _ _ (omega (arith, h .row-pos)) (omega (arith, h .row-pos)),
     gap-swap win c _ _ _ _ (omega arith) (omega arith),
   )

@@ -15,22 +15,29 @@ ghost use lib.ListN.{length, getD};
 ghost use lib.Ieee.{nan};
 ghost use Rattle.planes.specs.Samples.{_⊕_, _⊗_, b0};
 ghost use Rattle.planes.specs.Fill.{fill};
-ghost use Rattle.epf_sizes.specs.Sizes.{windowPlane, windowCentre, fieldsLength};
+ghost use Rattle.epf_sizes.specs.Sizes.{tileRows, stride, windowPlane, windowCentre, fieldsLength};
 ghost use Rattle.epf_step.specs.Steps.{scaled};
 ghost use Rattle.epf_distances.specs.Seen.{nearby as nearbyOf, apartBy};
-ghost use Rattle.epf_distances.specs.Taps.{half as halfOf, shift as shiftOf, fieldOf, tapOf};
-ghost use Rattle.epf_distances.specs.Fields.{distAt, fieldsFill, distancesOf};
+ghost use Rattle.epf_distances.specs.Taps.{pairs, half as halfOf, shift as shiftOf, fieldOf, tapOf};
+ghost use Rattle.epf_distances.specs.Fields.{distAt, fieldsFill, distancesOf, RunFits};
 
-// CENTRE + 56 - STRIDE: the index past the last lane of a tile is rows * STRIDE + PAST.
+// CENTRE + LANES - STRIDE: the index past the last lane of a tile is rows * STRIDE + PAST.
 const PAST: usize = 188;
 
 // The largest number of fields of a step, one per pair of opposite neighbours.
 const PAIRS: usize = 6;
 
-// Where a neighbour's samples start in a window's plane, and where its distances start among the fields.
+// The index in a window's plane where a neighbour's samples start, and where its distances start among the fields.
 pub struct Tap {
-    pub place: usize,
+    pub index: usize,
     pub start: usize,
+}
+
+// A run of n distances: where it starts among the fields, and the index in a window's plane of its first sample.
+struct Run {
+    at: usize,
+    from: usize,
+    n: usize,
 }
 
 // The number of fields of a step.
@@ -51,12 +58,15 @@ fn shift_of_first(h: usize) -> usize
         return 2;
     }
     if h == 2 {
-        return 63;
+        return STRIDE - 1;
     }
     if h == 3 {
-        return 64;
+        return STRIDE;
     }
-    if h == 4 { 65 } else { 128 }
+    if h == 4 {
+        return STRIDE + 1;
+    }
+    2 * STRIDE
 }
 
 // The same for every step.
@@ -66,30 +76,35 @@ fn shift(step: usize, h: usize) -> usize
     if step == 0 {
         return shift_of_first(h);
     }
-    if h == 0 { 1 } else { 64 }
+    if h == 0 { 1 } else { STRIDE }
 }
 
-fn ahead(step: usize, h: usize) -> Tap
-    requires { ⌜ h < 6 ⌝ }
-    ensures { λ r. ⌜ r ≡ record { place = windowCentre + shiftOf step h; start = h * windowPlane + windowCentre } ⌝ }
+// The tap of the neighbour after the centre whose distances field h has.
+fn forward_tap(step: usize, h: usize) -> Tap
+    requires { ⌜ h < pairs ⌝ }
+    ensures { λ r. ⌜ r ≡ record {
+      index = windowCentre + shiftOf step h;
+      start = h * windowPlane + windowCentre;
+    } ⌝ }
 {
     Tap {
-        place: CENTRE + shift(step, h),
+        index: CENTRE + shift(step, h),
         start: h * WINDOW_PLANE + CENTRE,
     }
 }
 
-fn behind(step: usize, h: usize) -> Tap
-    requires { ⌜ h < 6 ⌝ }
+// The tap of the opposite neighbour, before the centre: it reads the same field from an earlier index.
+fn backward_tap(step: usize, h: usize) -> Tap
+    requires { ⌜ h < pairs ⌝ }
     ensures { λ r. ⌜ r ≡ record {
-      place = windowCentre - shiftOf step h;
+      index = windowCentre - shiftOf step h;
       start = h * windowPlane + (windowCentre - shiftOf step h);
     } ⌝ }
 {
-    let place = CENTRE - shift(step, h);
+    let index = CENTRE - shift(step, h);
     Tap {
-        place,
-        start: h * WINDOW_PLANE + place,
+        index,
+        start: h * WINDOW_PLANE + index,
     }
 }
 
@@ -115,15 +130,15 @@ pub fn neighbour(step: usize, q: usize) -> Tap
 {
     let h = field_of(step, q);
     if step == 0 {
-        if q < 6 {
-            return behind(step, h);
+        if q < PAIRS {
+            return backward_tap(step, h);
         }
-        return ahead(step, h);
+        return forward_tap(step, h);
     }
     if q % 2 == 1 {
-        return ahead(step, h);
+        return forward_tap(step, h);
     }
-    behind(step, h)
+    backward_tap(step, h)
 }
 
 // Absolute differences in plane c between the samples from index `from` on and those k after them.
@@ -150,7 +165,7 @@ fn differences(
 
 // The sum of the differences that a distance of step 0 or 1 has at index j, in that step's order.
 fn nearby(step: usize, d: &[f32; WINDOW_PLANE], j: usize) -> f32
-    requires { ⌜ (step < 2) × (64 ≤ j) × (j + 64 < windowPlane) ⌝ }
+    requires { ⌜ (step < 2) × (stride ≤ j) × (j + stride < windowPlane) ⌝ }
     ensures { λ r. ⌜ r ≡ nearbyOf step (λ (p : ℕ). getD (now (d .entry)) p nan) j ⌝ }
 {
     if step == 0 {
@@ -169,7 +184,8 @@ fn add_nearby(
     from: usize,
     n: usize,
 )
-    requires { ⌜ (step < 2) × (64 ≤ from) × (from + n + 64 ≤ windowPlane) × (at + n ≤ fieldsLength) ⌝ }
+    requires { ⌜ (step < 2) × (stride ≤ from) × (from + n + stride ≤ windowPlane)
+        × (at + n ≤ fieldsLength) ⌝ }
     ensures { λ _. ⌜ now (fields .exit) ≡ fill (now (fields .entry)) at n
         (λ (i : ℕ). getD (now (fields .entry)) (at + i) nan ⊕ scale ⊗ nearbyOf step
         (λ (p : ℕ). getD (now (d .entry)) p nan) (from + i)) ⌝ }
@@ -207,25 +223,26 @@ fn add_single(
     }
 }
 
-// Adds channel c to n distances.
+// Adds channel c to the distances of a run, between samples that lie k apart.
 fn add_channel(
     fields: &mut [f32; FIELDS],
-    at: usize,
+    run: Run,
     d: &mut [f32; WINDOW_PLANE],
     win: &[f32; WINDOWS],
     c: usize,
     step: usize,
     k: usize,
     scale: f32,
-    from: usize,
-    n: usize,
 )
-    requires { ⌜ (length (now d) ≡ windowPlane) × (c < 3) × (64 ≤ from) × (from + n + 64 + k ≤ windowPlane)
-        × (at + n ≤ fieldsLength) ⌝ }
-    ensures { λ _. ⌜ (now (fields .exit) ≡ fill (now (fields .entry)) at n
-        (λ (i : ℕ). getD (now (fields .entry)) (at + i) nan ⊕ scale ⊗ nearbyOf step (apartBy (now (win .entry)) c k)
-        (from + i))) × (length (now (d .exit)) ≡ windowPlane) ⌝ }
+    requires { ⌜ (length (now d) ≡ windowPlane) × (c < 3) × RunFits run k ⌝ }
+    ensures { λ _. ⌜ (now (fields .exit) ≡ fill (now (fields .entry)) (run .at) (run .n)
+        (λ (i : ℕ). getD (now (fields .entry)) (run .at + i) nan
+        ⊕ scale ⊗ nearbyOf step (apartBy (now (win .entry)) c k) (run .from + i)))
+        × (length (now (d .exit)) ≡ windowPlane) ⌝ }
 {
+    let at = run.at;
+    let from = run.from;
+    let n = run.n;
     if 1 < step {
         add_single(fields, at, win, c, k, scale, from, n);
         return;
@@ -245,29 +262,26 @@ fn clear(fields: &mut [f32; FIELDS], at: usize, n: usize)
     }
 }
 
-// Computes n distances from index `from` on, between samples that lie k apart.
+// Computes the distances of a run, between samples that lie k apart.
 fn field(
     fields: &mut [f32; FIELDS],
-    at: usize,
+    run: Run,
     d: &mut [f32; WINDOW_PLANE],
     win: &[f32; WINDOWS],
     step: usize,
     k: usize,
     scales: &[f32; PLANES],
     planes: usize,
-    from: usize,
-    n: usize,
 )
-    requires { ⌜ (length (now d) ≡ windowPlane) × (planes ≤ 3) × (64 ≤ from) × (from + n + 64 + k ≤ windowPlane)
-        × (at + n ≤ fieldsLength) ⌝ }
-    ensures { λ _. ⌜ (now (fields .exit) ≡ fill (now (fields .entry)) at n
-        (λ (i : ℕ). distAt step (scaled planes (now (scales .entry))) (now (win .entry)) k (from + i)))
+    requires { ⌜ (length (now d) ≡ windowPlane) × (planes ≤ 3) × RunFits run k ⌝ }
+    ensures { λ _. ⌜ (now (fields .exit) ≡ fill (now (fields .entry)) (run .at) (run .n)
+        (λ (i : ℕ). distAt step (scaled planes (now (scales .entry))) (now (win .entry)) k (run .from + i)))
         × (length (now (d .exit)) ≡ windowPlane) ⌝ }
 {
-    clear(fields, at, n);
+    clear(fields, run.at, run.n);
     let mut c = 0;
     while c < planes {
-        add_channel(fields, at, d, win, c, step, k, scales[c], from, n);
+        add_channel(fields, run, d, win, c, step, k, scales[c]);
         c += 1;
     }
 }
@@ -280,9 +294,9 @@ fn fill_fields(
     planes: usize,
     rows: usize,
 )
-    requires { ⌜ (planes ≤ 3) × (1 ≤ rows) × (rows ≤ 8) ⌝ }
-    ensures { λ _. ⌜ now (fields .exit) ≡ fieldsFill step (scaled planes (now (scales .entry))) (now (win .entry)) rows
-        (now (fields .entry)) (halfOf step) ⌝ }
+    requires { ⌜ (planes ≤ 3) × (1 ≤ rows) × (rows ≤ tileRows) ⌝ }
+    ensures { λ _. ⌜ now (fields .exit) ≡ fieldsFill step (scaled planes (now (scales .entry)))
+        (now (win .entry)) rows (now (fields .entry)) (halfOf step) ⌝ }
 {
     let mut d = [0.0; WINDOW_PLANE];
     let count = half(step);
@@ -290,18 +304,12 @@ fn fill_fields(
     while h < count {
         let k = shift(step, h);
         let from = CENTRE - k;
-        field(
-            fields,
-            h * WINDOW_PLANE + from,
-            &mut d,
-            win,
-            step,
-            k,
-            scales,
-            planes,
+        let run = Run {
+            at: h * WINDOW_PLANE + from,
             from,
-            rows * STRIDE + PAST - from,
-        );
+            n: rows * STRIDE + PAST - from,
+        };
+        field(fields, run, &mut d, win, step, k, scales, planes);
         h += 1;
     }
 }

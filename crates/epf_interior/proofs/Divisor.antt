@@ -10,7 +10,7 @@ use Rattle.planes.specs.Samples.{_⊕_, b1}
 use Rattle.planes.specs.Picture.{Around}
 use Rattle.rounding.proofs.Rounded.{Within}
 use Rattle.epf_step.specs.Steps.{kernel, dists, along, scaled, scaledFrom, apart, distance, weightBy}
-use Rattle.epf_step.specs.Bounds.{notNegative, notPositive, ScalesNotNegative, Between, most}
+use Rattle.epf_step.specs.Bounds.{notNegative, ScalesNotNegative, Between, most}
 use Rattle.epf_step.proofs.Bounds.{weight-within, one-within, sum-within, most-within, distance-not-negative}
 use Rattle.epf_interior.specs.declared.Weights.{Weights}
 use Rattle.epf_interior.specs.Inside.{farAt, withSum, weightsOf}

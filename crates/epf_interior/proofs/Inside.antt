@@ -144,12 +144,12 @@ module _ (src : List Float) (stride plane : ℕ) (scales slopes : List Float) (f
 
 -- row r of the rectangle, in machine integers
 pub record RowRoom (l : Layout) (q : Rect) (r len : ℕ) : Type 0 where
-  pub some : 0 < l .image .width
-  pub size : l .image .height * l .image .width ≤ 268435456
-  pub start : (l .top + (q .y - 1) + r) * l .image .width ≤ 268435456
-  pub narrow : q .cols ≤ l .image .height * l .image .width
-  pub place : cornerOf l q r + l .image .width + 1 ≡ (l .top + q .y + r) * l .image .width + (l .left + q .x)
-  pub room : cornerOf l q r + q .cols + 2 * l .image .width + 1 + 2 * (l .image .height * l .image .width) ≤ len
+  pub stride-pos : 0 < l .image .width
+  pub plane-le : l .image .height * l .image .width ≤ 268435456
+  pub start-le : (l .top + (q .y - 1) + r) * l .image .width ≤ 268435456
+  pub cols-le : q .cols ≤ l .image .height * l .image .width
+  pub first-index : cornerOf l q r + l .image .width + 1 ≡ (l .top + q .y + r) * l .image .width + (l .left + q .x)
+  pub end-le : cornerOf l q r + q .cols + 2 * l .image .width + 1 + 2 * (l .image .height * l .image .width) ≤ len
 
 pub row-room : (l : Layout) (q : Rect) (r len : ℕ) → Inside l q → RectFits l 3 q len → r < q .rows → RowRoom l q r len
 row-room l q r len f g R =
@@ -163,12 +163,12 @@ row-room l q r len f g R =
     let next : l .top + q .y + r ≡ t + 1 = omega (arith, f .above) in
     let wide : l .left + (q .x - 1) + q .cols + 1 ≤ w = omega (arith, f .left, f .right, g .layout .across) in
     record {
-      some = omega (arith, f .right, g .layout .across);
-      size = mul-le-mul (g .layout .high) (g .layout .wide);
-      start = omega (arith, all, three, mul-le-mul (g .layout .high) (g .layout .wide));
-      narrow = omega (arith, all, three, wide);
-      place = rw next (omega (arith, one, f .left));
-      room = omega (arith, all, three, wide, g .set, mul-assoc 3 h w);
+      stride-pos = omega (arith, f .right, g .layout .across);
+      plane-le = mul-le-mul (g .layout .high) (g .layout .wide);
+      start-le = omega (arith, all, three, mul-le-mul (g .layout .high) (g .layout .wide));
+      cols-le = omega (arith, all, three, wide);
+      first-index = rw next (omega (arith, one, f .left));
+      end-le = omega (arith, all, three, wide, g .set, mul-assoc 3 h w);
     }
 
 -- an offset of at most 1, counted from the corner
@@ -214,7 +214,7 @@ unfolding insideOf
 row-next l src scales slopes top q r first d a b f g R ek ea eb =
     let v = insideOf l src scales slopes top q in
     rect-below 3 (l .image .width) (l .image .height) 3 (omega arith) (l .left + q .x) (q .cols) (l .top + q .y) r 1 v (λ c i j. v c i r) v d a b (g .set) (omega (arith, g .layout .across, g .across)) (omega (arith, g .layout .down, g .down)) ea
-    (three-planes (l .image .width) (l .image .height) (l .left + q .x) (q .cols) (l .top + q .y + r) _ _ (λ c i. v c i r) a b (row-room l q r (length d) f g R .place) refl (rw (first-same first top r ek) at eb))
+    (three-planes (l .image .width) (l .image .height) (l .left + q .x) (q .cols) (l .top + q .y + r) _ _ (λ c i. v c i r) a b (row-room l q r (length d) f g R .first-index) refl (rw (first-same first top r ek) at eb))
     (λ c i j p s h. refl) (λ c i j p s h. let z : r + j ≡ r = omega arith in rw z)
 
 -- ---- the code's tests

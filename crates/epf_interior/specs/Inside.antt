@@ -11,7 +11,7 @@ use Rattle.planes.specs.Samples.{_⊕_, _⊖_, _⊗_, _⊘_, b0, b1}
 use Rattle.planes.specs.Picture.{Picture}
 use Rattle.planes.specs.Fill.{fill}
 use Rattle.epf_step.specs.Steps.{weightBy}
-use Rattle.epf_slopes.specs.Slopes.{firstSlope}
+use Rattle.epf_slopes.specs.Slopes.{slopeColumns, firstSlope}
 use Rattle.epf_rects.specs.declared.Rect.{Rect}
 use Rattle.epf_rects.specs.Rects.{rectFilled, rectFits}
 use Rattle.epf_interior.specs.declared.Weights.{Weights}
@@ -69,4 +69,4 @@ insideOf l src scales slopes top q = λ c i r. laneIn src (l .image .width) (l .
 -- the set after filtering the rectangle in three planes; unchanged if the rectangle, the sets or the slopes do not fit
 unfoldable pub insideFilled : Layout → List Float → List Float → ℕ → Rect → List Float → List Float → List Float
 insideFilled l scales slopes top q src d =
-    cond (rectFits l 3 q (length d) && (eqb (length src) (length d) && (leb (q .cols) 64 && liesInside l q))) (rectFilled l 3 q (insideOf l src scales slopes top q) d) d
+    cond (rectFits l 3 q (length d) && (eqb (length src) (length d) && (leb (q .cols) slopeColumns && liesInside l q))) (rectFilled l 3 q (insideOf l src scales slopes top q) d) d

@@ -13,6 +13,7 @@ ghost use mathlib.Core.Path.{_≡_};
 ghost use Prim.Native.Nat.{ℕ, _+_, _-_, _*_, _<_, _≤_};
 ghost use lib.ListN.{length};
 ghost use Rattle.epf_rects.specs.Rects.{rectFilled, RectFits};
+ghost use Rattle.epf_slopes.specs.Slopes.{slopeColumns, slopesLength};
 ghost use Rattle.epf_interior.specs.Inside.{farAt, weightsOf, mixOf, laneIn, threeFill, liesInside, Inside};
 ghost use Rattle.epf_interior.specs.Inside.{insideOf, insideFilled};
 ghost use Rattle.epf_interior.specs.Divisor.{ThreeScalesBounded};
@@ -95,7 +96,8 @@ fn row(
     corner: usize,
     n: usize,
 )
-    requires { ⌜ (0 < stride) × (n ≤ plane) × (first + n ≤ 128) × (length (now src) ≡ length (now dst))
+    requires { ⌜ (0 < stride) × (n ≤ plane) × (first + n ≤ slopesLength)
+        × (length (now src) ≡ length (now dst))
         × (corner + n + 2 * stride + 1 + 2 * plane ≤ length (now src)) ⌝ }
     ensures { λ _. ⌜ now (dst .exit) ≡ threeFill (now (dst .entry)) (corner + stride + 1) plane n
         (laneIn (now (src .entry)) stride plane (now (scales .entry)) (now (slopes .entry)) first corner) ⌝ }
@@ -126,7 +128,7 @@ fn rows_of(
     rect: Rect,
 )
     requires { ⌜ Inside l rect × RectFits l 3 rect (length (now dst)) × (length (now src) ≡ length (now dst))
-        × (rect .cols ≤ 64) ⌝ }
+        × (rect .cols ≤ slopeColumns) ⌝ }
     ensures { λ _. ⌜ now (dst .exit) ≡ rectFilled l 3 rect (insideOf l (now (src .entry)) (now (scales .entry))
         (now (slopes .entry)) top rect) (now (dst .entry)) ⌝ }
 {

@@ -38,8 +38,8 @@ run-at0 d t n f i r l e = let z : 0 + i ≡ i = omega arith in rw e (rw z at (ru
 pub weighed-none : (f : ℕ → ℕ → Float) (t s sum : List Float) → length t ≡ 768 → length s ≡ 64 → sum ≡ fill s 0 56 (λ i. b1) → Weighed f t sum 0
 unfolding weightsTo
 weighed-none f t s sum lt ls e = record {
-  long = lt;
-  wide = ap length e ∙ length-fill s 0 56 _ ∙ ls;
+  weights-length = lt;
+  sum-length = ap length e ∙ length-fill s 0 56 _ ∙ ls;
   each = λ p i l h. absurd (omega arith);
   total = λ i h. run-at0 s sum 56 _ i (omega arith) h e;
 }
@@ -49,15 +49,15 @@ pub weighed-more : (f : ℕ → ℕ → Float) (t t' s s' : List Float) (q : ℕ
     → Weighed f t' s' (q + 1)
 unfolding weightsTo
 weighed-more f t t' s s' q l w et es = record {
-  long = ap length et ∙ length-fill t (q * 64) 56 _ ∙ w .long;
-  wide = ap length es ∙ length-fill s 0 56 _ ∙ w .wide;
+  weights-length = ap length et ∙ length-fill t (q * 64) 56 _ ∙ w .weights-length;
+  sum-length = ap length es ∙ length-fill s 0 56 _ ∙ w .sum-length;
   each = λ p i a b. go p i b (decLt p q) (omega arith);
-  total = λ i h. let z : 0 + i ≡ i = omega arith in rw (add-one q) (run-at0 s s' 56 _ i (omega (arith, w .wide)) h es ∙ rw (z, w .total i h));
+  total = λ i h. let z : 0 + i ≡ i = omega arith in rw (add-one q) (run-at0 s s' 56 _ i (omega (arith, w .sum-length)) h es ∙ rw (z, w .total i h));
 }
   where
     go : (p i : ℕ) → i < 56 → Dec (p < q) → p ≤ q → getD t' (p * 64 + i) nan ≡ f i p
     go p i b (yes h) a = rw et (fill-before t (q * 64) 56 _ (p * 64 + i) (omega arith) ∙ w .each p i h b)
-    go p i b (no h) a = let z : p ≡ q = omega arith in rw (z, et) (run-at t (q * 64) 56 _ i (omega (arith, w .long)) b)
+    go p i b (no h) a = let z : p ≡ q = omega arith in rw (z, et) (run-at t (q * 64) 56 _ i (omega (arith, w .weights-length)) b)
 
 -- ---- samples: q neighbours are added
 
@@ -100,7 +100,7 @@ module _ (step : ℕ) (t win : List Float) (c r at : ℕ) where
 
   -- the row after adding four neighbours; their samples start at k0 to k3
   pub stored-four : (d a b : List Float) (q k0 k1 k2 k3 : ℕ) → a ≡ fill d at 56 (storedTo step t win c r q)
-      → k0 ≡ c * 896 + r * 64 + tapOf step q .place → k1 ≡ c * 896 + r * 64 + tapOf step (q + 1) .place → k2 ≡ c * 896 + r * 64 + tapOf step (q + 2) .place → k3 ≡ c * 896 + r * 64 + tapOf step (q + 3) .place
+      → k0 ≡ c * 896 + r * 64 + tapOf step q .index → k1 ≡ c * 896 + r * 64 + tapOf step (q + 1) .index → k2 ≡ c * 896 + r * 64 + tapOf step (q + 2) .index → k3 ≡ c * 896 + r * 64 + tapOf step (q + 3) .index
       → b ≡ fill a at 56 (λ i. getD a (at + i) nan ⊕ getD t (q * 64 + i) nan ⊗ getD win (k0 + i) nan ⊕ getD t (q * 64 + i + 64) nan ⊗ getD win (k1 + i) nan
       ⊕ getD t (q * 64 + i + 128) nan ⊗ getD win (k2 + i) nan ⊕ getD t (q * 64 + i + 192) nan ⊗ getD win (k3 + i) nan)
       → b ≡ fill d at 56 (storedTo step t win c r (q + 4))

@@ -36,8 +36,8 @@ neighbour-seen : (step : ℕ) (win : List Float) (c r i q : ℕ) → q < length 
 unfolding neighbourOf
 neighbour-seen step win c r i q l =
     let t = tap-is step q l in
-    let z : c * 896 + r * 64 + tapOf step q .place + i ≡ c * 896 + (r * 64 + i + tapOf step q .place) = omega arith in
-    rw (z, ← (t .offset)) (sym (seen-at win (r * 64 + i) c (tapOf step q .place)))
+    let z : c * 896 + r * 64 + tapOf step q .index + i ≡ c * 896 + (r * 64 + i + tapOf step q .index) = omega arith in
+    rw (z, ← (t .offset)) (sym (seen-at win (r * 64 + i) c (tapOf step q .index)))
 
 centre-seen : (win : List Float) (c r i : ℕ) → sampleOf win c r 196 i ≡ seen win (r * 64 + i) c (pos 0) (pos 0)
 unfolding seen

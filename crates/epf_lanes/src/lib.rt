@@ -25,15 +25,16 @@ ghost use lib.Ieee.{nan};
 ghost use Rattle.planes.specs.Samples.{_⊕_, _⊗_, _⊘_, b1};
 ghost use Rattle.planes.specs.Fill.{fill};
 ghost use Rattle.planes.specs.Rect.{planesFill};
-ghost use Rattle.epf_sizes.specs.Sizes.{fieldsLength, windowsLength, weightsLength, tileLength};
+ghost use Rattle.epf_sizes.specs.Sizes.{lanes, tileRows, stride, tileLength, windowPlane, windowCentre, windowsLength};
+ghost use Rattle.epf_sizes.specs.Sizes.{fieldsLength, weightsLength};
 ghost use Rattle.epf_step.specs.Steps.{kernel, weightBy};
 ghost use Rattle.epf_distances.specs.Taps.{tapOf};
-ghost use Rattle.epf_slopes.specs.Slopes.{firstSlope};
+ghost use Rattle.epf_slopes.specs.Slopes.{slopeColumns, slopesLength, firstSlope};
 ghost use Rattle.epf_lanes.specs.Lanes.{weightOf, storedTo, laneOf, lanesOf, Weighed};
 ghost use Rattle.epf_lanes.specs.Divisors.{DivisorsBounded};
 
 fn ones(sum: &mut [f32; STRIDE])
-    ensures { λ _. ⌜ now (sum .exit) ≡ fill (now (sum .entry)) 0 56 (λ (i : ℕ). b1) ⌝ }
+    ensures { λ _. ⌜ now (sum .exit) ≡ fill (now (sum .entry)) 0 lanes (λ (i : ℕ). b1) ⌝ }
 {
     let mut i = 0;
     while i < LANES {
@@ -52,10 +53,11 @@ fn weigh(
     slopes: &[f32; SLOPES],
     first: usize,
 )
-    requires { ⌜ (at + 56 ≤ weightsLength) × (from + 56 ≤ fieldsLength) × (first + 56 ≤ 128) ⌝ }
-    ensures { λ _. ⌜ (now (stored .exit) ≡ fill (now (stored .entry)) at 56
-        (λ (i : ℕ). weightBy (getD (now (slopes .entry)) (first + i) nan) (getD (now (fields .entry)) (from + i) nan)))
-        × (now (sum .exit) ≡ fill (now (sum .entry)) 0 56 (λ (i : ℕ). getD (now (sum .entry)) (0 + i) nan
+    requires { ⌜ (at + lanes ≤ weightsLength) × (from + lanes ≤ fieldsLength)
+        × (first + lanes ≤ slopesLength) ⌝ }
+    ensures { λ _. ⌜ (now (stored .exit) ≡ fill (now (stored .entry)) at lanes (λ (i : ℕ).
+        weightBy (getD (now (slopes .entry)) (first + i) nan) (getD (now (fields .entry)) (from + i) nan)))
+        × (now (sum .exit) ≡ fill (now (sum .entry)) 0 lanes (λ (i : ℕ). getD (now (sum .entry)) (0 + i) nan
         ⊕ weightBy (getD (now (slopes .entry)) (first + i) nan) (getD (now (fields .entry)) (from + i) nan))) ⌝ }
 {
     let mut i = 0;
@@ -78,8 +80,10 @@ fn weigh_all(
     r: usize,
     first: usize,
 )
-    requires { ⌜ (length (now stored) ≡ weightsLength) × (length (now sum) ≡ 64) × (r < 8) × (first ≤ 64) ⌝ }
-    ensures { λ _. ⌜ Weighed (λ (i : ℕ) (q : ℕ). weightOf step (now (fields .entry)) (now (slopes .entry)) first r i q)
+    requires { ⌜ (length (now stored) ≡ weightsLength) × (length (now sum) ≡ stride)
+        × (r < tileRows) × (first ≤ slopeColumns) ⌝ }
+    ensures { λ _. ⌜ Weighed
+        (λ (i : ℕ) (q : ℕ). weightOf step (now (fields .entry)) (now (slopes .entry)) first r i q)
         (now (stored .exit)) (now (sum .exit)) (length (kernel step))
         × DivisorsBounded step (now (fields .entry)) (now (slopes .entry)) first r (now (sum .exit)) ⌝ }
 {
@@ -103,8 +107,8 @@ fn weigh_all(
 
 // Copies the samples themselves: each sum starts from its sample.
 fn centre(out: &mut [f32], at: usize, win: &[f32; WINDOWS], from: usize)
-    requires { ⌜ (at + 56 ≤ length (now out)) × (from + 56 ≤ windowsLength) ⌝ }
-    ensures { λ _. ⌜ now (out .exit) ≡ fill (now (out .entry)) at 56
+    requires { ⌜ (at + lanes ≤ length (now out)) × (from + lanes ≤ windowsLength) ⌝ }
+    ensures { λ _. ⌜ now (out .exit) ≡ fill (now (out .entry)) at lanes
         (λ (i : ℕ). getD (now (win .entry)) (from + i) nan) ⌝ }
 {
     let mut i = 0;
@@ -125,18 +129,18 @@ fn with_four(
     k2: usize,
     k3: usize,
 ) -> f32
-    requires { ⌜ (a + 192 < weightsLength) × (k0 < windowsLength) × (k1 < windowsLength) × (k2 < windowsLength)
-        × (k3 < windowsLength) ⌝ }
+    requires { ⌜ (a + 3 * stride < weightsLength) × (k0 < windowsLength) × (k1 < windowsLength)
+        × (k2 < windowsLength) × (k3 < windowsLength) ⌝ }
     ensures { λ r. ⌜ r ≡ x ⊕ getD (now (stored .entry)) a nan ⊗ getD (now (win .entry)) k0 nan
-        ⊕ getD (now (stored .entry)) (a + 64) nan ⊗ getD (now (win .entry)) k1 nan
-        ⊕ getD (now (stored .entry)) (a + 128) nan ⊗ getD (now (win .entry)) k2 nan
-        ⊕ getD (now (stored .entry)) (a + 192) nan ⊗ getD (now (win .entry)) k3 nan ⌝ }
+        ⊕ getD (now (stored .entry)) (a + stride) nan ⊗ getD (now (win .entry)) k1 nan
+        ⊕ getD (now (stored .entry)) (a + 2 * stride) nan ⊗ getD (now (win .entry)) k2 nan
+        ⊕ getD (now (stored .entry)) (a + 3 * stride) nan ⊗ getD (now (win .entry)) k3 nan ⌝ }
 {
     let half = x + stored[a] * win[k0] + stored[a + STRIDE] * win[k1];
     half + stored[a + 2 * STRIDE] * win[k2] + stored[a + 3 * STRIDE] * win[k3]
 }
 
-// Adds four weighted neighbours to each of 56 lanes.
+// Adds four weighted neighbours to each lane.
 fn add_four(
     out: &mut [f32],
     at: usize,
@@ -148,13 +152,15 @@ fn add_four(
     k2: usize,
     k3: usize,
 )
-    requires { ⌜ (at + 56 ≤ length (now out)) × (a + 248 ≤ weightsLength) × (k0 + 56 ≤ windowsLength)
-        × (k1 + 56 ≤ windowsLength) × (k2 + 56 ≤ windowsLength) × (k3 + 56 ≤ windowsLength) ⌝ }
-    ensures { λ _. ⌜ now (out .exit) ≡ fill (now (out .entry)) at 56 (λ (i : ℕ). getD (now (out .entry)) (at + i) nan
+    requires { ⌜ (at + lanes ≤ length (now out)) × (a + 3 * stride + lanes ≤ weightsLength)
+        × (k0 + lanes ≤ windowsLength) × (k1 + lanes ≤ windowsLength) × (k2 + lanes ≤ windowsLength)
+        × (k3 + lanes ≤ windowsLength) ⌝ }
+    ensures { λ _. ⌜ now (out .exit) ≡ fill (now (out .entry)) at lanes (λ (i : ℕ).
+        getD (now (out .entry)) (at + i) nan
         ⊕ getD (now (stored .entry)) (a + i) nan ⊗ getD (now (win .entry)) (k0 + i) nan
-        ⊕ getD (now (stored .entry)) (a + i + 64) nan ⊗ getD (now (win .entry)) (k1 + i) nan
-        ⊕ getD (now (stored .entry)) (a + i + 128) nan ⊗ getD (now (win .entry)) (k2 + i) nan
-        ⊕ getD (now (stored .entry)) (a + i + 192) nan ⊗ getD (now (win .entry)) (k3 + i) nan) ⌝ }
+        ⊕ getD (now (stored .entry)) (a + i + stride) nan ⊗ getD (now (win .entry)) (k1 + i) nan
+        ⊕ getD (now (stored .entry)) (a + i + 2 * stride) nan ⊗ getD (now (win .entry)) (k2 + i) nan
+        ⊕ getD (now (stored .entry)) (a + i + 3 * stride) nan ⊗ getD (now (win .entry)) (k3 + i) nan) ⌝ }
 {
     let mut i = 0;
     while i < LANES {
@@ -173,8 +179,8 @@ fn add_four(
 }
 
 fn divide(out: &mut [f32], at: usize, sum: &[f32; STRIDE])
-    requires { ⌜ at + 56 ≤ length (now out) ⌝ }
-    ensures { λ _. ⌜ now (out .exit) ≡ fill (now (out .entry)) at 56
+    requires { ⌜ at + lanes ≤ length (now out) ⌝ }
+    ensures { λ _. ⌜ now (out .exit) ≡ fill (now (out .entry)) at lanes
         (λ (i : ℕ). getD (now (out .entry)) (at + i) nan ⊘ getD (now (sum .entry)) i nan) ⌝ }
 {
     let mut i = 0;
@@ -186,10 +192,10 @@ fn divide(out: &mut [f32], at: usize, sum: &[f32; STRIDE])
 
 // Where the samples of neighbour q start in a window, for lanes that start at `base`.
 fn samples_at(base: usize, step: usize, q: usize) -> usize
-    requires { ⌜ (base ≤ 2304) × (q < length (kernel step)) ⌝ }
-    ensures { λ r. ⌜ (r ≡ base + tapOf step q .place) × (r ≤ base + 324) ⌝ }
+    requires { ⌜ (base ≤ 2 * windowPlane + tileRows * stride) × (q < length (kernel step)) ⌝ }
+    ensures { λ r. ⌜ (r ≡ base + tapOf step q .index) × (r ≤ base + (windowCentre + 2 * stride)) ⌝ }
 {
-    base + neighbour(step, q).place
+    base + neighbour(step, q).index
 }
 
 // Sums row r of plane c: the samples plus their weighted neighbours.
@@ -202,8 +208,8 @@ fn blend(
     r: usize,
     step: usize,
 )
-    requires { ⌜ (at + 56 ≤ length (now out)) × (c < 3) × (r < 8) ⌝ }
-    ensures { λ _. ⌜ now (out .exit) ≡ fill (now (out .entry)) at 56
+    requires { ⌜ (at + lanes ≤ length (now out)) × (c < 3) × (r < tileRows) ⌝ }
+    ensures { λ _. ⌜ now (out .exit) ≡ fill (now (out .entry)) at lanes
         (storedTo step (now (stored .entry)) (now (win .entry)) c r (length (kernel step))) ⌝ }
 {
     let base = c * WINDOW_PLANE + r * STRIDE;
@@ -230,10 +236,10 @@ fn blend_planes(
     planes: usize,
     r: usize,
 )
-    requires { ⌜ (length (now out) ≡ tileLength) × (planes ≤ 3) × (r < 8) ⌝ }
-    ensures { λ _. ⌜ now (out .exit) ≡ planesFill 64 8 0 56 r 1
-        (λ (c : ℕ) (i : ℕ) (j : ℕ). storedTo step (now (stored .entry)) (now (win .entry)) c r (length (kernel step)) i
-        ⊘ getD (now (sum .entry)) i nan) (now (out .entry)) planes ⌝ }
+    requires { ⌜ (length (now out) ≡ tileLength) × (planes ≤ 3) × (r < tileRows) ⌝ }
+    ensures { λ _. ⌜ now (out .exit) ≡ planesFill stride tileRows 0 lanes r 1
+        (λ (c : ℕ) (i : ℕ) (j : ℕ). storedTo step (now (stored .entry)) (now (win .entry)) c r
+        (length (kernel step)) i ⊘ getD (now (sum .entry)) i nan) (now (out .entry)) planes ⌝ }
 {
     let mut c = 0;
     while c < planes {
@@ -242,30 +248,6 @@ fn blend_planes(
         divide(out, at, sum);
         c += 1;
     }
-}
-
-// Filters the lanes of row r; its slopes start at index `first`.
-fn filter_row(
-    out: &mut [f32],
-    stored: &mut [f32; WEIGHTS],
-    sum: &mut [f32; STRIDE],
-    fields: &[f32; FIELDS],
-    slopes: &[f32; SLOPES],
-    win: &[f32; WINDOWS],
-    step: usize,
-    planes: usize,
-    r: usize,
-    first: usize,
-)
-    requires { ⌜ (length (now out) ≡ tileLength) × (length (now stored) ≡ weightsLength) × (length (now sum) ≡ 64)
-        × (planes ≤ 3) × (r < 8) × (first ≤ 64) ⌝ }
-    ensures { λ _. ⌜ (now (out .exit) ≡ planesFill 64 8 0 56 r 1
-        (λ (c : ℕ) (i : ℕ) (j : ℕ). laneOf step (now (fields .entry)) (now (slopes .entry)) (now (win .entry)) first c i
-        r) (now (out .entry)) planes) × (length (now (stored .exit)) ≡ weightsLength)
-        × (length (now (sum .exit)) ≡ 64) ⌝ }
-{
-    weigh_all(stored, sum, fields, slopes, step, r, first);
-    blend_planes(out, stored, sum, win, step, planes, r);
 }
 
 // Filters the rows of a tile; its row 0 is at y = `top`.
@@ -279,8 +261,8 @@ fn filter_rows(
     top: usize,
     rows: usize,
 )
-    requires { ⌜ (length (now out) ≡ tileLength) × (planes ≤ 3) × (rows ≤ 8) ⌝ }
-    ensures { λ _. ⌜ now (out .exit) ≡ planesFill 64 8 0 56 0 rows
+    requires { ⌜ (length (now out) ≡ tileLength) × (planes ≤ 3) × (rows ≤ tileRows) ⌝ }
+    ensures { λ _. ⌜ now (out .exit) ≡ planesFill stride tileRows 0 lanes 0 rows
         (λ (c : ℕ) (i : ℕ) (r : ℕ). laneOf step (now (fields .entry)) (now (slopes .entry)) (now (win .entry))
         (firstSlope (top + r)) c i r) (now (out .entry)) planes ⌝ }
 {
@@ -290,18 +272,8 @@ fn filter_rows(
     let mut r = 0;
     while r < rows {
         let first = first_slope(offset + r);
-        filter_row(
-            out,
-            &mut stored,
-            &mut sum,
-            fields,
-            slopes,
-            win,
-            step,
-            planes,
-            r,
-            first,
-        );
+        weigh_all(&mut stored, &mut sum, fields, slopes, step, r, first);
+        blend_planes(out, &stored, &sum, win, step, planes, r);
         r += 1;
     }
 }

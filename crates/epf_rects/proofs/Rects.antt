@@ -29,21 +29,21 @@ rectStart l c x y = (c * l .image .height + (l .top + y)) * l .image .width + (l
 
 -- plane c of the rectangle, in machine integers
 pub record PlaneRoom (l : Layout) (c : ℕ) (q : Rect) (len : ℕ) : Type 0 where
-  pub lines : c * l .image .height ≤ 49152
-  pub start : (c * l .image .height + (l .top + q .y)) * l .image .width ≤ 65536 * 16384
-  pub rooms : (r : ℕ) → r < q .rows → rectStart l c (q .x) (q .y) + r * l .image .width + q .cols ≤ len
+  pub rows-above-le : c * l .image .height ≤ 49152
+  pub start-le : (c * l .image .height + (l .top + q .y)) * l .image .width ≤ 65536 * 16384
+  pub rows-fit : (r : ℕ) → r < q .rows → rectStart l c (q .x) (q .y) + r * l .image .width + q .cols ≤ len
 
 pub plane-room : (l : Layout) (n c : ℕ) (q : Rect) (len : ℕ) → RectFits l n q len → c < n → PlaneRoom l c q len
 plane-room l n c q len f p =
-    let few : c ≤ 2 = omega (arith, f .planes) in
+    let few : c ≤ 2 = omega (arith, f .planes-le) in
     let g = f .layout in
     let y = q .y in
     let a : c * l .image .height ≤ 2 * 16384 = mul-le-mul few (g .high) in
     let b : c * l .image .height + (l .top + y) ≤ 65536 = omega (arith, g .down, g .high, f .down) in
     record {
-      lines = omega arith;
-      start = mul-le-mul b (g .wide);
-      rooms = λ r h.
+      rows-above-le = omega arith;
+      start-le = mul-le-mul b (g .wide);
+      rows-fit = λ r h.
           let t : c * l .image .height + (l .top + y) + r + 1 ≤ n * l .image .height = omega (arith, g .down, f .down, suc-mul c (l .image .height), mul-le-mul-right (l .image .height) p) in
           omega (arith, f .set, g .across, f .across, add-mul (c * l .image .height + (l .top + y)) r (l .image .width), add-mul (c * l .image .height + (l .top + y) + r) 1 (l .image .width), mul-le-mul-right (l .image .width) t);
     }
@@ -76,8 +76,8 @@ abbrev pub firstAt : Layout → Rect → ℕ
 firstAt l q = (l .top + q .y) * l .image .width + (l .left + q .x)
 
 pub record SourceRoom (l : Layout) (n : ℕ) (q : Rect) (len : ℕ) : Type 0 where
-  pub start : (l .top + q .y) * l .image .width ≤ 268435456
-  pub size : l .image .height * l .image .width ≤ 268435456
+  pub start-le : (l .top + q .y) * l .image .width ≤ 268435456
+  pub plane-le : l .image .height * l .image .width ≤ 268435456
   pub lies : Lies (firstAt l q) (l .image .width) (l .image .height * l .image .width) n (q .rows) (q .cols) len
 
 pub source-room : (l : Layout) (n : ℕ) (q : Rect) (len : ℕ) → RectFits l n q len → SourceRoom l n q len
@@ -85,9 +85,9 @@ source-room l n q len f =
     let g = f .layout in
     let t : l .top + q .y ≤ 16384 = omega (arith, g .down, g .high, f .down) in
     record {
-      start = mul-le-mul t (g .wide);
-      size = mul-le-mul (g .high) (g .wide);
-      lies = λ c r C R. rw (start-plane l (q .x) (q .y) _ _ c refl refl) (plane-room l n c q len f C .rooms r R);
+      start-le = mul-le-mul t (g .wide);
+      plane-le = mul-le-mul (g .high) (g .wide);
+      lies = λ c r C R. rw (start-plane l (q .x) (q .y) _ _ c refl refl) (plane-room l n c q len f C .rows-fit r R);
     }
 
 -- ---- the code's tests
@@ -113,20 +113,20 @@ module _ (l : Layout) (n : ℕ) (q : Rect) (len : ℕ) where
       let t = and-second (leb (q .x + q .cols) (l .width)) lies p in
       record {
         layout = s .layout;
-        planes = s .planes;
+        planes-le = s .planes;
         across = leb-true _ _ (and-first (leb (q .x + q .cols) (l .width)) lies p);
         down = leb-true _ _ (and-first (leb (q .y + q .rows) (l .height)) (leb 1 (q .rows)) t);
-        some = leb-true _ _ (and-second (leb (q .y + q .rows) (l .height)) (leb 1 (q .rows)) t);
+        rows-pos = leb-true _ _ (and-second (leb (q .y + q .rows) (l .height)) (leb 1 (q .rows)) t);
         set = s .size;
       }
 
   pub rect-true : RectFits l n q len → rectFits l n q len ≡ true
   rect-true f =
       rw (
-        set-true l n len (record { layout = f .layout; planes = f .planes; size = f .set }),
+        set-true l n len (record { layout = f .layout; planes = f .planes-le; size = f .set }),
         le-leb (q .x + q .cols) (l .width) (f .across),
         le-leb (q .y + q .rows) (l .height) (f .down),
-        le-leb 1 (q .rows) (f .some),
+        le-leb 1 (q .rows) (f .rows-pos),
       )
 
 module _ (l : Layout) (n : ℕ) (q : Rect) (src d : List Float) where

@@ -12,7 +12,7 @@ use Rattle.planes.specs.Rect.{planesFill}
 use Rattle.planes.specs.Band.{inner, setFits}
 use Rattle.planes.specs.Fits.{LayoutFits}
 use Rattle.epf_rects.specs.declared.Rect.{Rect}
-use Rattle.epf_sizes.specs.Sizes.{tileLength, tilePlane}
+use Rattle.epf_sizes.specs.Sizes.{tileRows, stride, tilePlane, tileLength}
 
 -- ---- the definitions
 
@@ -32,10 +32,10 @@ rectFits l n q len = setFits l n len && (leb (q .x + q .cols) (l .width) && (leb
 unfoldable pub copiedRect : Layout → ℕ → Rect → List Float → List Float → List Float
 copiedRect l n q src d = cond (rectFits l n q (length d) && eqb (length src) (length d)) (rectFilled l n q (λ c i r. inner l src c (q .x + i) (q .y + r)) d) d
 
--- the set after storing a tile of three planes of 8 rows of 64 columns; unchanged if the tile, the rectangle or the set do not fit
+-- the set after storing a tile of three planes; unchanged if the tile, the rectangle or the set do not fit
 unfoldable pub storedTile : Layout → ℕ → Rect → List Float → List Float → List Float
 storedTile l n q tile d =
-    cond (rectFits l n q (length d) && (eqb (length tile) tileLength && (leb (q .rows) 8 && leb (q .cols) 64))) (rectFilled l n q (taken tile 0 64 tilePlane) d) d
+    cond (rectFits l n q (length d) && (eqb (length tile) tileLength && (leb (q .rows) tileRows && leb (q .cols) stride))) (rectFilled l n q (taken tile 0 stride tilePlane) d) d
 
 -- ---- what the loops require
 
@@ -45,8 +45,8 @@ Lies at step plane planes rows cols len = (c r : ℕ) → c < planes → r < row
 
 pub record RectFits (l : Layout) (n : ℕ) (q : Rect) (len : ℕ) : Type 0 where
   pub layout : LayoutFits l
-  pub planes : n ≤ 3
+  pub planes-le : n ≤ 3
   pub across : q .x + q .cols ≤ l .width
   pub down : q .y + q .rows ≤ l .height
-  pub some : 0 < q .rows
+  pub rows-pos : 0 < q .rows
   pub set : len ≡ n * l .image .height * l .image .width

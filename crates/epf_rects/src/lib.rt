@@ -7,7 +7,6 @@ use planes::Layout;
 use planes::copy_run;
 use planes::set_fits;
 ghost use mathlib.Core.Path.{_≡_};
-ghost use mathlib.Core.Bool.{Bool};
 ghost use Prim.Native.Nat.{ℕ, _+_, _*_, _<_, _≤_};
 ghost use lib.ListN.{length, getD};
 ghost use lib.Ieee.{nan};
@@ -35,7 +34,8 @@ fn store_rows(
 )
     requires { ⌜ ((r : ℕ) → r < rows → at + r * stride + n ≤ length (now dst)) ⌝ }
     requires { ⌜ ((r : ℕ) → r < rows → from + r * step + n ≤ length (now src)) ⌝ }
-    ensures { λ _. ⌜ now (dst .exit) ≡ rowsFill (now (dst .entry)) at stride n rows (λ (r : ℕ) (i : ℕ). getD (now (src .entry)) (from + r * step + i) nan) ⌝ }
+    ensures { λ _. ⌜ now (dst .exit) ≡ rowsFill (now (dst .entry)) at stride n rows
+        (λ (r : ℕ) (i : ℕ). getD (now (src .entry)) (from + r * step + i) nan) ⌝ }
 {
     let mut r = 0;
     while r < rows {
@@ -57,7 +57,8 @@ fn store_planes(
 )
     requires { ⌜ RectFits l n rect (length (now dst)) ⌝ }
     requires { ⌜ Lies from step plane n (rect .rows) (rect .cols) (length (now src)) ⌝ }
-    ensures { λ _. ⌜ now (dst .exit) ≡ rectFilled l n rect (taken (now (src .entry)) from step plane) (now (dst .entry)) ⌝ }
+    ensures { λ _. ⌜ now (dst .exit) ≡ rectFilled l n rect (taken (now (src .entry)) from step plane)
+        (now (dst .entry)) ⌝ }
 {
     let stride = l.image.width;
     let height = l.image.height;

@@ -1,7 +1,19 @@
--- Sizes of a tile and of the arrays computed for it. Rows lie 64 samples apart, in a tile and in a window.
+-- Sizes of a tile and of the arrays computed for it, as in src/lib.rt.
 use Prim.Native.Nat.{ℕ}
 
--- a tile's plane: 8 rows
+-- the columns of a tile that are computed
+abbrev pub lanes : ℕ
+lanes = 56
+
+-- the largest number of rows of a tile
+abbrev pub tileRows : ℕ
+tileRows = 8
+
+-- the distance from one row to the next, in a tile and in a window
+abbrev pub stride : ℕ
+stride = 64
+
+-- a tile's plane
 abbrev pub tilePlane : ℕ
 tilePlane = 512
 
@@ -9,7 +21,11 @@ tilePlane = 512
 abbrev pub tileLength : ℕ
 tileLength = 1536
 
--- a window's plane: 14 rows
+-- the rows of a window
+abbrev pub windowRows : ℕ
+windowRows = 14
+
+-- a window's plane
 abbrev pub windowPlane : ℕ
 windowPlane = 896
 
@@ -25,6 +41,10 @@ windowCentre = 196
 abbrev pub fieldsLength : ℕ
 fieldsLength = 5376
 
--- the weights of a row: 64 for each of at most twelve neighbours
+-- the weights of a row: a stride for each of at most twelve neighbours
 abbrev pub weightsLength : ℕ
 weightsLength = 768
+
+-- the longest side of a region (Specification 4.1), `limits::MAX_SIDE`
+abbrev pub maxSide : ℕ
+maxSide = 16384

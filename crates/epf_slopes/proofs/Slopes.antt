@@ -49,6 +49,11 @@ module _ (sigmas : List Float) (first blocks : ℕ) (scale edge : Float) (d : Li
   unfolding slopesOf
   slopes-done h k = rw (le-leb blocks 7 h, le-leb (first + blocks) (length sigmas) k)
 
+  -- both kinds of slopes are stored
+  pub slopes-stored : (a b : List Float) → blocks ≤ 7 → first + blocks ≤ length sigmas → a ≡ fill d 0 (blocks * 8) (slopeAt sigmas first scale edge 1)
+      → b ≡ fill a 64 (blocks * 8) (slopeAt sigmas first scale edge 0) → b ≡ slopesOf sigmas first blocks scale edge d
+  slopes-stored a b h k ea eb = eb ∙ rw ea (sym (slopes-done h k))
+
 pub sloped : (sigmas d b : List Float) (first blocks : ℕ) (scale edge : Float) → blocks ≤ 7 → first + blocks ≤ length sigmas → length d ≡ 128
     → b ≡ slopesOf sigmas first blocks scale edge d → Sloped sigmas first blocks scale edge b
 sloped sigmas d b first blocks scale edge few room len e =
@@ -56,7 +61,7 @@ sloped sigmas d b first blocks scale edge few room len e =
     let la : length a ≡ 128 = length-fill d 0 (blocks * 8) _ ∙ len in
     let eb : b ≡ fill a 64 (blocks * 8) (slopeAt sigmas first scale edge 0) = e ∙ slopes-done sigmas first blocks scale edge d few room in
     record {
-      long = ap length eb ∙ length-fill a 64 (blocks * 8) _ ∙ la;
+      slopes-length = ap length eb ∙ length-fill a 64 (blocks * 8) _ ∙ la;
       inner = λ i h. rw eb (fill-before a 64 (blocks * 8) _ (0 + i) (omega arith) ∙ fill-at d 0 (blocks * 8) _ i (omega arith) h);
       outer = λ i h. rw eb (fill-at a 64 (blocks * 8) _ i (omega arith) h);
     }

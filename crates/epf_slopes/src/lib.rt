@@ -10,6 +10,7 @@ ghost use lib.ListN.{length};
 ghost use Rattle.planes.specs.Samples.{_⊗_};
 ghost use Rattle.planes.specs.Fill.{fill};
 ghost use Rattle.epf_step.specs.Steps.{multiplier as multiplierOf};
+ghost use Rattle.epf_slopes.specs.Slopes.{block, tileBlocks, slopeColumns, slopesLength};
 ghost use Rattle.epf_slopes.specs.Slopes.{slopeAt, firstSlope, slopesOf};
 
 // The largest number of blocks in a tile.
@@ -44,8 +45,8 @@ fn block_slopes(
     edge: f32,
     row: usize,
 )
-    requires { ⌜ at + 8 ≤ 128 ⌝ }
-    ensures { λ _. ⌜ now (slopes .exit) ≡ fill (now (slopes .entry)) at 8
+    requires { ⌜ at + block ≤ slopesLength ⌝ }
+    ensures { λ _. ⌜ now (slopes .exit) ≡ fill (now (slopes .entry)) at block
         (λ (i : ℕ). slope ⊗ multiplierOf scale edge row i) ⌝ }
 {
     let mut i = 0;
@@ -66,8 +67,8 @@ fn row_slopes(
     edge: f32,
     row: usize,
 )
-    requires { ⌜ (at ≤ 64) × (blocks ≤ 7) × (first + blocks ≤ length (now sigmas)) ⌝ }
-    ensures { λ _. ⌜ now (slopes .exit) ≡ fill (now (slopes .entry)) at (blocks * 8)
+    requires { ⌜ (at ≤ slopeColumns) × (blocks ≤ tileBlocks) × (first + blocks ≤ length (now sigmas)) ⌝ }
+    ensures { λ _. ⌜ now (slopes .exit) ≡ fill (now (slopes .entry)) at (blocks * block)
         (slopeAt (now (sigmas .entry)) first scale edge row) ⌝ }
 {
     let mut b = 0;

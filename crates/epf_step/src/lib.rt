@@ -2,7 +2,8 @@
 ghost use mathlib.Core.Path.{_≡_};
 ghost use lib.ListN.{length};
 ghost use Rattle.planes.specs.Samples.{_⊘_};
-ghost use Rattle.epf_step.specs.Steps.{kernel, positive as positiveOf, falloff, weightBy, copied as copiedOf, border, multiplier as multiplierOf};
+ghost use Rattle.epf_step.specs.Steps.{kernel, positive as positiveOf, falloff, weightBy};
+ghost use Rattle.epf_step.specs.Steps.{copied as copiedOf, border, multiplier as multiplierOf};
 ghost use Rattle.epf_step.specs.Bounds.{WeightBounded};
 
 // Steps are 0 to 2.

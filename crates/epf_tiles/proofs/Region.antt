@@ -17,11 +17,12 @@ use Rattle.planes.specs.Band.{setFits}
 use Rattle.planes.specs.Fits.{LayoutFits}
 use Rattle.planes.proofs.Room.{set-facts, set-true}
 use Rattle.frame.specs.Sizes.{blocksAlong}
-use Rattle.epf_rects.specs.Rects.{RectFits}
+use Rattle.epf_rects.specs.declared.Rect.{Rect}
+use Rattle.epf_tiles.specs.declared.Pass.{Pass}
 use Rattle.epf_tiles.specs.declared.Step.{Step}
-use Rattle.epf_tiles.specs.Tile.{sigmaStart, TileFits, stepOver}
+use Rattle.epf_tiles.specs.Tile.{sigmaStart, TileInPass, stepOver}
 use Rattle.epf_tiles.specs.Blocks.{blockColumns, blockRows}
-use Rattle.epf_tiles.specs.Region.{RegionFits, StripFits, regionFits, regionOf}
+use Rattle.epf_tiles.specs.Region.{RegionFits, PassFits, StripFits, regionFits, regionOf}
 
 -- no columns, no rows
 rows-empty : (d : List Float) (at stride m : ℕ) (v : ℕ → ℕ → Float) → d ≡ rowsFill d at stride 0 m v
@@ -42,26 +43,38 @@ rows-none w h left n top v d (suc k) = rows-none w h left n top v d k
 pub rows-start : (w h left n top y : ℕ) (v : Picture) (d : List Float) (k : ℕ) → d ≡ planesFill w h left n top (y - y) v d k
 rows-start w h left n top y v d k = let z : y - y ≡ 0 = omega arith in rw z (rows-none w h left n top v d k)
 
-module _ (l : Layout) (n : ℕ) (s : Step) (top len count y rows x cols : ℕ) (fits : RegionFits l n s top len count) (strip : StripFits l y rows) where
-  pub tile-fits : x < l .width → x % 8 ≡ 0 → cols ≡ min (l .width - x) 56 → TileFits l n (record { x = x; y = y; rows = rows; cols = cols })
+module _ (p : Pass) (src len count y rows x cols : ℕ) (passes : PassFits p src len count) (strip : StripFits (p .layout) y rows) where
+  abbrev l : Layout
+  l = p .layout
+
+  abbrev fits : RegionFits l (p .planes) (p .settings) (p .top) len count
+  fits = passes .region
+
+  abbrev tileRect : Rect
+  tileRect = record { x = x; y = y; rows = rows; cols = cols }
+
+  pub tile-fits : x < l .width → x % 8 ≡ 0 → cols ≡ min (l .width - x) 56 → TileInPass p tileRect src len
   tile-fits h m e = record {
-    few = fits .planes;
-    start = m;
-    rows-in = strip .rows-in;
-    some = strip .some;
-    wide = omega arith;
-    more = omega arith;
-    across = omega arith;
-    down = strip .inside;
+    tile = record {
+      planes-le = fits .planes-le;
+      x-aligned = m;
+      rows-le = strip .rows-le;
+      rows-pos = strip .rows-pos;
+      cols-le = omega arith;
+      cols-pos = omega arith;
+      across = omega arith;
+      down = strip .inside;
+    };
+    room = record { layout = fits .layout; planes-le = fits .planes-le; across = omega arith; down = strip .inside; rows-pos = strip .rows-pos; set = fits .set };
+    same = passes .same;
+    step-lt = fits .step-lt;
+    top-le = fits .top-le;
   }
 
-  pub tile-room : x < l .width → cols ≡ min (l .width - x) 56 → RectFits l n (record { x = x; y = y; rows = rows; cols = cols }) len
-  tile-room h e = record { layout = fits .layout; planes = fits .planes; across = omega arith; down = strip .inside; some = strip .some; set = fits .set }
-
   -- the strip's sigmas
-  pub strip-sigmas : (y / 8 * blockColumns l + blockColumns l ≤ count) × (y / 8 * blockColumns l ≤ 4194304)
+  strip-sigmas : (y / 8 * blockColumns l + blockColumns l ≤ count) × (y / 8 * blockColumns l ≤ 4194304)
   strip-sigmas =
-      let a : y / 8 + 1 ≤ blockRows l = omega (arith, strip .inside, strip .some) in
+      let a : y / 8 + 1 ≤ blockRows l = omega (arith, strip .inside, strip .rows-pos) in
       let b : y / 8 ≤ 2048 = omega (arith, strip .inside, fits .layout .down, fits .layout .high) in
       let w : blockColumns l ≤ 2048 = omega (arith, fits .layout .across, fits .layout .wide) in
       let z : y / 8 + 1 ≡ suc (y / 8) = omega arith in
@@ -92,7 +105,13 @@ strip-below l n p d a b from y rows long lay h deep ea eb =
     (λ c i r _ _ _. refl) (λ c i r _ _ _. let z : from + (y - from + r) ≡ y + r = omega arith in rw z))
 
 pub strip-fits : (l : Layout) (y to rows : ℕ) → y < to → to ≤ l .height → rows ≡ min (to - y) (8 - y % 8) → StripFits l y rows
-strip-fits l y to rows h d e = record { rows-in = omega arith; some = omega arith; inside = omega arith }
+strip-fits l y to rows h d e = record { rows-le = omega arith; rows-pos = omega arith; inside = omega arith }
+
+pub pass-long : {p : Pass} {src a b count : ℕ} → a ≡ b → PassFits p src b count → PassFits p src a count
+pass-long e f = rw e f
+
+pub tile-long : {p : Pass} {q : Rect} {src a b : ℕ} → a ≡ b → TileInPass p q src b → TileInPass p q src a
+tile-long e f = rw e f
 
 pub region-long : {l : Layout} {n : ℕ} {s : Step} {top a b count : ℕ} → a ≡ b → RegionFits l n s top b count → RegionFits l n s top a count
 region-long e f = rw e f
@@ -127,11 +146,11 @@ module _ (n : ℕ) (l : Layout) (s : Step) (top from to : ℕ) (sigmas src dst :
   no-rows h = kept (simp (lt-leb to (l .height) h, and-false))
 
   pub region-fits : setFits l n (length src) ≡ true → setFits l n (length dst) ≡ true → length sigmas ≡ blockRows l * blockColumns l → s .step ≤ 2 → top ≤ 4294967296
-      → RegionFits l n s top (length dst) (length sigmas) × (length src ≡ length dst)
+      → PassFits (record { layout = l; planes = n; settings = s; top = top }) (length src) (length dst) (length sigmas)
   region-fits a b c d e =
       let u = set-facts l n (length src) a in
       let v = set-facts l n (length dst) b in
-      (record { layout = u .layout; planes = u .planes; set = v .size; sigmas = c; low = omega arith; place = e }, u .size ∙ sym (v .size))
+      record { region = record { layout = u .layout; planes-le = u .planes; set = v .size; sigmas = c; step-lt = omega arith; top-le = e }; same = u .size ∙ sym (v .size) }
 
   pub region-done : RegionFits l n s top (length dst) (length sigmas) → length src ≡ length dst → from ≤ to → to ≤ l .height
       → regionOf n l s top from to sigmas src dst
@@ -139,20 +158,20 @@ module _ (n : ℕ) (l : Layout) (s : Step) (top from to : ℕ) (sigmas src dst :
   unfolding regionOf
   region-done f e p q =
       rw (
-        set-true l n (length src) (record { layout = f .layout; planes = f .planes; size = e ∙ f .set }),
-        set-true l n (length dst) (record { layout = f .layout; planes = f .planes; size = f .set }),
+        set-true l n (length src) (record { layout = f .layout; planes = f .planes-le; size = e ∙ f .set }),
+        set-true l n (length dst) (record { layout = f .layout; planes = f .planes-le; size = f .set }),
         eq-eqb (length sigmas) (blockRows l * blockColumns l) (f .sigmas),
-        lt-ltb (s .step) 3 (f .low),
-        le-leb top 4294967296 (f .place),
+        lt-ltb (s .step) 3 (f .step-lt),
+        le-leb top 4294967296 (f .top-le),
         le-leb from to p,
         le-leb to (l .height) q,
       )
 
 -- the blocks of a filter region, in machine integers
 pub record BlocksRoom (l : Layout) : Type 0 where
-  pub high : l .height ≤ 16384
-  pub wide : l .width ≤ 16384
-  pub count : blockRows l * blockColumns l ≤ 4198401
+  pub height-le : l .height ≤ 16384
+  pub width-le : l .width ≤ 16384
+  pub count-le : blockRows l * blockColumns l ≤ 4198401
 
 pub blocks-room : (l : Layout) → LayoutFits l → BlocksRoom l
 blocks-room l f =
@@ -160,4 +179,4 @@ blocks-room l f =
     let w : l .width ≤ 16384 = omega (arith, f .across, f .wide) in
     let a : blockRows l ≤ 2049 = omega arith in
     let b : blockColumns l ≤ 2049 = omega arith in
-    record { high = h; wide = w; count = mul-le-mul a b }
+    record { height-le = h; width-le = w; count-le = mul-le-mul a b }

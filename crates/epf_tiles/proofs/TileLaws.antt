@@ -39,9 +39,10 @@ use Rattle.epf_lanes.proofs.Lanes.{lanes-done}
 use Rattle.epf_lanes.proofs.Meaning.{lane-means}
 use Rattle.epf_interior.specs.Inside.{liesInside, Inside, insideOf, insideFilled, cornerOf}
 use Rattle.epf_interior.proofs.Inside.{inside-facts, inside-done, beside, beside-alike, lane-means as inside-means}
+use Rattle.epf_tiles.specs.declared.Pass.{Pass}
 use Rattle.epf_tiles.specs.declared.Step.{Step}
 use Rattle.epf_tiles.specs.Blocks.{blockColumns, sigmaOf}
-use Rattle.epf_tiles.specs.Tile.{stepOver, TileFits, sigmaStart, sigmaFirst, sigmaIn, mixed, Scratch, Filtered, FilteredBy, Restored}
+use Rattle.epf_tiles.specs.Tile.{stepOver, TileFits, TileInPass, sigmaStart, sigmaFirst, sigmaIn, mixed, Scratch, tileStepped, Filtered, FilteredBy, Restored}
 
 -- ---- a lane sees the samples of the definition
 
@@ -52,7 +53,7 @@ shifted z m r (negsuc b) h l =
     let k : suc b ≤ m = omega arith in
     rw (le-ltb m (suc b) k) (offset-same z (suc b) (z + (m - suc b)) m (omega arith), omega arith, omega arith)
 
-module _ (l : Layout) (src win d : List Float) (n step x y rows cols : ℕ) (few : n ≤ 3) (low : step < 3) (high : rows ≤ 8) (wide : cols ≤ 56) (len : length d ≡ 2688)
+module _ (l : Layout) (src win d : List Float) (n step x y rows cols : ℕ) (planes-le : n ≤ 3) (step-lt : step < 3) (rows-le : rows ≤ 8) (cols-le : cols ≤ 56) (len : length d ≡ 2688)
     (ew : win ≡ planesFill 64 14 0 (cols + 8) step (rows + 6 - 2 * step) (λ c j i. windowSample l src x y c j (step + i)) d n) where
   held : (c j i : ℕ) → c < n → j < cols + 8 → step ≤ i → i < rows + 6 - step
       → getD win ((c * 14 + i) * 64 + j) nan ≡ inner l src c (mirror (subℕ (x + j) 4) (l .width)) (mirror (subℕ (y + i) 3) (l .height))
@@ -88,8 +89,8 @@ module _ (l : Layout) (n : ℕ) (s : Step) (top : ℕ) (sigmas src : List Float)
   -- the sigma of column i
   sigma-is : (r i : ℕ) → r < q .rows → i < q .cols → sigmaIn l q sigmas i ≡ sigmaOf (blockColumns l) sigmas ((x + i) / 8) ((y + r) / 8)
   sigma-is r i R I =
-      let a : (y + r) / 8 ≡ y / 8 = omega (arith, fits .rows-in) in
-      let b : (x + i) / 8 ≡ x / 8 + i / 8 = omega (arith, fits .start) in
+      let a : (y + r) / 8 ≡ y / 8 = omega (arith, fits .rows-le) in
+      let b : (x + i) / 8 ≡ x / 8 + i / 8 = omega (arith, fits .x-aligned) in
       let c : sigmaStart l x y + i / 8 ≡ y / 8 * blockColumns l + (x / 8 + i / 8) = omega arith in
       rw (a, b, c)
 
@@ -110,7 +111,7 @@ module _ (l : Layout) (n : ℕ) (s : Step) (top : ℕ) (sigmas src : List Float)
       let st = s .step in
       let same = epf-same n (reach st) _ _ alike (scaled n (s .scales)) (kernel st) (dists st) (sigmaIn l q sigmas i) (factor r i) (scaled-below n (s .scales)) (steps-near st low) (s .limit) c C in
       let row : top + y + r ≡ top + (y + r) = omega arith in
-      let by : factor r i ≡ multiplier (s .scale) (s .edge) (top + (y + r)) (x + i) = rw row (multiplier-same (s .scale) (s .edge) (top + (y + r)) (top + (y + r)) i (x + i) refl (omega (arith, fits .start))) in
+      let by : factor r i ≡ multiplier (s .scale) (s .edge) (top + (y + r)) (x + i) = rw row (multiplier-same (s .scale) (s .edge) (top + (y + r)) (top + (y + r)) i (x + i) refl (omega (arith, fits .x-aligned))) in
       divided (s .limit) uncopied ∙ same ∙ rw (sigma-is r i R I, by)
     where
       divided : (limit : Float) → copied (sigmaIn l q sigmas i) limit ≡ false
@@ -128,11 +129,11 @@ module _ (l : Layout) (n : ℕ) (s : Step) (top : ℕ) (sigmas src : List Float)
     lane-is win w₀ e e₀ low lw le ew ee c r i C R I uncopied =
         let st = s .step in
         let cs = scaled n (s .scales) in
-        let small : q .rows ≤ 8 = omega (arith, fits .rows-in) in
+        let small : q .rows ≤ 8 = omega (arith, fits .rows-le) in
         lane-means st cs e slopes win (firstSlope (top + y + r)) c r i (sigmaIn l q sigmas i) (factor r i)
-        (λ k h. rw ee (neighbour-at st cs win (q .rows) small e₀ k (r * 64 + i) h (omega (arith, fits .wide)) le))
+        (λ k h. rw ee (neighbour-at st cs win (q .rows) small e₀ k (r * 64 + i) h (omega (arith, fits .cols-le)) le))
         (slope-of sigmas slopes (sigmaFirst l q) (blocksAlong (q .cols)) (s .scale) (s .edge) (top + y + r) i steep (omega arith))
-        ∙ reader-is (seen win (r * 64 + i)) c r i low C R I uncopied (windows-alike l src win w₀ n st x y (q .rows) (q .cols) (fits .few) low small (fits .wide) lw ew r i R I)
+        ∙ reader-is (seen win (r * 64 + i)) c r i low C R I uncopied (windows-alike l src win w₀ n st x y (q .rows) (q .cols) (fits .planes-le) low small (fits .cols-le) lw ew r i R I)
 
     -- the same from the planes, if the tile has samples on every side
     pub inside-is : n ≡ 3 → s .step ≡ 2 → Inside l q → (c r i : ℕ) → c < n → r < q .rows → i < q .cols → copied (sigmaIn l q sigmas i) (s .limit) ≡ false
@@ -200,7 +201,7 @@ module _ (l : Layout) (n : ℕ) (limit : Float) (sigmas src : List Float) (first
       go false u = (ef ∙ rw u) ∙ mixed-kept l n limit sigmas src first q o e a b u (h o e fits p)
 
   pub part-fits : (b m len : ℕ) → RectFits l n q len → b * 8 < q .cols → m ≡ min (q .cols - b * 8) 8 → RectFits l n (record { x = q .x + b * 8; y = q .y; rows = q .rows; cols = m }) len
-  part-fits b m len f some em = record { layout = f .layout; planes = f .planes; across = omega (arith, f .across); down = f .down; some = f .some; set = f .set }
+  part-fits b m len f some em = record { layout = f .layout; planes-le = f .planes-le; across = omega (arith, f .across); down = f .down; rows-pos = f .rows-pos; set = f .set }
 
   pub restored-end : (d a : List Float) (b k : ℕ) → b ≡ k → Restored l n limit sigmas src first q b d a → Restored l n limit sigmas src first q k d a
   restored-end d a b k e h = rw (← e) h
@@ -213,80 +214,98 @@ pub block-copied : (k r : Bool) (p d a : List Float) → r ≡ k → r ≡ true 
 block-copied k r p d a e f g = let z : k ≡ true = sym e ∙ f in rw z g
 
 -- ---- how a tile is computed
-module _ (l : Layout) (n : ℕ) (s : Step) (top : ℕ) (src : List Float) (q : Rect) (fits : TileFits l n q) (d : List Float) (room : RectFits l n q (length d)) (same : length src ≡ length d) where
-  pub window-fits : s .step < 3 → WindowFits l n (length src) (q .x) (q .y) (s .step) (q .rows + 6 - 2 * s .step) (q .cols + 8)
-  window-fits low = record {
+module _ (p : Pass) (src : List Float) (q : Rect) (d : List Float) (fit : TileInPass p q (length src) (length d)) where
+  abbrev l : Layout
+  l = p .layout
+
+  abbrev n : ℕ
+  n = p .planes
+
+  abbrev s : Step
+  s = p .settings
+
+  abbrev top : ℕ
+  top = p .top
+
+  abbrev fits : TileFits l n q
+  fits = fit .tile
+
+  abbrev room : RectFits l n q (length d)
+  room = fit .room
+
+  window-fits : WindowFits l n (length src) (q .x) (q .y) (s .step) (q .rows + 6 - 2 * s .step) (q .cols + 8)
+  window-fits = record {
     layout = room .layout;
-    planes = room .planes;
-    source = same ∙ room .set;
-    col = omega (arith, fits .across, fits .more);
-    row = omega (arith, fits .down, fits .some);
-    end = omega (arith, fits .rows-in);
-    least = omega arith;
-    most = omega (arith, fits .wide);
+    planes-le = room .planes-le;
+    source = fit .same ∙ room .set;
+    x-lt = omega (arith, fits .across, fits .cols-pos);
+    y-lt = omega (arith, fits .down, fits .rows-pos);
+    rows-le = omega (arith, fits .rows-le, fit .step-lt);
+    cols-ge = omega arith;
+    cols-le = omega (arith, fits .cols-le);
   }
 
   small : q .rows ≤ 8
-  small = omega (arith, fits .rows-in)
+  small = omega (arith, fits .rows-le)
 
   -- from its windows
-  module _ (low : s .step < 3) (w₀ e₀ o₀ slopes win e out : List Float) (z : Scratch w₀ e₀ slopes o₀) (ew : win ≡ loaded l n src (q .x) (q .y) (s .step) (q .rows + 6 - 2 * s .step) (q .cols + 8) w₀)
+  module _ (w₀ e₀ o₀ slopes win e out : List Float) (z : Scratch w₀ e₀ slopes o₀) (ew : win ≡ loaded l n src (q .x) (q .y) (s .step) (q .rows + 6 - 2 * s .step) (q .cols + 8) w₀)
       (ee : e ≡ distancesOf (s .step) n (s .scales) win (q .rows) e₀) (eo : out ≡ lanesOf (s .step) e slopes win n (top + q .y) (q .rows) o₀) where
     win-is : win ≡ planesFill 64 14 0 (q .cols + 8) (s .step) (q .rows + 6 - 2 * s .step) (λ c j i. windowSample l src (q .x) (q .y) c j (s .step + i)) w₀ n
-    win-is = ew ∙ window-loaded l n src (q .x) (q .y) (s .step) (q .rows + 6 - 2 * s .step) (q .cols + 8) w₀ (window-fits low)
+    win-is = ew ∙ window-loaded l n src (q .x) (q .y) (s .step) (q .rows + 6 - 2 * s .step) (q .cols + 8) w₀ window-fits
 
     e-is : e ≡ fieldsFill (s .step) (scaled n (s .scales)) win (q .rows) e₀ (half (s .step))
-    e-is = ee ∙ distances-done (s .step) n (s .scales) win (q .rows) e₀ (fits .few) (fits .some) small
+    e-is = ee ∙ distances-done (s .step) n (s .scales) win (q .rows) e₀ (fits .planes-le) (fits .rows-pos) small
 
     out-is : out ≡ planesFill 64 8 0 56 0 (q .rows) (λ c i r. laneOf (s .step) e slopes win (firstSlope (top + q .y + r)) c i r) o₀ n
-    out-is = eo ∙ lanes-done (s .step) e slopes win n (top + q .y) (q .rows) o₀ (z .tile) (fits .few) small
+    out-is = eo ∙ lanes-done (s .step) e slopes win n (top + q .y) (q .rows) o₀ (z .lanes-length) (fits .planes-le) small
 
     out-long : length out ≡ 1536
-    out-long = rw out-is (length-planesFill 64 8 0 56 0 (q .rows) _ (omega arith) (omega (arith, small)) o₀ n ∙ z .tile)
+    out-long = rw out-is (length-planesFill 64 8 0 56 0 (q .rows) _ (omega arith) (omega (arith, small)) o₀ n ∙ z .lanes-length)
 
     pub scratch-kept : Scratch win e slopes out
     scratch-kept = record {
-      windows = rw win-is (length-planesFill 64 14 0 (q .cols + 8) (s .step) (q .rows + 6 - 2 * s .step) _ (omega (arith, fits .wide)) (omega (arith, small)) w₀ n ∙ z .windows);
-      far = rw e-is (length-fields (s .step) (scaled n (s .scales)) win (q .rows) small e₀ (half (s .step)) ∙ z .far);
-      steep = z .steep;
-      tile = out-long;
+      win-length = rw win-is (length-planesFill 64 14 0 (q .cols + 8) (s .step) (q .rows + 6 - 2 * s .step) _ (omega (arith, fits .cols-le)) (omega (arith, small)) w₀ n ∙ z .win-length);
+      fields-length = rw e-is (length-fields (s .step) (scaled n (s .scales)) win (q .rows) small e₀ (half (s .step)) ∙ z .fields-length);
+      slopes-length = z .slopes-length;
+      lanes-length = out-long;
     }
 
     lane-at : (c r i : ℕ) → c < n → r < q .rows → i < q .cols → taken out 0 64 512 c i r ≡ laneOf (s .step) e slopes win (firstSlope (top + q .y + r)) c i r
     unfolding of
     lane-at c r i C R I =
         let k : 0 + c * 512 + r * 64 + i ≡ (c * 8 + (0 + r)) * 64 + (0 + i) = omega arith in
-        rw (k, out-is) (rect-at 64 8 0 56 0 (q .rows) (λ c i r. laneOf (s .step) e slopes win (firstSlope (top + q .y + r)) c i r) o₀ n c i r (omega arith) (omega (arith, small)) (omega (arith, z .tile, fits .few)) C (omega (arith, fits .wide)) R)
+        rw (k, out-is) (rect-at 64 8 0 56 0 (q .rows) (λ c i r. laneOf (s .step) e slopes win (firstSlope (top + q .y + r)) c i r) o₀ n c i r (omega arith) (omega (arith, small)) (omega (arith, z .lanes-length, fits .planes-le)) C (omega (arith, fits .cols-le)) R)
 
-    pub computed : (a : List Float) → a ≡ storedTile l n q out d → FilteredBy l n s top slopes src q d a
+    pub computed : (a : List Float) → a ≡ storedTile l n q out d → FilteredBy p slopes src q d a
     computed a ea sigmas steep = record {
       lanes = taken out 0 64 512;
-      stored = ea ∙ tile-stored l n q out d room out-long small (omega (arith, fits .wide));
-      right = λ c r i C R I u. lane-at c r i C R I ∙ lane-is l n s top sigmas src q fits slopes steep win w₀ e e₀ low (z .windows) (omega (arith, z .far)) win-is e-is c r i C R I u;
+      stored = ea ∙ tile-stored l n q out d room out-long small (omega (arith, fits .cols-le));
+      agrees = λ c r i C R I u. lane-at c r i C R I ∙ lane-is l n s top sigmas src q fits slopes steep win w₀ e e₀ (fit .step-lt) (z .win-length) (omega (arith, z .fields-length)) win-is e-is c r i C R I u;
     }
 
   -- from the planes
-  pub inside-filtered : (slopes a : List Float) → n ≡ 3 → s .step ≡ 2 → liesInside l q ≡ true → a ≡ insideFilled l (s .scales) slopes (top + q .y) q src d → FilteredBy l n s top slopes src q d a
+  pub inside-filtered : (slopes a : List Float) → n ≡ 3 → s .step ≡ 2 → liesInside l q ≡ true → a ≡ insideFilled l (s .scales) slopes (top + q .y) q src d → FilteredBy p slopes src q d a
   inside-filtered slopes a three two f ea sigmas steep = record {
     lanes = insideOf l src (s .scales) slopes (top + q .y) q;
-    stored = rw three (ea ∙ inside-done l (s .scales) slopes (top + q .y) q src d (rw three at room) same (omega (arith, fits .wide)) f);
-    right = inside-is l n s top sigmas src q fits slopes steep three two (inside-facts l q f);
+    stored = rw three (ea ∙ inside-done l (s .scales) slopes (top + q .y) q src d (rw three at room) (fit .same) (omega (arith, fits .cols-le)) f);
+    agrees = inside-is l n s top sigmas src q fits slopes steep three two (inside-facts l q f);
   }
 
   module _ (sigmas : List Float) where
     -- the slopes of its columns
     pub tile-sloped : (e slopes : List Float) → sigmaFirst l q + blocksAlong (q .cols) ≤ length sigmas → length e ≡ 128 → slopes ≡ slopesOf sigmas (sigmaFirst l q) (blocksAlong (q .cols)) (s .scale) (s .edge) e
         → Sloped sigmas (sigmaFirst l q) (blocksAlong (q .cols)) (s .scale) (s .edge) slopes
-    tile-sloped e slopes h k p = sloped sigmas e slopes (sigmaFirst l q) (blocksAlong (q .cols)) (s .scale) (s .edge) (omega (arith, fits .wide)) h k p
+    tile-sloped e slopes h k m = sloped sigmas e slopes (sigmaFirst l q) (blocksAlong (q .cols)) (s .scale) (s .edge) (omega (arith, fits .cols-le)) h k m
 
     -- with its copied blocks restored it equals the step
-    pub tile-done : (a b : List Float) → Filtered l n s top sigmas src q d a → Restored l n (s .limit) sigmas src (sigmaFirst l q) q (blocksAlong (q .cols)) a b
-        → b ≡ rectFilled l n q (λ c i r. stepOver n l s top sigmas src c (q .x + i) (q .y + r)) d
+    pub tile-done : (a b : List Float) → Filtered p sigmas src q d a → Restored l n (s .limit) sigmas src (sigmaFirst l q) q (blocksAlong (q .cols)) a b
+        → b ≡ tileStepped p q sigmas src d
     tile-done a b f g =
         mixed-end l n (s .limit) sigmas src (sigmaFirst l q) q (f .lanes) d b (blocksAlong (q .cols)) (λ c i r. stepOver n l s top sigmas src c (q .x + i) (q .y + r)) (omega arith)
-        (g (f .lanes) d room (f .stored)) (λ c r i C R I u. copied-is l n s top sigmas src q fits c r i R I u) (f .right)
+        (g (f .lanes) d room (f .stored)) (λ c r i C R I u. copied-is l n s top sigmas src q fits c r i R I u) (f .agrees)
 
     -- and so does the copied rectangle, if all its blocks are copied
     pub tile-copied : (a : List Float) → ((b : ℕ) → b < blocksAlong (q .cols) → copied (getD sigmas (sigmaFirst l q + b) nan) (s .limit) ≡ true) → a ≡ copiedRect l n q src d
-        → a ≡ rectFilled l n q (λ c i r. stepOver n l s top sigmas src c (q .x + i) (q .y + r)) d
-    tile-copied a h e = e ∙ rect-copied l n q src d room same ∙ planes-cong _ _ _ _ _ _ _ _ d n (λ c i r C I R. copied-is l n s top sigmas src q fits c r i R I (h (i / 8) (omega arith)))
+        → a ≡ tileStepped p q sigmas src d
+    tile-copied a h e = e ∙ rect-copied l n q src d room (fit .same) ∙ planes-cong _ _ _ _ _ _ _ _ d n (λ c i r C I R. copied-is l n s top sigmas src q fits c r i R I (h (i / 8) (omega arith)))

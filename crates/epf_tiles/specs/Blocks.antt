@@ -6,6 +6,10 @@ use lib.Ieee.{Float, nan}
 use Rattle.frame.specs.Sizes.{blocksAlong}
 use Rattle.planes.specs.declared.Layout.{Layout}
 
+-- rows and columns of a block
+abbrev pub blockSide : ℕ
+blockSide = 8
+
 -- blocks across the filter region
 abbrev pub blockColumns : Layout → ℕ
 blockColumns l = blocksAlong (l .width)

@@ -1,4 +1,5 @@
 // Rows of the filter region in strips, each within one row of blocks.
+use crate::Pass;
 use crate::Step;
 use crate::tile::blocks_of;
 use crate::tile::tile;
@@ -14,77 +15,57 @@ use limits::min;
 use planes::Layout;
 use planes::set_fits;
 ghost use mathlib.Core.Path.{_≡_};
-ghost use Prim.Native.Nat.{ℕ, _+_, _-_, _*_, _<_, _≤_};
+ghost use Prim.Native.Nat.{_-_, _≤_};
 ghost use lib.ListN.{length};
-ghost use Rattle.planes.specs.Rect.{planesFill};
-ghost use Rattle.epf_tiles.specs.Tile.{Scratch, stepOver};
-ghost use Rattle.epf_tiles.specs.Region.{RegionFits, StripFits, regionOf};
+ghost use Rattle.epf_tiles.specs.Tile.{Scratch};
+ghost use Rattle.epf_tiles.specs.Region.{PassFits, StripFits, rowsStepped, regionOf};
 
 // The top of a region, an i32, is below this, so row positions do not overflow.
 const MAX_TOP: usize = 4_294_967_296;
+
+// Rows y up to y + rows of the filter region.
+struct RowSpan {
+    y: usize,
+    rows: usize,
+}
 
 // Filters a strip of rows, tile by tile.
 fn strip(
     dst: &mut [f32],
     src: &[f32],
-    l: Layout,
-    n: usize,
-    s: Step,
+    pass: Pass,
     sigmas: &[f32],
-    top: usize,
-    y: usize,
-    rows: usize,
+    span: RowSpan,
     win: &mut [f32; WINDOWS],
     fields: &mut [f32; FIELDS],
     slopes: &mut [f32; SLOPES],
     lanes: &mut [f32],
 )
-    requires { ⌜ RegionFits l n s top (length (now dst)) (length (now sigmas)) × (length (now src) ≡ length (now dst))
-        × StripFits l y rows × Scratch (now win) (now fields) (now slopes) (now lanes) ⌝ }
-    ensures { λ _. ⌜ (now (dst .exit) ≡ planesFill (l .image .width) (l .image .height) (l .left) (l .width)
-        (l .top + y) rows (λ (c : ℕ) (i : ℕ) (r : ℕ). stepOver n l s top (now (sigmas .entry)) (now (src .entry)) c i
-        (y + r)) (now (dst .entry)) n) × Scratch (now (win .exit)) (now (fields .exit)) (now (slopes .exit))
-        (now (lanes .exit)) ⌝ }
+    requires { ⌜ PassFits pass (length (now src)) (length (now dst)) (length (now sigmas)) ⌝ }
+    requires { ⌜ StripFits (pass .layout) (span .y) (span .rows) ⌝ }
+    requires { ⌜ Scratch (now win) (now fields) (now slopes) (now lanes) ⌝ }
+    ensures { λ _. ⌜ (now (dst .exit) ≡ rowsStepped pass (span .y) (span .rows) (now (sigmas .entry))
+        (now (src .entry)) (now (dst .entry)))
+        × Scratch (now (win .exit)) (now (fields .exit)) (now (slopes .exit)) (now (lanes .exit)) ⌝ }
 {
+    let width = pass.layout.width;
+    let y = span.y;
+    let rows = span.rows;
     let mut x = 0;
-    while x < l.width {
-        let cols = min(l.width - x, LANES);
+    while x < width {
+        let cols = min(width - x, LANES);
         let rect = Rect { x, y, rows, cols };
-        tile(
-            dst,
-            src,
-            l,
-            n,
-            s,
-            sigmas,
-            top,
-            rect,
-            win,
-            fields,
-            slopes,
-            lanes,
-        );
+        tile(dst, src, pass, sigmas, rect, win, fields, slopes, lanes);
         x += cols;
     }
 }
 
 // Filters rows `from` up to `to`, strip by strip; it has the arrays that a tile is computed in.
-fn strips(
-    dst: &mut [f32],
-    src: &[f32],
-    l: Layout,
-    n: usize,
-    s: Step,
-    sigmas: &[f32],
-    top: usize,
-    from: usize,
-    to: usize,
-)
-    requires { ⌜ RegionFits l n s top (length (now dst)) (length (now sigmas)) × (length (now src) ≡ length (now dst))
-        × (from ≤ to) × (to ≤ l .height) ⌝ }
-    ensures { λ _. ⌜ now (dst .exit) ≡ planesFill (l .image .width) (l .image .height) (l .left) (l .width)
-        (l .top + from) (to - from) (λ (c : ℕ) (i : ℕ) (r : ℕ). stepOver n l s top (now (sigmas .entry))
-        (now (src .entry)) c i (from + r)) (now (dst .entry)) n ⌝ }
+fn strips(dst: &mut [f32], src: &[f32], pass: Pass, sigmas: &[f32], from: usize, to: usize)
+    requires { ⌜ PassFits pass (length (now src)) (length (now dst)) (length (now sigmas)) ⌝ }
+    requires { ⌜ (from ≤ to) × (to ≤ pass .layout .height) ⌝ }
+    ensures { λ _. ⌜ now (dst .exit) ≡ rowsStepped pass from (to - from) (now (sigmas .entry)) (now (src .entry))
+        (now (dst .entry)) ⌝ }
 {
     let mut win = [0.0; WINDOWS];
     let mut fields = [0.0; FIELDS];
@@ -93,16 +74,13 @@ fn strips(
     let mut y = from;
     while y < to {
         let rows = min(to - y, BLOCK - y % BLOCK);
+        let span = RowSpan { y, rows };
         strip(
             dst,
             src,
-            l,
-            n,
-            s,
+            pass,
             sigmas,
-            top,
-            y,
-            rows,
+            span,
             &mut win,
             &mut fields,
             &mut slopes,
@@ -149,5 +127,11 @@ pub fn filter_region(
     if l.height < to {
         return;
     }
-    strips(dst, src, l, n, s, sigmas, top, from, to);
+    let pass = Pass {
+        layout: l,
+        planes: n,
+        settings: s,
+        top,
+    };
+    strips(dst, src, pass, sigmas, from, to);
 }

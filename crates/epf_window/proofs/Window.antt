@@ -15,11 +15,13 @@ use Rattle.planes.specs.declared.Layout.{Layout}
 use Rattle.planes.specs.Sets.{of}
 use Rattle.planes.specs.Fill.{fill}
 use Rattle.planes.proofs.Fill.{fill-then}
-use Rattle.planes.specs.Rect.{rowsFill, planesFill}
+use Rattle.planes.specs.Rect.{rowsFill}
 use Rattle.planes.proofs.Rect.{planes-turn, rows-cong}
 use Rattle.planes.specs.Band.{inner, setFits}
 use Rattle.planes.proofs.Room.{set-facts, set-true, regionStart, region-index, plane-room}
-use Rattle.epf_window.specs.Window.{rowSample, planeSample, windowSample, windowFits, loaded, WindowFits, PlaneFits}
+use Rattle.epf_window.specs.declared.PlaneRegion.{PlaneRegion}
+use Rattle.epf_window.specs.declared.WindowPart.{WindowPart}
+use Rattle.epf_window.specs.Window.{rowSample, planeSample, partSample, windowSample, windowFits, windowFilled, loaded, WindowFits, PlaneFits}
 
 -- ---- a row: mirrored left of the region, copied inside it, mirrored right of it
 module _ (src : List Float) (row x w : ℕ) where
@@ -55,33 +57,37 @@ module _ (l : Layout) (src : List Float) (x y c : ℕ) where
   unfolding planeSample rowSample windowSample inner of
   plane-sample i j = ap (λ (k : ℕ). getD src k nan) (region-index l c (mirror (subℕ (x + j) 4) (l .width)) (mirror (subℕ (y + i) 3) (l .height)))
 
+-- the filter region in plane c
+abbrev pub planeRegion : Layout → ℕ → PlaneRegion
+planeRegion l c = record { start = regionStart l c; stride = l .image .width; width = l .width; height = l .height }
+
 -- an iteration of the loop over planes
-pub plane-next : (l : Layout) (src win a b : List Float) (x y top rows cols k at start : ℕ)
-    → a ≡ planesFill 64 14 0 cols top rows (λ c j i. windowSample l src x y c j (top + i)) win k → at ≡ (k * 14 + top) * 64 → start ≡ regionStart l k
-    → b ≡ rowsFill a at 64 cols rows (λ i j. planeSample src start (l .image .width) (l .width) (l .height) x y (top + i) j)
-    → b ≡ planesFill 64 14 0 cols top rows (λ c j i. windowSample l src x y c j (top + i)) win (k + 1)
-plane-next l src win a b x y top rows cols k at start p e f q =
-    let z : at ≡ (k * 14 + top) * 64 + 0 = omega arith in
-    planes-turn 64 14 0 cols top rows (λ c j i. windowSample l src x y c j (top + i)) win a b k p
-    (q ∙ rw (← z, f) (rows-cong a at 64 cols rows _ _ (λ i j r s. plane-sample l src x y k (top + i) j)))
+pub plane-next : (l : Layout) (src win a b : List Float) (p : WindowPart) (k : ℕ)
+    → a ≡ windowFilled l k src (p .x) (p .y) (p .top) (p .rows) (p .cols) win
+    → b ≡ rowsFill a ((k * 14 + p .top) * 64) 64 (p .cols) (p .rows) (partSample src (planeRegion l k) p)
+    → b ≡ windowFilled l (k + 1) src (p .x) (p .y) (p .top) (p .rows) (p .cols) win
+plane-next l src win a b p k e q =
+    let z : (k * 14 + p .top) * 64 ≡ (k * 14 + p .top) * 64 + 0 = omega arith in
+    planes-turn 64 14 0 (p .cols) (p .top) (p .rows) (λ c j i. windowSample l src (p .x) (p .y) c j (p .top + i)) win a b k e
+    (q ∙ rw (← z) (rows-cong a ((k * 14 + p .top) * 64) 64 (p .cols) (p .rows) _ _ (λ i j r s. plane-sample l src (p .x) (p .y) k (p .top + i) j)))
 
 -- what plane c's loop requires
-pub plane-fits : (l : Layout) (n c len x y top rows cols : ℕ) → WindowFits l n len x y top rows cols → c < n
-    → PlaneFits ((c * 14 + top) * 64) (regionStart l c) (l .image .width) (l .width) (l .height) x y rows cols len
-plane-fits l n c len x y top rows cols f p =
+pub plane-fits : (l : Layout) (n c len : ℕ) (p : WindowPart) → WindowFits l n len (p .x) (p .y) (p .top) (p .rows) (p .cols) → c < n → PlaneFits ((c * 14 + p .top) * 64) (planeRegion l c) p len
+plane-fits l n c len p f lt =
     let g = f .layout in
-    let r = plane-room l n c g (f .planes) p in
-    let few : c ≤ 2 = omega (arith, f .planes) in
-    let h : l .height - 1 + 1 ≡ l .height = omega (arith, f .row) in
+    let r = plane-room l n c g (f .planes-le) lt in
+    let few : c ≤ 2 = omega (arith, f .planes-le) in
+    let h : l .height - 1 + 1 ≡ l .height = omega (arith, f .y-lt) in
     record {
-      ends = omega (arith, f .source, g .across, r .ends, add-mul (l .height - 1) 1 (l .image .width), ap (λ (k : ℕ). k * l .image .width) h);
-      wide = omega (arith, g .across, g .wide);
-      high = omega (arith, g .down, g .high);
-      col = f .col;
-      row = f .row;
-      target = omega (arith, f .end);
-      least = f .least;
-      most = f .most;
+      region-le = omega (arith, f .source, g .across, r .ends, add-mul (l .height - 1) 1 (l .image .width), ap (λ (k : ℕ). k * l .image .width) h);
+      width-le = omega (arith, g .across, g .wide);
+      height-le = omega (arith, g .down, g .high);
+      x-lt = f .x-lt;
+      y-lt = f .y-lt;
+      top-le = omega (arith, f .rows-le);
+      target-le = omega (arith, f .rows-le);
+      cols-ge = f .cols-ge;
+      cols-le = f .cols-le;
     }
 
 -- ---- the code's tests
@@ -120,25 +126,25 @@ module _ (l : Layout) (n : ℕ) (src : List Float) (x y top rows cols : ℕ) (wi
       let s = set-facts l n (length src) e in
       record {
         layout = s .layout;
-        planes = s .planes;
+        planes-le = s .planes;
         source = s .size;
-        col = a;
-        row = b;
-        end = omega arith;
-        least = u;
-        most = v;
+        x-lt = a;
+        y-lt = b;
+        rows-le = omega arith;
+        cols-ge = u;
+        cols-le = v;
       }
 
   -- so the whole window is loaded
-  pub window-loaded : WindowFits l n (length src) x y top rows cols → loaded l n src x y top rows cols win ≡ planesFill 64 14 0 cols top rows (λ c j i. windowSample l src x y c j (top + i)) win n
+  pub window-loaded : WindowFits l n (length src) x y top rows cols → loaded l n src x y top rows cols win ≡ windowFilled l n src x y top rows cols win
   unfolding loaded
   window-loaded f =
       rw (
-        set-true l n (length src) (record { layout = f .layout; planes = f .planes; size = f .source }),
-        lt-ltb x (l .width) (f .col),
-        lt-ltb y (l .height) (f .row),
-        le-leb top 14 (omega (arith, f .end)),
-        le-leb rows (14 - top) (omega (arith, f .end)),
-        le-leb 4 cols (f .least),
-        le-leb cols 64 (f .most),
+        set-true l n (length src) (record { layout = f .layout; planes = f .planes-le; size = f .source }),
+        lt-ltb x (l .width) (f .x-lt),
+        lt-ltb y (l .height) (f .y-lt),
+        le-leb top 14 (omega (arith, f .rows-le)),
+        le-leb rows (14 - top) (omega (arith, f .rows-le)),
+        le-leb 4 cols (f .cols-ge),
+        le-leb cols 64 (f .cols-le),
       )

@@ -11,78 +11,79 @@ use mirror::mirrored;
 use planes::Layout;
 use planes::set_fits;
 ghost use mathlib.Core.Path.{_≡_};
-ghost use Prim.Native.Nat.{ℕ, _+_, _-_, _*_, _<_, _≤_};
 ghost use lib.ListN.{length};
-ghost use Rattle.planes.specs.Rect.{rowsFill, planesFill};
-ghost use Rattle.epf_window.specs.Window.{planeSample, windowSample, loaded, WindowFits, PlaneFits};
+ghost use Rattle.planes.specs.Rect.{rowsFill};
+ghost use Rattle.epf_sizes.specs.Sizes.{stride};
+ghost use Rattle.epf_window.specs.Window.{partSample, windowFilled, loaded, WindowFits, PlaneFits};
 
 // How many columns left of its position and how many rows above it a window starts.
 const LEFT: usize = 4;
 
 const ABOVE: usize = 3;
 
-// Loads rows `top` up to top + rows of a window's plane, from a region of w columns and h rows that starts at index
-// `start`.
+// Rows `top` up to top + rows and the first `cols` columns of a window on column x and row y.
+struct WindowPart {
+    x: usize,
+    y: usize,
+    top: usize,
+    rows: usize,
+    cols: usize,
+}
+
+// A region of a plane: row 0 starts at index `start`, and rows lie `stride` apart.
+struct PlaneRegion {
+    start: usize,
+    stride: usize,
+    width: usize,
+    height: usize,
+}
+
+// Loads a part of a window's plane from a region; the part's first row starts at index `at`.
 fn load_plane(
     win: &mut [f32; WINDOWS],
     at: usize,
     src: &[f32],
-    start: usize,
-    stride: usize,
-    w: usize,
-    h: usize,
-    x: usize,
-    y: usize,
-    top: usize,
-    rows: usize,
-    cols: usize,
+    region: PlaneRegion,
+    part: WindowPart,
 )
-    requires { ⌜ PlaneFits at start stride w h x y rows cols (length (now src)) ⌝ }
-    requires { ⌜ top ≤ 14 ⌝ }
-    ensures { λ _. ⌜ now (win .exit) ≡ rowsFill (now (win .entry)) at 64 cols rows (λ (i : ℕ) (j : ℕ). planeSample (now (src .entry)) start stride w h x y (top + i) j) ⌝ }
+    requires { ⌜ PlaneFits at region part (length (now src)) ⌝ }
+    ensures { λ _. ⌜ now (win .exit) ≡ rowsFill (now (win .entry)) at stride (part .cols) (part .rows)
+        (partSample (now (src .entry)) region part) ⌝ }
 {
+    let rows = part.rows;
     let mut i = 0;
     while i < rows {
-        let k = mirrored(y + (top + i), ABOVE, h);
-        load_row(win, at + i * STRIDE, src, start + k * stride, x, w, cols);
+        let k = mirrored(part.y + (part.top + i), ABOVE, region.height);
+        load_row(
+            win,
+            at + i * STRIDE,
+            src,
+            region.start + k * region.stride,
+            part.x,
+            region.width,
+            part.cols,
+        );
         i += 1;
     }
 }
 
-// Loads the first n planes.
-fn load_planes(
-    win: &mut [f32; WINDOWS],
-    src: &[f32],
-    l: Layout,
-    n: usize,
-    x: usize,
-    y: usize,
-    top: usize,
-    rows: usize,
-    cols: usize,
-)
-    requires { ⌜ WindowFits l n (length (now src)) x y top rows cols ⌝ }
-    ensures { λ _. ⌜ now (win .exit) ≡ planesFill 64 14 0 cols top rows (λ (c : ℕ) (j : ℕ) (i : ℕ). windowSample l (now (src .entry)) x y c j (top + i)) (now (win .entry)) n ⌝ }
+// Loads a part of the first n planes.
+fn load_planes(win: &mut [f32; WINDOWS], src: &[f32], l: Layout, n: usize, part: WindowPart)
+    requires { ⌜ WindowFits l n (length (now src)) (part .x) (part .y) (part .top) (part .rows) (part .cols) ⌝ }
+    ensures { λ _. ⌜ now (win .exit) ≡ windowFilled l n (now (src .entry)) (part .x) (part .y) (part .top)
+        (part .rows) (part .cols) (now (win .entry)) ⌝ }
 {
     let stride = l.image.width;
     let mut c = 0;
     while c < n {
-        let at = (c * WINDOW_ROWS + top) * STRIDE;
-        let start = (c * l.image.height + l.top) * stride + l.left;
-        load_plane(
-            win,
-            at,
-            src,
-            start,
+        let at = (c * WINDOW_ROWS + part.top) * STRIDE;
+        let region = PlaneRegion {
+            start: (c * l.image.height + l.top) * stride + l.left,
             stride,
-            l.width,
-            l.height,
-            x,
-            y,
-            top,
-            rows,
-            cols,
-        );
+            width: l.width,
+            height: l.height,
+        };
+        load_plane(win, at, src, region, part);
         c += 1;
     }
 }
@@ -123,5 +124,12 @@ pub fn load(
     if STRIDE < cols {
         return;
     }
-    load_planes(win, src, l, n, x, y, top, rows, cols)
+    let part = WindowPart {
+        x,
+        y,
+        top,
+        rows,
+        cols,
+    };
+    load_planes(win, src, l, n, part)
 }

@@ -6,8 +6,7 @@ use mirror::mirrored;
 use planes::copy_run;
 ghost use mathlib.Core.Path.{_≡_};
 ghost use Prim.Native.Nat.{ℕ, _+_, _-_, _<_, _≤_};
-ghost use lib.ListN.{length, getD};
-ghost use lib.Ieee.{nan};
+ghost use lib.ListN.{length};
 ghost use Rattle.planes.specs.Fill.{fill};
 ghost use Rattle.epf_sizes.specs.Sizes.{windowsLength};
 ghost use Rattle.epf_window.specs.Window.{rowSample, RowFits};
@@ -19,12 +18,12 @@ pub(crate) struct EpfInputRow<'a> {
     width: usize,
 }
 
-// k - x, or 0 if x is larger.
-fn short_of(x: usize, k: usize) -> usize
-    ensures { λ r. ⌜ r ≡ k - x ⌝ }
+// a - b, or 0 if b is larger.
+fn saturating_sub(a: usize, b: usize) -> usize
+    ensures { λ r. ⌜ r ≡ a - b ⌝ }
 {
-    if x < k {
-        return k - x;
+    if b < a {
+        return a - b;
     }
     0
 }
@@ -63,7 +62,7 @@ fn copy_row(
     requires { ⌜ RowFits at row x w cols (length (now src)) ⌝ }
     ensures { λ _. ⌜ now (win .exit) ≡ fill (now (win .entry)) at cols (rowSample (now (src .entry)) row x w) ⌝ }
 {
-    let low = short_of(x, LEFT);
+    let low = saturating_sub(LEFT, x);
     let high = min(w + LEFT - x, cols);
     copy_mirrored(win, at, src, row, x, w, low);
     copy_run(win, at + low, src, row + (x + low - LEFT), high - low);
@@ -79,7 +78,8 @@ fn load_view<'w, 'a>(
     cols: usize,
 )
     requires { ⌜ RowFits at (r .place) x (r .width) cols (length (now (r .plane))) ⌝ }
-    ensures { λ _. ⌜ now (win .exit) ≡ fill (now (win .entry)) at cols (rowSample (now (r .entry .plane)) (r .entry .place) x (r .entry .width)) ⌝ }
+    ensures { λ _. ⌜ now (win .exit) ≡ fill (now (win .entry)) at cols
+        (rowSample (now (r .entry .plane)) (r .entry .place) x (r .entry .width)) ⌝ }
 {
     copy_row(win, at, r.plane, r.place, x, r.width, cols)
 }

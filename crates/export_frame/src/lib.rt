@@ -2,7 +2,7 @@
 use frame::Frame;
 use frame::FrameAnswer;
 use frame::SplitAnswer;
-use sigma_blocks::Blocks;
+use sigma_groups::blocks::Blocks;
 ghost use mathlib.Core.Path.{_≡_};
 ghost use Rattle.frame.specs.Outcome.{frameOutcome, splitOutcome};
 ghost use Rattle.sigma.specs.Outcome.{SigmasOutcome, sigmasOutcome};

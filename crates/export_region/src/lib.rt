@@ -5,8 +5,8 @@ use region::Region;
 use region_arithmetic::RegionAnswer;
 ghost use mathlib.Core.Path.{_≡_};
 ghost use Rattle.region.specs.Answers.{isEmptyOutcome, rightOutcome, bottomOutcome, containsOutcome};
-ghost use Rattle.region_arithmetic.specs.Answers.{translateOutcome, intersectionOutcome, padOutcome, downsampleOutcome};
-ghost use Rattle.region_arithmetic.specs.Answers.{alignedOutcome};
+ghost use Rattle.region_arithmetic.specs.Answers.{translateOutcome, intersectionOutcome, padOutcome};
+ghost use Rattle.region_arithmetic.specs.Answers.{downsampleOutcome, alignedOutcome};
 
 // Returns whether a region is empty: its width or height is 0.
 // Numbers: 0; 4 if the region is outside the limits: a side over 16,384, or left or top outside -1,048,576 to

@@ -6,7 +6,8 @@ ghost use mathlib.Core.Path.{_≡_};
 ghost use Prim.Native.Nat.{_<_, _≤_};
 ghost use Rattle.refusals.specs.Checks.{firstOf};
 ghost use Rattle.frame.specs.Sizes.{dividedUp, sampleSide, groupDim, groupsAlong, sizesOf};
-ghost use Rattle.frame.specs.Outcome.{frameChecks, frameOutcome, splitOutcome, badSide, badSides, badUpsampling, badSettings, noSizes};
+ghost use Rattle.frame.specs.Outcome.{badSide, badSides, badUpsampling, badSettings};
+ghost use Rattle.frame.specs.Outcome.{frameChecks, frameOutcome, splitOutcome, noSizes};
 ghost use Rattle.frame.specs.Sound.{Sound};
 
 const MAX_LF_LEVEL: u32 = 4;

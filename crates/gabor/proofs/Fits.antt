@@ -62,7 +62,7 @@ module _ (image filter : Region) (full : ℕ) (ws : List (List Float)) (from to 
         outcome-fits = band-fits (a .layout) 3 from to src dst s t r
 
         pub outcome-sides : (0 < a .layout .width) × (0 < a .layout .height)
-        outcome-sides = rw l-is (layout-accepted image filter (flagSet full) ok .wide, layout-accepted image filter (flagSet full) ok .high)
+        outcome-sides = rw l-is (layout-accepted image filter (flagSet full) ok .width-pos, layout-accepted image filter (flagSet full) ok .height-pos)
 
         pub outcome-passed : flagFits full ≡ true → (b : List Float) → b ≡ gaborPassed 3 (a .layout) ws from to src dst → Outcome 0 b
         unfolding gaborOutcome

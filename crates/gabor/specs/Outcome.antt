@@ -1,4 +1,4 @@
--- The outcome of the Gabor pass over rows of the result region, for every input (Specification 9.3, 9.4). Definitions only; Fits.antt has the laws.
+-- The outcome of the Gabor pass over rows of the result region, for every input (Specification 9.3, 9.4). Definitions only; the laws are in proofs/.
 use mathlib.Core.List.{List}
 use Prim.Native.Nat.{ℕ}
 use lib.Ieee.{Float}

@@ -1,4 +1,5 @@
 // The Gabor pass over several planes, and over a band with the samples outside the filter region.
+use gabor_plane::PlaneRegion;
 use gabor_plane::gabor_plane;
 use planes::Layout;
 use planes::filter_row;
@@ -33,18 +34,13 @@ fn gabor_planes(
     while c < n {
         let p = weights[c];
         let at = (c * l.image.height + l.top) * l.image.width + l.left;
-        gabor_plane(
-            src,
-            dst,
+        let r = PlaneRegion {
             at,
-            l.image.width,
-            l.width,
-            l.height,
-            from,
-            rows,
-            p[0],
-            p[1],
-        );
+            stride: l.image.width,
+            width: l.width,
+            height: l.height,
+        };
+        gabor_plane(src, dst, r, from, rows, p[0], p[1]);
         c += 1;
     }
 }

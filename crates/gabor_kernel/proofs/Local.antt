@@ -10,6 +10,7 @@ use lib.Ieee.Fits.{and-l, and-r}
 use Rattle.gabor_kernel.specs.Ends.{End, only, first, last, inner}
 use Rattle.gabor_kernel.specs.Formula.{Formula, one, two, three, w0, w1, sample, _⊞_, _⊠_, evaluate, formula}
 use Rattle.gabor_kernel.specs.Gabor.{gaborBy}
+use Rattle.gabor_kernel.specs.declared.Kernel.{Kernel}
 
 -- two samples with the same neighbours at most one column and one row away
 abbrev pub Alike : (ℤ → ℤ → Float) → (ℤ → ℤ → Float) → Type 0
@@ -58,6 +59,7 @@ module _ (a b : Float) (u v : ℤ → ℤ → Float) (alike : Alike u v) where
   evaluate-same (f ⊞ g) t = rw (evaluate-same f (and-l (near f) (near g) t), evaluate-same g (and-r (near f) (near g) t))
   evaluate-same (f ⊠ g) t = rw (evaluate-same f (and-l (near f) (near g) t), evaluate-same g (and-r (near f) (near g) t))
 
-  pub gaborBy-same : (g : Float) (col row : End) → gaborBy g a b u col row ≡ gaborBy g a b v col row
-  unfolding gaborBy
-  gaborBy-same g col row = rw (alike (pos 0) (pos 0) (omega arith) (omega arith), evaluate-same (formula col row) (formulas-near col row))
+pub gaborBy-same : (k : Kernel) (u v : ℤ → ℤ → Float) → Alike u v → (col row : End) → gaborBy k u col row ≡ gaborBy k v col row
+unfolding gaborBy
+gaborBy-same k u v alike col row =
+    rw (alike (pos 0) (pos 0) (omega arith) (omega arith), evaluate-same (k .w0) (k .w1) u v alike (formula col row) (formulas-near col row))

@@ -9,10 +9,11 @@ use Rattle.planes.specs.Samples.{_⊕_, _⊗_, _⊘_, b1, b4}
 use Rattle.planes.specs.Picture.{Picture, around}
 use Rattle.gabor_kernel.specs.Ends.{End, only, first, last, inner, stands}
 use Rattle.gabor_kernel.specs.Formula.{evaluate, formula}
+use Rattle.gabor_kernel.specs.declared.Kernel.{Kernel}
 
--- the reciprocal of the sum of the kernel, (1 + w0 × 4) + w1 × 4
-abbrev pub total : Float → Float → Float
-total w0 w1 = b1 ⊘ (b1 ⊕ w0 ⊗ b4 ⊕ w1 ⊗ b4)
+-- the weights of the side neighbours (w0) and of the diagonal ones (w1), with the reciprocal of the sum of the kernel, (1 + w0 × 4) + w1 × 4
+abbrev pub kernelOf : Float → Float → Kernel
+kernelOf w0 w1 = record { w0 = w0; w1 = w1; g = b1 ⊘ (b1 ⊕ w0 ⊗ b4 ⊕ w1 ⊗ b4) }
 
 -- the picture is a single sample
 unfoldable pub alone : End → End → Bool
@@ -25,12 +26,12 @@ alone last row = false
 alone inner row = false
 
 -- the formula for this column and row, times g; a single sample is copied
-unfoldable pub gaborBy : Float → Float → Float → (ℤ → ℤ → Float) → End → End → Float
-gaborBy g w0 w1 v col row = cond (alone col row) (v (pos 0) (pos 0)) (evaluate w0 w1 v (formula col row) ⊗ g)
+unfoldable pub gaborBy : Kernel → (ℤ → ℤ → Float) → End → End → Float
+gaborBy k v col row = cond (alone col row) (v (pos 0) (pos 0)) (evaluate (k .w0) (k .w1) v (formula col row) ⊗ k .g)
 
 -- v dx dy is the sample at offset (dx, dy)
 abbrev pub gabor : Float → Float → (ℤ → ℤ → Float) → End → End → Float
-gabor w0 w1 v col row = gaborBy (total w0 w1) w0 w1 v col row
+gabor w0 w1 v col row = gaborBy (kernelOf w0 w1) v col row
 
 -- channel c's weights: of the side neighbours, and of the diagonal ones
 abbrev pub sideWeight : List (List Float) → ℕ → Float

@@ -1,7 +1,8 @@
--- A sample and its eight neighbours, as a function of the offset.
+-- A sample and its eight neighbours, as a function of the offset. Definitions only.
 use Prim.Native.Nat.{zero, suc}
 use lib.IntN.{ℤ, pos, negsuc}
 use lib.Ieee.{Float}
+use Rattle.gabor_kernel.specs.declared.Row3.{Row3}
 
 -- selects one of three by an offset of −1, 0 or 1
 unfoldable pub pick : {A : Type 0} → A → A → A → ℤ → A
@@ -9,6 +10,18 @@ pick a b c (pos zero) = b
 pick a b c (pos (suc n)) = c
 pick a b c (negsuc n) = a
 
--- nine samples by offset: the rows above, here and below, each from left to right
-unfoldable pub nine : Float → Float → Float → Float → Float → Float → Float → Float → Float → ℤ → ℤ → Float
-nine t0 t1 t2 c0 c1 c2 b0 b1 b2 = λ dx dy. pick (pick t0 t1 t2 dx) (pick c0 c1 c2 dx) (pick b0 b1 b2 dx) dy
+-- a row of a single column: mirrored, the sample is its own neighbour on both sides
+abbrev pub same : Float → Row3
+same v = record { left = v; centre = v; right = v }
+
+-- an end v of a row and its only neighbour l: mirrored, the end is its own neighbour on the other side
+abbrev pub ending : Float → Float → Row3
+ending l v = record { left = l; centre = v; right = v }
+
+-- a row's sample by its offset
+abbrev pub sampleIn : Row3 → ℤ → Float
+sampleIn r = pick (r .left) (r .centre) (r .right)
+
+-- nine samples by offset: the rows above, here and below
+unfoldable pub nine : Row3 → Row3 → Row3 → ℤ → ℤ → Float
+nine t c b = λ dx dy. pick (sampleIn t dx) (sampleIn c dx) (sampleIn b dx) dy

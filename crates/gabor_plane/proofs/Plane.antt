@@ -9,46 +9,55 @@ use lib.ListN.{length}
 use lib.Ieee.{Float}
 use Rattle.planes.specs.Rect.{rowsFill}
 use Rattle.planes.proofs.Stored.{and-first, and-second}
-use Rattle.gabor_kernel.specs.Gabor.{total}
+use Rattle.gabor_kernel.specs.Gabor.{kernelOf}
+use Rattle.gabor_plane.specs.declared.PlaneRegion.{PlaneRegion}
 use Rattle.gabor_plane.specs.Rows.{RegionFits}
 use Rattle.gabor_plane.specs.Plane.{regionRows, regionFits, planeOutcome}
 
 -- ---- laws
 
-pub region-true : (at stride w h len : ℕ) → RegionFits at stride w h len → regionFits at stride w h len ≡ true
-region-true at stride w h len f =
-    rw (le-leb 1 w (f .wide), le-leb 1 h (f .high), le-leb w stride (f .apart), le-leb stride 16384 (f .short), le-leb h 16384 (f .low), le-leb (at + ((h - 1) * stride + w)) len (f .ends))
+pub region-true : (r : PlaneRegion) (len : ℕ) → RegionFits r len → regionFits r len ≡ true
+region-true r len f =
+    rw (
+      le-leb 1 (r .width) (f .width-pos),
+      le-leb 1 (r .height) (f .height-pos),
+      le-leb (r .width) (r .stride) (f .width-le-stride),
+      le-leb (r .stride) 16384 (f .stride-le),
+      le-leb (r .height) 16384 (f .height-le),
+      le-leb (r .at + ((r .height - 1) * r .stride + r .width)) len (f .end-le),
+    )
 
-pub region-facts : (at stride w h len : ℕ) → regionFits at stride w h len ≡ true → RegionFits at stride w h len
-region-facts at stride w h len e =
-    let a = leb 1 w && leb 1 h in
-    let b = leb w stride && leb stride 16384 in
-    let c = leb h 16384 && leb (at + ((h - 1) * stride + w)) len in
+pub region-facts : (r : PlaneRegion) (len : ℕ) → regionFits r len ≡ true → RegionFits r len
+region-facts r len e =
+    let a = leb 1 (r .width) && leb 1 (r .height) in
+    let b = leb (r .width) (r .stride) && leb (r .stride) 16384 in
+    let room = leb (r .at + ((r .height - 1) * r .stride + r .width)) len in
+    let c = leb (r .height) 16384 && room in
     let p = and-first a (b && c) e in
     let q = and-second a (b && c) e in
     record {
-      wide = leb-true _ _ (and-first (leb 1 w) (leb 1 h) p);
-      high = leb-true _ _ (and-second (leb 1 w) (leb 1 h) p);
-      apart = leb-true _ _ (and-first (leb w stride) (leb stride 16384) (and-first b c q));
-      short = leb-true _ _ (and-second (leb w stride) (leb stride 16384) (and-first b c q));
-      low = leb-true _ _ (and-first (leb h 16384) (leb (at + ((h - 1) * stride + w)) len) (and-second b c q));
-      ends = leb-true _ _ (and-second (leb h 16384) (leb (at + ((h - 1) * stride + w)) len) (and-second b c q));
+      width-pos = leb-true _ _ (and-first (leb 1 (r .width)) (leb 1 (r .height)) p);
+      height-pos = leb-true _ _ (and-second (leb 1 (r .width)) (leb 1 (r .height)) p);
+      width-le-stride = leb-true _ _ (and-first (leb (r .width) (r .stride)) (leb (r .stride) 16384) (and-first b c q));
+      stride-le = leb-true _ _ (and-second (leb (r .width) (r .stride)) (leb (r .stride) 16384) (and-first b c q));
+      height-le = leb-true _ _ (and-first (leb (r .height) 16384) room (and-second b c q));
+      end-le = leb-true _ _ (and-second (leb (r .height) 16384) room (and-second b c q));
     }
 
-module _ (at stride w h from n : ℕ) (w0 w1 : Float) (src dst : List Float) where
-  pub no-region : regionFits at stride w h (length src) ≡ false → dst ≡ planeOutcome at stride w h from n w0 w1 src dst
+module _ (r : PlaneRegion) (from n : ℕ) (w0 w1 : Float) (src dst : List Float) where
+  pub no-region : regionFits r (length src) ≡ false → dst ≡ planeOutcome r from n w0 w1 src dst
   unfolding planeOutcome
   no-region e = rw e
 
-  pub no-length : regionFits at stride w h (length src) ≡ true → eqb (length dst) (length src) ≡ false → dst ≡ planeOutcome at stride w h from n w0 w1 src dst
+  pub no-length : regionFits r (length src) ≡ true → eqb (length dst) (length src) ≡ false → dst ≡ planeOutcome r from n w0 w1 src dst
   unfolding planeOutcome
   no-length e f = rw (e, f)
 
-  pub no-row : regionFits at stride w h (length src) ≡ true → length dst ≡ length src → h < from + n → dst ≡ planeOutcome at stride w h from n w0 w1 src dst
+  pub no-row : regionFits r (length src) ≡ true → length dst ≡ length src → r .height < from + n → dst ≡ planeOutcome r from n w0 w1 src dst
   unfolding planeOutcome
-  no-row e f g = rw (e, eq-eqb (length dst) (length src) f, lt-leb (from + n) h g)
+  no-row e f g = rw (e, eq-eqb (length dst) (length src) f, lt-leb (from + n) (r .height) g)
 
-  pub plane-rows : regionFits at stride w h (length src) ≡ true → length dst ≡ length src → from + n ≤ h
-      → rowsFill dst (at + from * stride) stride w n (regionRows src at stride w h w0 w1 (total w0 w1) from) ≡ planeOutcome at stride w h from n w0 w1 src dst
+  pub plane-rows : regionFits r (length src) ≡ true → length dst ≡ length src → from + n ≤ r .height
+      → rowsFill dst (r .at + from * r .stride) (r .stride) (r .width) n (regionRows src r (kernelOf w0 w1) from) ≡ planeOutcome r from n w0 w1 src dst
   unfolding planeOutcome
-  plane-rows e f g = rw (e, eq-eqb (length dst) (length src) f, le-leb (from + n) h g)
+  plane-rows e f g = rw (e, eq-eqb (length dst) (length src) f, le-leb (from + n) (r .height) g)

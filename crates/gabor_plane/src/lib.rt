@@ -2,69 +2,66 @@
 mod reads;
 mod rows;
 
-use gabor_kernel::global_weight;
+use gabor_kernel::kernel_of;
 use limits::MAX_SIDE;
 use rows::region_row;
 ghost use mathlib.Core.Path.{_≡_};
 ghost use Prim.Native.Nat.{_+_, _*_, _≤_};
 ghost use lib.ListN.{length};
 ghost use Rattle.planes.specs.Rect.{rowsFill};
-ghost use Rattle.gabor_kernel.specs.Gabor.{total};
+ghost use Rattle.gabor_kernel.specs.Gabor.{kernelOf};
 ghost use Rattle.gabor_plane.specs.Rows.{RegionFits};
 ghost use Rattle.gabor_plane.specs.Plane.{regionRows, regionFits, planeOutcome};
 
-// Filters n rows, from row `from`, of a region of w columns and h rows. Row y of it starts at index at + y * stride of
-// both slices.
-fn gabor_rows(
-    src: &[f32],
-    dst: &mut [f32],
-    at: usize,
-    stride: usize,
-    w: usize,
-    h: usize,
-    from: usize,
-    n: usize,
-    w0: f32,
-    w1: f32,
-)
-    requires { ⌜ RegionFits at stride w h (length (now src)) ⌝ }
-    requires { ⌜ (length (now dst) ≡ length (now src)) × (from + n ≤ h) ⌝ }
-    ensures { λ _. ⌜ now (dst .exit) ≡ rowsFill (now (dst .entry)) (at + from * stride) stride w n (regionRows (now (src .entry)) at stride w h w0 w1 (total w0 w1) from) ⌝ }
+// A region of a plane: row y of it starts at index at + y * stride of a slice.
+pub struct PlaneRegion {
+    pub at: usize,
+    pub stride: usize,
+    pub width: usize,
+    pub height: usize,
+}
+
+// Filters n rows of a region, from row `from`. The region lies at the same indices of both slices.
+fn gabor_rows(src: &[f32], dst: &mut [f32], r: PlaneRegion, from: usize, n: usize, w0: f32, w1: f32)
+    requires { ⌜ RegionFits r (length (now src)) ⌝ }
+    requires { ⌜ (length (now dst) ≡ length (now src)) × (from + n ≤ r .height) ⌝ }
+    ensures { λ _. ⌜ now (dst .exit) ≡ rowsFill (now (dst .entry)) (r .at + from * r .stride) (r .stride) (r .width) n
+        (regionRows (now (src .entry)) r (kernelOf w0 w1) from) ⌝ }
 {
-    let g = global_weight(w0, w1);
+    let k = kernel_of(w0, w1);
     let mut i = 0;
-    let mut o = at + from * stride;
+    let mut o = r.at + from * r.stride;
     while i < n {
-        region_row(src, dst, at, stride, w, h, from + i, o, w0, w1, g);
-        o += stride;
+        region_row(src, dst, r, from + i, o, k);
+        o += r.stride;
         i += 1;
     }
 }
 
-// Whether such a region, with sides of 1 to 16,384 and w <= stride <= 16,384, lies in a slice of length len.
-fn region_fits(at: usize, stride: usize, w: usize, h: usize, len: usize) -> bool
-    ensures { λ r. ⌜ r ≡ regionFits at stride w h len ⌝ }
+// Whether a region with sides of 1 to 16,384 and width <= stride <= 16,384 lies in a slice of length len.
+fn region_fits(r: PlaneRegion, len: usize) -> bool
+    ensures { λ b. ⌜ b ≡ regionFits r len ⌝ }
 {
-    if w == 0 {
+    if r.width == 0 {
         return false;
     }
-    if h == 0 {
+    if r.height == 0 {
         return false;
     }
-    if stride < w {
+    if r.stride < r.width {
         return false;
     }
-    if MAX_SIDE < stride {
+    if MAX_SIDE < r.stride {
         return false;
     }
-    if MAX_SIDE < h {
+    if MAX_SIDE < r.height {
         return false;
     }
-    let span = (h - 1) * stride + w;
+    let span = (r.height - 1) * r.stride + r.width;
     if len < span {
         return false;
     }
-    at <= len - span
+    r.at <= len - span
 }
 
 // Filters n rows of a region, as above. Does nothing if the slices have different lengths, the region does not lie in
@@ -72,28 +69,25 @@ fn region_fits(at: usize, stride: usize, w: usize, h: usize, len: usize) -> bool
 pub fn gabor_plane(
     src: &[f32],
     dst: &mut [f32],
-    at: usize,
-    stride: usize,
-    w: usize,
-    h: usize,
+    r: PlaneRegion,
     from: usize,
     n: usize,
     w0: f32,
     w1: f32,
 )
-    ensures { λ _. ⌜ now (dst .exit) ≡ planeOutcome at stride w h from n w0 w1 (now (src .entry)) (now (dst .entry)) ⌝ }
+    ensures { λ _. ⌜ now (dst .exit) ≡ planeOutcome r from n w0 w1 (now (src .entry)) (now (dst .entry)) ⌝ }
 {
-    if !region_fits(at, stride, w, h, src.len()) {
+    if !region_fits(r, src.len()) {
         return;
     }
     if dst.len() != src.len() {
         return;
     }
-    if h < n {
+    if r.height < n {
         return;
     }
-    if h - n < from {
+    if r.height - n < from {
         return;
     }
-    gabor_rows(src, dst, at, stride, w, h, from, n, w0, w1);
+    gabor_rows(src, dst, r, from, n, w0, w1);
 }

@@ -6,7 +6,7 @@ use mathlib.Core.Path.{_≡_, sym, ap, _∙_}
 use native.Mathlib.Omega.{arith}
 use Rattle.header_bits.specs.Outcome.{accepted, refused}
 use Rattle.header_fields.specs.Fields.{bundle, nested, read, yes}
-use Rattle.header_gabor_channel.specs.Channel.{channelFields}
+use Rattle.header_gabor.specs.Channel.{channelFields}
 use Rattle.header_gabor.specs.Gabor.{channelsFields, weightFields, gaborFields, gaborOff, gaborAnswer}
 use Rattle.header_epf.specs.EdgeFilter.{parameterFields, epfFields, epfOff, epfAnswer}
 use Rattle.header.specs.Restoration.{bothOf, restorationFields}

@@ -18,6 +18,7 @@ pub enum Encoding {
     Modular,
 }
 
+// The edge-preserving filter's bundle, as read from a frame header.
 #[repr(C)]
 pub struct EdgePreservingFilter {
     pub enabled: bool,

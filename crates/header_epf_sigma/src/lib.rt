@@ -7,6 +7,7 @@ ghost use Rattle.header_epf_sigma.specs.Settings.{sigmaOutcome, customSi
 use header_bits::Bits;
 use header_half::Half;
 
+// The edge-preserving filter's sigma settings: `quant_mul`, the scales of steps 0 and 2, and that of block borders.
 #[repr(C)]
 pub struct EpfSigma {
     pub quant_mul: f32,

@@ -7,7 +7,7 @@ use lib.Ieee.{Float}
 use Rattle.header_bits.specs.Outcome.{accepted, refused}
 use Rattle.header_bits.specs.Bits.{u}
 use Rattle.header_fields.specs.Fields.{bundle, nested, read}
-use Rattle.header_gabor_channel.specs.Channel.{channelFields, sideDefault, cornerDefault}
+use Rattle.header_gabor.specs.Channel.{channelFields, sideDefault, cornerDefault}
 use Rattle.header_gabor.specs.Gabor.{channelsFields, weightFields, gaborFields, gaborOff, gaborWith}
 use Rattle.header_fields.proofs.Rows.{is-yes, is-no}
 

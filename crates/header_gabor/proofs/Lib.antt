@@ -1,2 +1,3 @@
+mod NearZero
 pub mod GaborCases
 pub mod Field

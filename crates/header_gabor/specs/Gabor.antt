@@ -5,7 +5,7 @@ use mathlib.Core.List.{List, [], _∷_}
 use lib.Ieee.{Float}
 use Rattle.header_bits.specs.Outcome.{Outcome, number, value, next}
 use Rattle.header_fields.specs.Fields.{Fields, bits, bundle, nested, read, yes, none}
-use Rattle.header_gabor_channel.specs.Channel.{channelFields}
+use Rattle.header_gabor.specs.Channel.{channelFields}
 use Rattle.header_gabor.specs.declared.Gabor.{Gabor}
 use Rattle.header_gabor.specs.declared.GaborAnswer.{GaborAnswer}
 

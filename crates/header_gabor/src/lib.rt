@@ -1,12 +1,14 @@
 // The Gabor bundle of a frame header, read from any bit position.
+pub mod channel;
+
 ghost use mathlib.Core.Path.{_≡_};
 ghost use mathlib.Core.Bool.{true};
 ghost use Rattle.header_bits.specs.Outcome.{accepted, refused};
 ghost use Rattle.header_fields.specs.Fields.{read};
 ghost use Rattle.header_gabor.specs.Gabor.{channelsFields, weightFields, gaborOff, gaborAt, gaborAnswer};
+use channel::Channel;
+use channel::read_channel;
 use header_bits::Bits;
-use header_gabor_channel::Channel;
-use header_gabor_channel::read_channel;
 
 // Two weights for each of the channels X, Y and B: of the side neighbours and of the diagonal ones.
 #[repr(C)]

@@ -56,10 +56,10 @@ subnormal s t n p h k lo hi =
 -- ---- how far the digits of a subnormal half are shifted
 pub record Moved (t n : ℕ) : Type 0 where
   pub zeros : leadingZeros 32 t ≡ 21 + n
-  pub some : 0 < n
-  pub few : n ≤ 10
-  pub low : 1024 ≤ t * 2 ^ n
-  pub high : t * 2 ^ n < 2048
+  pub n-pos : 0 < n
+  pub n-le : n ≤ 10
+  pub shifted-ge : 1024 ≤ t * 2 ^ n
+  pub shifted-lt : t * 2 ^ n < 2048
   pub whole : (t * 2 ^ n) % 4294967296 ≡ t * 2 ^ n
 
 top-below : (j t : ℕ) → 2 ^ j ≤ t → t < 1024 → j < 10
@@ -79,7 +79,7 @@ moved t p h =
     let up : 1024 ≤ t * 2 ^ (10 - j) = subst (λ (m : ℕ). m ≤ t * 2 ^ (10 - j)) (sym (pow-add 2 j (10 - j)) ∙ ap (λ (m : ℕ). 2 ^ m) a) (mul-le-mul-right (2 ^ (10 - j)) (z .2)) in
     let under : t * 2 ^ (10 - j) < 2048 = subst (λ (m : ℕ). t * 2 ^ (10 - j) < m) (sym (pow-add 2 (suc j) (10 - j)) ∙ ap (λ (m : ℕ). 2 ^ m) b) (mul-lt-mul-of-pos-right (z .3) (pow-pos (10 - j))) in
     subst (Moved t) e
-    (record { zeros = omega (arith, z .1); some = omega arith; few = omega arith; low = up; high = under; whole = mod-eq-of-lt (omega arith) })
+    (record { zeros = omega (arith, z .1); n-pos = omega arith; n-le = omega arith; shifted-ge = up; shifted-lt = under; whole = mod-eq-of-lt (omega arith) })
 
 -- ---- the three cases, on the 16 bits
 sign : (h : ℕ) → leb 1 (h / 32768) ≡ leb 32768 h
@@ -106,4 +106,4 @@ module _ (h : ℕ) where
       let n = leadingZeros 32 (h % 1024) - 21 in
       let m : Moved (h % 1024) n = moved (h % 1024) q (omega arith) in
       ap (λ (d : ℕ). ofFields binary32 (leb 1 (h / 32768)) (113 - n) ((d - 1024) * 8192)) (m .whole)
-      ∙ subnormal (leb 1 (h / 32768)) (h % 1024) n q (m .some) (m .few) (m .low) (m .high) ∙ by-fields 0 (h % 1024) p refl
+      ∙ subnormal (leb 1 (h / 32768)) (h % 1024) n q (m .n-pos) (m .n-le) (m .shifted-ge) (m .shifted-lt) ∙ by-fields 0 (h % 1024) p refl

@@ -1,12 +1,12 @@
 -- The two rows of the table that hold for any picture: a sigma under the limit copies; with a NaN sigma and finite samples a centre of 5
 -- stays 5. Assumes nothing.
 use mathlib.Core.Path.{_≡_, refl, _∙_, ap}
-use mathlib.Core.Bool.{Bool, true, false, cond}
+use mathlib.Core.Bool.{Bool, true, false}
 use mathlib.Core.List.{List, [], _∷_}
 use Prim.Native.Nat.{ℕ, _+_, _*_, _<_}
 use native.Mathlib.Omega.{arith}
 use lib.IntN.{ℤ, pos, _+ℤ_}
-use lib.Ieee.{Float, Format, nan, inf, fin, binary32, unlike, up, down, add, mul, div, lt, ofBits}
+use lib.Ieee.{Float, nan, inf, fin, binary32, unlike, up, down, add, mul, div, lt, ofBits}
 use lib.Ieee.Fits.{down-pos}
 use Rattle.mirror.specs.Mirror.{mirror}
 use Rattle.mirror.proofs.Laws.{mirror-lt}
@@ -15,7 +15,6 @@ use Rattle.planes.specs.Samples.{_⊕_, _⊗_, _⊘_, b0, b1}
 use Rattle.planes.specs.Picture.{Picture, Around, around}
 use Rattle.gabor_kernel.proofs.EndLaws.{itself}
 use Rattle.epf_step.specs.Steps.{Offset, Scaled, kernel, dists, along, distance, positive, falloff, weight, weightBy, copied, standardLimit, weightAt, blend, divisor, epf, multiplier, epfPass}
-use Rattle.epf.specs.declared.EpfStep.{EpfStep}
 use Rattle.epf.specs.Outcome.{settingsOf}
 use Rattle.instances.specs.Any.{Finite, b5, CopiedBelow, NanSigma}
 

@@ -12,7 +12,7 @@ use Rattle.header_bits.specs.Bits.{u, field}
 use Rattle.header_half.specs.Value.{valueOf, halfOf}
 use Rattle.header_half.specs.Half.{f16}
 use Rattle.header_fields.specs.Fields.{nested, read}
-use Rattle.header_gabor_channel.specs.Channel.{nearZero, channelFields}
+use Rattle.header_gabor.specs.Channel.{nearZero, channelFields}
 use Rattle.header_gabor.specs.Gabor.{channelsFields, weightFields, gaborFields}
 use Rattle.planes.specs.Picture.{around, inRect}
 use Rattle.planes.specs.Sets.{of, setOf, tab}

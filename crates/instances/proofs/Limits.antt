@@ -10,12 +10,12 @@ use Rattle.region_arithmetic.specs.Arithmetic.{shrunkBy, alignedTo}
 use Rattle.region_arithmetic.specs.Answers.{regionAnswer}
 use Rattle.frame.specs.Sizes.{sizesOf}
 use Rattle.frame.specs.Outcome.{badSides, badSettings}
-use Rattle.sigma_blocks.specs.Measures.{badBlocks}
-use Rattle.sigma_grids.specs.Table.{badGrid, cells, gridStart, lacks, someBelow}
+use Rattle.sigma_groups.specs.Measures.{badBlocks}
+use Rattle.sigma_grids.specs.Table.{badGrid, cells, gridStart, gridLacksBlock, someBelow}
 use Rattle.sigma_grids.specs.Start.{noEntries}
 use Rattle.sigma_groups.specs.Held.{notHeld, someNotHeld}
 use Rattle.sigma_groups.specs.Outcome.{tableFits, gridsFit}
-use Rattle.planes_layout.specs.Outcome.{layoutOf, passOutcome}
+use Rattle.planes_layout.specs.Outcome.{layoutOf, passChecks, passOutcome}
 use Rattle.epf.specs.Outcome.{stepChecks, epfChecks, epfOutcome}
 use Rattle.run_passes.specs.Plan.{steps, plan, stepMargin, marginChecks, marginOutcome}
 use Rattle.run_setup.specs.Setup.{bandCount, sizeFits, numbersFit, setupFits}
@@ -23,10 +23,10 @@ use Rattle.run_record.specs.Record.{isDone, started, bandMissing, badDone, runF
 use Rattle.run_outcomes.specs.Start.{pictureChecks, startChecks, startOutcome}
 use Rattle.run_outcomes.specs.Band.{bandChecks, bandOutcome, advanceOutcome}
 use Rattle.run_outcomes.specs.Result.{resultChecks, resultOutcome}
-use Rattle.instances.specs.Limits.{Limits}
+use Rattle.instances.specs.Limits.{Limits, numbersOf}
 
 pub limits : Limits
-unfolding u mirror powerBelow cornerFits sideFits regionOf inside boundsFit pictureFits shrunkBy alignedTo regionAnswer sizesOf badSides badSettings badBlocks badGrid cells gridStart lacks someBelow noEntries notHeld someNotHeld tableFits gridsFit layoutOf passOutcome stepChecks epfChecks epfOutcome steps plan stepMargin marginChecks marginOutcome bandCount sizeFits numbersFit setupFits isDone started bandMissing badDone runFits pictureChecks startChecks startOutcome bandChecks bandOutcome advanceOutcome resultChecks resultOutcome
+unfolding u mirror powerBelow cornerFits sideFits regionOf inside boundsFit pictureFits shrunkBy alignedTo regionAnswer sizesOf badSides badSettings badBlocks badGrid cells gridStart gridLacksBlock someBelow noEntries notHeld someNotHeld tableFits gridsFit layoutOf passOutcome stepChecks epfChecks epfOutcome steps plan stepMargin marginChecks marginOutcome bandCount sizeFits numbersFit setupFits isDone started bandMissing badDone runFits pictureChecks startChecks startOutcome bandChecks bandOutcome advanceOutcome resultChecks resultOutcome passChecks numbersOf
 limits = record {
   regionSide = (refl, refl);
   regionRight = (refl, refl);
@@ -84,4 +84,11 @@ limits = record {
   marginIterations = (refl, refl);
   marginGabor = (refl, refl);
   levels = (refl, refl, refl);
+  startNumbers = λ h. refl;
+  bandNumbers = λ t k. refl;
+  advanceNumbers = λ r. refl;
+  resultNumbers = λ r first second out. refl;
+  sigmaNumbers = λ on f b t grids n. refl;
+  passNumbers = λ image filter full from to src dst. refl;
+  epfNumbers = λ image filter full s sigmas from to src dst. refl;
 }

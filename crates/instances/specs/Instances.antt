@@ -1,7 +1,7 @@
 -- The instances of Specification 14 in one table, and others that tell similar programs apart (Specification 14.11). Each row is an
 -- equation in the definitions that the contracts cite. Definitions only.
 use mathlib.Core.Path.{_≡_}
-use mathlib.Core.Bool.{true, false, cond}
+use mathlib.Core.Bool.{false, cond}
 use mathlib.Core.List.{List, [], _∷_}
 use Prim.Native.Nat.{ℕ, zero, suc, _+_, _*_, _/_, _%_, _^_}
 use lib.Dec.{eqb}

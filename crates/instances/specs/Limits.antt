@@ -7,6 +7,7 @@ use Prim.Native.Nat.{ℕ}
 use lib.IntN.{ℤ, pos, negsuc}
 use lib.ListN.{length, replicate}
 use lib.Ieee.{Float}
+use Rattle.refusals.specs.Checks.{Check}
 use Rattle.header_bits.specs.Outcome.{accepted, refused}
 use Rattle.header_bits.specs.Bits.{field, u}
 use Rattle.region.specs.declared.Region.{Region}
@@ -14,21 +15,27 @@ use Rattle.region.specs.Answers.{isEmptyOutcome}
 use Rattle.region_arithmetic.specs.Answers.{downsampleOutcome, alignedOutcome}
 use Rattle.region_placement.specs.Placed.{placedOutcome}
 use Rattle.mirror.specs.Outcome.{mirrorOutcome}
+use Rattle.frame.specs.declared.Frame.{Frame}
 use Rattle.frame.specs.Outcome.{frameOutcome, splitOutcome}
-use Rattle.sigma_blocks.specs.Measures.{badBlocks}
+use Rattle.sigma_groups.specs.declared.blocks.Blocks.{Blocks}
+use Rattle.sigma_groups.specs.Measures.{badBlocks}
+use Rattle.sigma_groups.specs.Outcome.{sigmaChecks}
 use Rattle.sigma_grids.specs.Start.{startOutcome as gridStartOutcome}
 use Rattle.sigma.specs.Outcome.{sigmasOutcome}
 use Rattle.planes.specs.Samples.{b0, b1}
-use Rattle.epf.specs.Outcome.{epfOutcome}
+use Rattle.planes_layout.specs.Outcome.{passChecks}
+use Rattle.epf.specs.declared.EpfStep.{EpfStep}
+use Rattle.epf.specs.Outcome.{epfChecks, epfOutcome}
 use Rattle.run_passes.specs.declared.MarginAnswer.{MarginAnswer}
 use Rattle.run_passes.specs.Plan.{marginOutcome}
 use Rattle.run_passes.specs.Makers.{gaborOf, withGabor, withIters}
 use Rattle.run_setup.specs.declared.Setup.{Setup}
 use Rattle.run_setup.specs.Makers.{withRegions, withFull, withSettings, withBandHeight}
-use Rattle.run_record.specs.Record.{started}
-use Rattle.run_outcomes.specs.Start.{startOutcome}
-use Rattle.run_outcomes.specs.Band.{bandOutcome, advanceOutcome}
-use Rattle.run_outcomes.specs.Result.{resultOutcome}
+use Rattle.run_record.specs.declared.Run.{Run}
+use Rattle.run_record.specs.Record.{started, overChecks}
+use Rattle.run_outcomes.specs.Start.{Handed, startChecks, startOutcome}
+use Rattle.run_outcomes.specs.Band.{State, bandChecks, bandOutcome, advanceOutcome}
+use Rattle.run_outcomes.specs.Result.{resultChecks, resultOutcome}
 use Rattle.instances.specs.Instances.{begun}
 
 -- a value that is accepted and one that is refused with k
@@ -128,6 +135,12 @@ marginOf gabor iters = marginOutcome (setupWith (sides 1 1) (sides 1 1) 1 gabor 
 abbrev pub columnsAt : ℕ → ℕ
 columnsAt level = frameOutcome (record { width = 1000; height = 1; upsampling = 1; «lf_level» = level; «group_size_shift» = 0 }) .sizes .«sample_width»
 
+-- ---- the numbers of a table of checks, in its order
+
+unfoldable pub numbersOf : List Check → List ℕ
+numbersOf [] = []
+numbersOf (c ∷ cs) = c .number ∷ numbersOf cs
+
 -- ---- the table
 
 pub record Limits : Type 0 where
@@ -203,3 +216,13 @@ pub record Limits : Type 0 where
   pub marginGabor : Limit (λ g. marginOf g 0 .number) 1 2 9
   -- an LF level divides sides by 8: 1,000, 125 and 16 samples
   pub levels : (columnsAt 0 ≡ 1000) × (columnsAt 1 ≡ 125) × (columnsAt 2 ≡ 16)
+  -- the numbers of the tables, in their order: where more than one check applies, the lowest number is returned (Specification 3.2)
+  pub startNumbers : (h : Handed) → numbersOf (startChecks 3 h) ≡ 4 ∷ 4 ∷ 4 ∷ 5 ∷ 6 ∷ 7 ∷ 7 ∷ 7 ∷ 7 ∷ 8 ∷ 9 ∷ 9 ∷ 9 ∷ 9 ∷ 9 ∷ 9 ∷ 9 ∷ []
+  pub bandNumbers : (t : State) (k : ℕ) → numbersOf (bandChecks 3 t k) ≡ 7 ∷ 7 ∷ 9 ∷ 10 ∷ []
+  pub advanceNumbers : (r : Run) → numbersOf (overChecks r) ≡ 9 ∷ 11 ∷ []
+  pub resultNumbers : (r : Run) (first second out : List Float) → numbersOf (resultChecks 3 r first second out) ≡ 7 ∷ 7 ∷ 9 ∷ 11 ∷ []
+  pub sigmaNumbers : (on : ℕ) (f : Frame) (b : Blocks) (t : List ℕ) (grids : List Float) (n : ℕ)
+      → numbersOf (sigmaChecks on f b t grids n) ≡ 4 ∷ 4 ∷ 4 ∷ 7 ∷ 7 ∷ 7 ∷ 8 ∷ 9 ∷ 9 ∷ 9 ∷ []
+  pub passNumbers : (image filter : Region) (full from to : ℕ) (src dst : List Float) → numbersOf (passChecks image filter full 3 from to src dst) ≡ 4 ∷ 5 ∷ 7 ∷ 9 ∷ 9 ∷ []
+  pub epfNumbers : (image filter : Region) (full : ℕ) (s : EpfStep) (sigmas : List Float) (from to : ℕ) (src dst : List Float)
+      → numbersOf (epfChecks image filter full s sigmas from to src dst) ≡ 4 ∷ 5 ∷ 6 ∷ 7 ∷ 9 ∷ 9 ∷ 9 ∷ []

@@ -11,6 +11,7 @@ const MIN_OFFSET: isize = -1_048_576;
 
 const MAX_OFFSET: isize = 1_048_576;
 
+// The mirrored place, counted from 0; 0 in a refused call.
 #[repr(C)]
 pub struct MirrorAnswer {
     pub number: u32,

@@ -1,6 +1,6 @@
 -- Two adjacent rectangles of a set, one below or beside the other, written in sequence: together they are one rectangle. Assumes nothing.
 use mathlib.Core.Path.{_≡_, refl, sym, _∙_}
-use mathlib.Core.Bool.{Bool, true, false, cond, _&&_, and-false}
+use mathlib.Core.Bool.{cond, _&&_, and-false}
 use mathlib.Core.List.{List}
 use mathlib.Core.Logic.{_⊎_, inl, inr, ⊎-elim}
 use Prim.Native.Nat.{ℕ, zero, suc, _+_, _-_, _*_, _<_, _≤_}
@@ -8,13 +8,12 @@ use native.Mathlib.Nat.{mul-le-mul-right}
 use native.Mathlib.Decide.{decLt}
 use native.Mathlib.Omega.{arith}
 use borrow.Author.Tests.{le-leb, lt-ltb}
-use lib.Dec.{leb, ltb}
 use lib.ListN.{length}
 use lib.Ieee.{Float}
 use Rattle.planes.specs.Picture.{Picture, inRect}
 use Rattle.planes.specs.Sets.{of}
 use Rattle.planes.proofs.SetLaws.{sets-ext}
-use Rattle.planes.specs.Rect.{rowsFill, planesFill}
+use Rattle.planes.specs.Rect.{planesFill}
 use Rattle.planes.proofs.Rect.{rows-cong, Between, between, planes-at, planes-later, length-planesFill}
 
 -- only the samples of the rectangle matter

@@ -1,5 +1,5 @@
 -- One pass over rows of the result region (Specification 9.2, 9.3): which samples it writes, and the set after it.
--- Definitions only; Stored.antt has the laws.
+-- Definitions only; the laws are in proofs/Stored.antt.
 use mathlib.Core.Bool.{Bool, cond, _&&_}
 use mathlib.Core.List.{List}
 use Prim.Native.Nat.{ℕ, _+_, _-_, _*_, min}

@@ -98,7 +98,8 @@ pub fn filter_row(l: Layout, y: usize) -> usize
 
 fn copy_samples(dst: &mut [f32], at: usize, src: &[f32], from: usize, n: usize)
     requires { ⌜ (at + n ≤ length (now dst)) × (from + n ≤ length (now src)) ⌝ }
-    ensures { λ _. ⌜ now (dst .exit) ≡ fill (now (dst .entry)) at n (λ (i : ℕ). getD (now (src .entry)) (from + i) nan) ⌝ }
+    ensures { λ _. ⌜ now (dst .exit) ≡ fill (now (dst .entry)) at n
+        (λ (i : ℕ). getD (now (src .entry)) (from + i) nan) ⌝ }
 {
     let mut i = 0;
     while i < n {

@@ -1,7 +1,7 @@
 -- An accepted layout fits: the filter region lies inside the image region. Assumes nothing.
 use mathlib.Core.Path.{_≡_, refl, sym, ap, _∙_}
-use mathlib.Core.Bool.{Bool, true, false, cond, _&&_, not}
-use mathlib.Core.List.{List}
+use mathlib.Core.Bool.{Bool, true, false, _&&_, not}
+use mathlib.Core.List.{List, [], _∷_, _++_}
 use Prim.Native.Nat.{ℕ, _+_, _-_, _*_, _<_, _≤_}
 use native.Mathlib.Omega.{arith}
 use borrow.Author.Tests.{le-leb, ne-eqb}
@@ -11,49 +11,44 @@ use lib.IntN.{ℤ, pos, natAbs, _+ℤ_, _-ℤ_}
 use lib.Ieee.{Float}
 use lib.Ieee.Fits.{and-l, and-r}
 use lib.Signed.{leZ}
-use Rattle.refusals.specs.Numbers.{outOfLimits, notInside, wrongLength, outOfRange}
-use Rattle.refusals.specs.Checks.{firstOf}
+use Rattle.refusals.specs.Numbers.{wrongLength, outOfRange}
+use Rattle.refusals.specs.Checks.{Check, applies, firstOf}
 use Rattle.refusals.specs.Flags.{flagFits, flagSet}
-use Rattle.region_overlap.specs.Overlap.{covers}
+use Rattle.refusals.proofs.Rows.{found, after, first-number, none, drop, same-number, joined-passed, joined-refused}
+use Rattle.region_interval.specs.Overlap.{covers}
 use Rattle.region_interval.proofs.Order.{le-to, sum-is, difference-is, size-is, not-negative-difference}
 use Rattle.region.specs.declared.Region.{Region}
 use Rattle.region.specs.Regions.{columns, rows, inside}
-use Rattle.region.specs.Measures.{pictureFits}
 use Rattle.region.proofs.Laws.{picture-bounds, picture-width, picture-height, bounds-width, bounds-height}
 use Rattle.region_placement.specs.declared.PlacedAnswer.{PlacedAnswer}
 use Rattle.region_placement.specs.Placed.{placedChecks, placedOutcome}
+use Rattle.region_placement.proofs.PlacedLaws.{placed-fits}
 use Rattle.planes.specs.declared.Layout.{Layout}
 use Rattle.planes.specs.Band.{layoutFits, setFits, rowsFit}
 use Rattle.planes.specs.Fits.{LayoutFits}
 use Rattle.planes_layout.specs.declared.LayoutAnswer.{LayoutAnswer}
-use Rattle.planes_layout.specs.Outcome.{layoutOf, noLayout, layoutAnswer, layoutOutcome, passChecks, PassOutcome, passOutcome}
+use Rattle.planes_layout.specs.Outcome.{layoutOf, noLayout, layoutAnswer, layoutOutcome, lengthsCheck, flagCheck, rowsCheck, passChecks, PassOutcome, passOutcome}
 
 -- containment on one axis
 part-fits : (a b : ℤ) (n m : ℕ) → T (leZ a b) → T (leZ (b +ℤ pos m) (a +ℤ pos n)) → natAbs (b -ℤ a) + m ≤ n
 part-fits a b n m h k =
     omega (arith, le-to a b h, le-to (b +ℤ pos m) (a +ℤ pos n) k, sum-is a (pos n), sum-is b (pos m), difference-is b a, size-is (b -ℤ a), not-negative-difference a b (le-to a b h))
 
--- ---- the tests that number 0 implies
-
-pub zero-is : (a b c : Bool) → cond (true && not (a && b)) outOfLimits (cond (true && not c) notInside 0) ≡ 0 → T a × T b × T c
-zero-is true true true e = (tt, tt, tt)
-zero-is true true false e = absurd (omega arith)
-zero-is true false c e = absurd (omega arith)
-zero-is false b c e = absurd (omega arith)
+-- ---- the layout of regions with number 0
 
 pub record Accepted (l : Layout) : Type 0 where
   pub fits : LayoutFits l
-  pub wide : 0 < l .width
-  pub high : 0 < l .height
+  pub width-pos : 0 < l .width
+  pub height-pos : 0 < l .height
 
 module _ (image filter : Region) (full : Bool) (ok : firstOf (placedChecks image filter) ≡ 0) where
   pub layout-accepted : Accepted (layoutOf image filter full)
   unfolding layoutOf inside
   layout-accepted =
-      let z = zero-is (pictureFits image) (pictureFits filter) (inside image filter) ok in
-      let m = picture-bounds image (z .0) in
-      let i = and-l (covers (columns image) (columns filter)) (covers (rows image) (rows filter)) (z .2) in
-      let j = and-r (covers (columns image) (columns filter)) (covers (rows image) (rows filter)) (z .2) in
+      let p = placed-fits image filter ok in
+      let m = picture-bounds image (p .image-picture) in
+      let i = and-l (covers (columns image) (columns filter)) (covers (rows image) (rows filter)) (p .filter-inside) in
+      let j = and-r (covers (columns image) (columns filter)) (covers (rows image) (rows filter)) (p .filter-inside) in
       record {
         fits = record {
           wide = bounds-width image m;
@@ -65,8 +60,8 @@ module _ (image filter : Region) (full : Bool) (ok : firstOf (placedChecks image
               (and-l (leZ (image .top) (filter .top)) (leZ (rows filter .end) (rows image .end)) j)
               (and-r (leZ (image .top) (filter .top)) (leZ (rows filter .end) (rows image .end)) j);
         };
-        wide = picture-width filter (z .1);
-        high = picture-height filter (z .1);
+        width-pos = picture-width filter (p .filter-picture);
+        height-pos = picture-height filter (p .filter-picture);
       }
 
   layout-true : layoutFits (layoutOf image filter full) ≡ true
@@ -82,67 +77,77 @@ module _ (image filter : Region) (full : Bool) (ok : firstOf (placedChecks image
 
 -- ---- the number of a pass: 4 and 5 come first
 
-pub placed-or : (a b c : Bool) (k m : ℕ) → k ≡ cond (true && not (a && b)) outOfLimits (cond (true && not c) notInside 0) → (k ≡ 0 → ⊥)
-    → k ≡ cond (true && not (a && b)) outOfLimits (cond (true && not c) notInside m)
-placed-or true true true k m e n = absurd (n e)
-placed-or true true false k m e n = e
-placed-or true false c k m e n = e
-placed-or false b c k m e n = e
+module _ (image filter : Region) (cs : List Check) where
+  pub placed-first : (k : ℕ) → k ≡ firstOf (placedChecks image filter) → (k ≡ 0 → ⊥) → k ≡ firstOf (placedChecks image filter ++ cs)
+  placed-first k e h = e ∙ sym (joined-refused (placedChecks image filter) cs tt (λ z. h (e ∙ z)))
 
-pub then : (a b c : Bool) (m : ℕ) → cond (true && not (a && b)) outOfLimits (cond (true && not c) notInside 0) ≡ 0
-    → m ≡ cond (true && not (a && b)) outOfLimits (cond (true && not c) notInside m)
-then true true true m e = refl
-then true true false m e = absurd (omega arith)
-then true false c m e = absurd (omega arith)
-then false b c m e = absurd (omega arith)
+  pub placed-then : firstOf (placedChecks image filter) ≡ 0 → (k : ℕ) → k ≡ firstOf cs → k ≡ firstOf (placedChecks image filter ++ cs)
+  placed-then ok k e = e ∙ sym (joined-passed (placedChecks image filter) cs tt ok)
 
-not-both : (s : Bool) (m : ℕ) → wrongLength ≡ cond (true && not (s && false)) wrongLength m
-not-both true m = refl
-not-both false m = refl
+not-first : (a b : Bool) → a ≡ false → not (a && b) ≡ true
+not-first a b e = rw e
+
+not-second : (a b : Bool) → b ≡ false → not (a && b) ≡ true
+not-second true b e = rw e
+not-second false b e = refl
 
 module _ (image filter : Region) (full n from to : ℕ) (src dst : List Float) where
   abbrev at-full : Layout
   at-full = layoutOf image filter (flagSet full)
+
+  -- the rows after 4 and 5
+  abbrev own : List Check
+  own = lengthsCheck image n src dst ∷ flagCheck full ∷ rowsCheck image filter full from to ∷ []
 
   abbrev Number : ℕ → Type 0
   Number k = k ≡ firstOf (passChecks image filter full n from to src dst)
 
   pub not-placed : (k : ℕ) → k ≡ firstOf (placedChecks image filter) → (k ≡ 0 → ⊥) → Number k
   unfolding passChecks
-  not-placed k e h = placed-or (pictureFits image) (pictureFits filter) (inside image filter) k _ e h
+  not-placed k e h = placed-first image filter own k e h
 
   module _ (ok : firstOf (placedChecks image filter) ≡ 0) (few : n ≤ 3) where
-    pub wrong-source : setFits at-full n (length src) ≡ false → Number wrongLength
+    own-number : (k : ℕ) → firstOf own ≡ k → Number k
     unfolding passChecks
-    wrong-source e =
-        let z : eqb (length src) (n * image .height * image .width) ≡ false = sym (length-checked image filter (flagSet full) ok n (length src) few) ∙ e in
-        rw z (then (pictureFits image) (pictureFits filter) (inside image filter) wrongLength ok)
+    own-number k e = placed-then image filter own ok k (sym e)
+
+    source-is : (b : Bool) → setFits at-full n (length src) ≡ b → eqb (length src) (n * image .height * image .width) ≡ b
+    source-is b e = sym (length-checked image filter (flagSet full) ok n (length src) few) ∙ e
+
+    target-is : (b : Bool) → setFits at-full n (length dst) ≡ b → eqb (length dst) (n * image .height * image .width) ≡ b
+    target-is b e = sym (length-checked image filter (flagSet full) ok n (length dst) few) ∙ e
+
+    wrong-lengths : applies (lengthsCheck image n src dst) ≡ true → Number wrongLength
+    wrong-lengths e = own-number wrongLength (first-number own (lengthsCheck image n src dst) (search (found, after, e) depth 20))
+
+    pub wrong-source : setFits at-full n (length src) ≡ false → Number wrongLength
+    wrong-source e = wrong-lengths (not-first _ (eqb (length dst) (n * image .height * image .width)) (source-is false e))
 
     pub wrong-target : setFits at-full n (length dst) ≡ false → Number wrongLength
-    unfolding passChecks
-    wrong-target e =
-        let z : eqb (length dst) (n * image .height * image .width) ≡ false = sym (length-checked image filter (flagSet full) ok n (length dst) few) ∙ e in
-        rw z (not-both (eqb (length src) (n * image .height * image .width)) _ ∙ then (pictureFits image) (pictureFits filter) (inside image filter) _ ok)
+    wrong-target e = wrong-lengths (not-second (eqb (length src) (n * image .height * image .width)) _ (target-is false e))
 
     module _ (s : setFits at-full n (length src) ≡ true) (t : setFits at-full n (length dst) ≡ true) where
-      source-is : eqb (length src) (n * image .height * image .width) ≡ true
-      source-is = sym (length-checked image filter (flagSet full) ok n (length src) few) ∙ s
-
-      target-is : eqb (length dst) (n * image .height * image .width) ≡ true
-      target-is = sym (length-checked image filter (flagSet full) ok n (length dst) few) ∙ t
+      lengths : applies (lengthsCheck image n src dst) ≡ false
+      lengths = rw (source-is true s, target-is true t)
 
       pub wrong-flag : flagFits full ≡ false → Number outOfRange
-      unfolding passChecks
-      wrong-flag e = rw (source-is, target-is, e) (then (pictureFits image) (pictureFits filter) (inside image filter) outOfRange ok)
+      wrong-flag e =
+          let fails : applies (flagCheck full) ≡ true = rw e in
+          own-number outOfRange (first-number own (flagCheck full) (search (found, after, lengths, fails) depth 20))
 
       module _ (f : flagFits full ≡ true) where
+        flag : applies (flagCheck full) ≡ false
+        flag = rw f
+
         pub wrong-rows : rowsFit at-full from to ≡ false → Number outOfRange
-        unfolding passChecks
-        wrong-rows e = rw (source-is, target-is, f, e) (then (pictureFits image) (pictureFits filter) (inside image filter) outOfRange ok)
+        wrong-rows e =
+            let fails : applies (rowsCheck image filter full from to) ≡ true = rw (f, e) in
+            own-number outOfRange (first-number own (rowsCheck image filter full from to) (search (found, after, lengths, flag, fails) depth 20))
 
         pub pass-accepted : rowsFit at-full from to ≡ true → Number 0
-        unfolding passChecks
-        pass-accepted e = rw (source-is, target-is, f, e) (then (pictureFits image) (pictureFits filter) (inside image filter) 0 ok)
+        pass-accepted e =
+            let passed : applies (rowsCheck image filter full from to) ≡ false = rw (f, e) in
+            own-number 0 (same-number own [] (search (none, drop, lengths, flag, passed) depth 20))
 
 -- ---- the answer
 

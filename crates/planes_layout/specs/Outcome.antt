@@ -1,4 +1,4 @@
--- The layout of a filter region in an image region, and the outcome of a pass (Specification 9.1, 9.4). Definitions only; Fits.antt has the laws.
+-- The layout of a filter region in an image region, and the outcome of a pass (Specification 9.1, 9.4). Definitions only; the laws are in proofs/Fits.antt.
 use mathlib.Core.Bool.{Bool, false, cond, _&&_, not}
 use mathlib.Core.List.{List, [], _∷_, _++_}
 use Prim.Native.Nat.{ℕ, _*_}
@@ -38,13 +38,22 @@ layoutOutcome image filter full = layoutAnswer (firstOf (placedChecks image filt
 
 -- ---- a pass over the rows from `from` up to, not including, `to` of the result region, from one set of n planes to another
 
--- Specification 9.4: 4, 5, then 7 for both sets, then 9 for the flag `preserve_outside` and for the rows, which are checked only if the flag is in range
+-- the lengths of both sets
+abbrev pub lengthsCheck : Region → ℕ → List Float → List Float → Check
+lengthsCheck image n src dst = always wrongLength (not (eqb (length src) (n * image .height * image .width) && eqb (length dst) (n * image .height * image .width)))
+
+-- the flag `preserve_outside`
+abbrev pub flagCheck : ℕ → Check
+flagCheck full = always outOfRange (not (flagFits full))
+
+-- the rows, which are checked only if the flag is in range
+abbrev pub rowsCheck : Region → Region → ℕ → ℕ → ℕ → Check
+rowsCheck image filter full from to = given (flagFits full) outOfRange (not (rowsFit (layoutOf image filter (flagSet full)) from to))
+
+-- Specification 9.4: 4, 5, then 7, then 9
 unfoldable pub passChecks : Region → Region → ℕ → ℕ → ℕ → ℕ → List Float → List Float → List Check
 passChecks image filter full n from to src dst =
-    placedChecks image filter
-    ++ (always wrongLength (not (eqb (length src) (n * image .height * image .width) && eqb (length dst) (n * image .height * image .width)))
-    ∷ always outOfRange (not (flagFits full))
-    ∷ given (flagFits full) outOfRange (not (rowsFit (layoutOf image filter (flagSet full)) from to)) ∷ [])
+    placedChecks image filter ++ (lengthsCheck image n src dst ∷ flagCheck full ∷ rowsCheck image filter full from to ∷ [])
 
 -- the number, and the written set after the pass
 pub record PassOutcome : Type 0 where

@@ -16,8 +16,10 @@ ghost use Rattle.planes.specs.Band.{copiedOutside};
 
 // Copies the samples of row y of the image, which starts at index o, that lie outside the filter region.
 fn copy_row_outside(src: &[f32], dst: &mut [f32], l: Layout, y: usize, o: usize)
-    requires { ⌜ (o + l .image .width ≤ length (now src)) × (o + l .image .width ≤ length (now dst)) × (l .left + l .width ≤ l .image .width) ⌝ }
-    ensures { λ _. ⌜ now (dst .exit) ≡ fill (now (dst .entry)) o (l .image .width) (rowOutside l y o (now (src .entry)) (now (dst .entry))) ⌝ }
+    requires { ⌜ (o + l .image .width ≤ length (now src)) × (o + l .image .width ≤ length (now dst))
+        × (l .left + l .width ≤ l .image .width) ⌝ }
+    ensures { λ _. ⌜ now (dst .exit) ≡ fill (now (dst .entry)) o (l .image .width)
+        (rowOutside l y o (now (src .entry)) (now (dst .entry))) ⌝ }
 {
     let width = l.image.width;
     if y < l.top {
@@ -35,8 +37,10 @@ fn copy_row_outside(src: &[f32], dst: &mut [f32], l: Layout, y: usize, o: usize)
 
 // The same for n rows of one plane from row `from`, which starts at index `at`.
 fn copy_rows_outside(src: &[f32], dst: &mut [f32], l: Layout, from: usize, n: usize, at: usize)
-    requires { ⌜ (at + n * l .image .width ≤ length (now src)) × (at + n * l .image .width ≤ length (now dst)) × (l .left + l .width ≤ l .image .width) × (from + n ≤ l .image .height) ⌝ }
-    ensures { λ _. ⌜ now (dst .exit) ≡ rowsFill (now (dst .entry)) at (l .image .width) (l .image .width) n (rowsOutside l from at (l .image .width) (now (src .entry)) (now (dst .entry))) ⌝ }
+    requires { ⌜ (at + n * l .image .width ≤ length (now src)) × (at + n * l .image .width ≤ length (now dst))
+        × (l .left + l .width ≤ l .image .width) × (from + n ≤ l .image .height) ⌝ }
+    ensures { λ _. ⌜ now (dst .exit) ≡ rowsFill (now (dst .entry)) at (l .image .width) (l .image .width) n
+        (rowsOutside l from at (l .image .width) (now (src .entry)) (now (dst .entry))) ⌝ }
 {
     let mut i = 0;
     let mut o = at;
@@ -50,8 +54,11 @@ fn copy_rows_outside(src: &[f32], dst: &mut [f32], l: Layout, from: usize, n: us
 // The same for these rows in the first n planes.
 fn copy_planes_outside(src: &[f32], dst: &mut [f32], l: Layout, n: usize, from: usize, rows: usize)
     requires { ⌜ LayoutFits l ⌝ }
-    requires { ⌜ (n ≤ 3) × (length (now src) ≡ n * l .image .height * l .image .width) × (length (now dst) ≡ n * l .image .height * l .image .width) × (from + rows ≤ l .image .height) ⌝ }
-    ensures { λ _. ⌜ now (dst .exit) ≡ planesFill (l .image .width) (l .image .height) 0 (l .image .width) from rows (planesOutside l (l .image .width) (l .image .height) from (now (src .entry)) (now (dst .entry))) (now (dst .entry)) n ⌝ }
+    requires { ⌜ (n ≤ 3) × (length (now src) ≡ n * l .image .height * l .image .width)
+        × (length (now dst) ≡ n * l .image .height * l .image .width) × (from + rows ≤ l .image .height) ⌝ }
+    ensures { λ _. ⌜ now (dst .exit) ≡ planesFill (l .image .width) (l .image .height) 0 (l .image .width) from rows
+        (planesOutside l (l .image .width) (l .image .height) from (now (src .entry)) (now (dst .entry)))
+        (now (dst .entry)) n ⌝ }
 {
     let mut c = 0;
     while c < n {

@@ -1,13 +1,12 @@
--- Tables of checks: the number is 0 exactly where no check applies. Assumes nothing.
+-- Tables of checks: the number is 0 exactly where no check applies, and rows are found by name. Assumes nothing.
 use mathlib.Core.Path.{_≡_, refl, sym}
 use mathlib.Core.Bool.{Bool, true, false, true≢false, not, _&&_}
 use mathlib.Core.List.{List, [], _∷_}
-use Prim.Native.Nat.{ℕ, zero, suc, _<_}
+use Prim.Native.Nat.{_<_}
 use native.Mathlib.Omega.{arith}
 use lib.Dec.{T, ltb, ltb→lt}
-use lib.ListN.{getD}
 use lib.Ieee.Fits.{and-l, and-r}
-use Rattle.refusals.specs.Checks.{Check, always, firstOf}
+use Rattle.refusals.specs.Checks.{Check, firstOf}
 
 -- ---- tests
 
@@ -55,16 +54,3 @@ zero-none (c ∷ cs) t e = go (λ z. zero-none cs (and-r (ltb 0 (c .number)) (nu
 pub none-zero : (cs : List Check) → NoneApplies cs → firstOf cs ≡ 0
 none-zero [] n = refl
 none-zero (c ∷ cs) n = rw (n .0) (none-zero cs (n .1))
-
--- row i of a table, counted from 0; past the last row, a check that never applies
-abbrev pub rowOf : List Check → ℕ → Check
-rowOf cs i = getD cs i (always 0 false)
-
-none-at : (cs : List Check) → NoneApplies cs → (i : ℕ) → (rowOf cs i .needs && rowOf cs i .fault) ≡ false
-none-at [] n i = refl
-none-at (c ∷ cs) n zero = n .0
-none-at (c ∷ cs) n (suc i) = none-at cs (n .1) i
-
--- if the number is 0, row i does not apply
-pub row-passed : (cs : List Check) → T (numbered cs) → firstOf cs ≡ 0 → (i : ℕ) → (rowOf cs i .needs && rowOf cs i .fault) ≡ false
-row-passed cs t e i = none-at cs (zero-none cs t e) i

@@ -9,7 +9,7 @@ use lib.IntN.{ℤ, pos}
 use lib.Signed.{leZ, mag}
 use Rattle.region_interval.specs.Integers.{greatest}
 use Rattle.region_interval.specs.Interval.{extent}
-use Rattle.region_overlap.specs.Overlap.{vacant, meet}
+use Rattle.region_interval.specs.Overlap.{vacant, meet}
 use Rattle.region_axis.specs.Measures.{cornerFits, sideFits, spanFits}
 use Rattle.region_axis.proofs.Laws.{place-size, side-size, side-of, extent-back}
 use Rattle.region_interval.proofs.Order.{mag-add, between, greatest-over-left, least-under-left, le-of, not-le}

@@ -20,8 +20,12 @@ edgeAnswer n z = record { number = n; edge = cond (eqb n 0) z (pos 0) }
 
 -- ---- tables of checks, for each given region
 
+-- a region exceeds the limits
+abbrev pub measuredCheck : Region → Check
+measuredCheck r = always outOfLimits (not (boundsFit r))
+
 abbrev pub givenChecks : Region → List Check
-givenChecks r = always outOfLimits (not (boundsFit r)) ∷ []
+givenChecks r = measuredCheck r ∷ []
 
 abbrev pub pairChecks : Region → Region → List Check
 pairChecks a b = always outOfLimits (not (boundsFit a && boundsFit b)) ∷ []

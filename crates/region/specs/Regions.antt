@@ -3,7 +3,7 @@ use mathlib.Core.Bool.{Bool, _&&_, _||_}
 use lib.Dec.{eqb}
 use lib.IntN.{ℤ, pos}
 use Rattle.region_interval.specs.Interval.{spanOf, extent}
-use Rattle.region_overlap.specs.Overlap.{covers, In}
+use Rattle.region_interval.specs.Overlap.{covers, In}
 use Rattle.region_interval.specs.declared.Span.{Span}
 use Rattle.region.specs.declared.Region.{Region}
 

@@ -13,8 +13,10 @@ ghost use Rattle.refusals.specs.Checks.{firstOf};
 ghost use Rattle.region_axis.specs.Measures.{spanFits};
 ghost use Rattle.region.specs.Measures.{boundsFit};
 ghost use Rattle.region.specs.Regions.{columns, rows, isEmpty, inside, contains};
-ghost use Rattle.region.specs.Answers.{boolAnswer, edgeAnswer, givenChecks, isEmptyOutcome, rightOutcome, bottomOutcome, containsOutcome};
+ghost use Rattle.region.specs.Answers.{boolAnswer, edgeAnswer, givenChecks};
+ghost use Rattle.region.specs.Answers.{isEmptyOutcome, rightOutcome, bottomOutcome, containsOutcome};
 
+// A rectangle of samples: the column and row of its corner, and its sides. It is empty if a side is 0.
 #[repr(C)]
 pub struct Region {
     pub left: i32,
@@ -23,12 +25,14 @@ pub struct Region {
     pub height: u32,
 }
 
+// Whether a test of regions holds; false in a refused call.
 #[repr(C)]
 pub struct BoolAnswer {
     pub number: u32,
     pub holds: bool,
 }
 
+// The first column right of a region or the first row below it; 0 in a refused call.
 #[repr(C)]
 pub struct EdgeAnswer {
     pub number: u32,
@@ -160,10 +164,10 @@ impl Region {
 fn inside(r: Region, target: Region) -> bool
     ensures { λ b. ⌜ b ≡ inside r target ⌝ }
 {
-    if !region_overlap::covers(columns(r), columns(target)) {
+    if !region_interval::overlap::covers(columns(r), columns(target)) {
         return false;
     }
-    region_overlap::covers(rows(r), rows(target))
+    region_interval::overlap::covers(rows(r), rows(target))
 }
 
 fn holds(r: Region, target: Region) -> bool

@@ -2,20 +2,19 @@
 use mathlib.Core.Path.{_≡_, refl, sym, ap, _∙_, subst}
 use mathlib.Core.Bool.{Bool, true, false, _||_, true≢false}
 use Prim.Native.Nat.{ℕ, _+_, _<_, _≤_}
-use native.Mathlib.Omega.{arith}
 use borrow.Author.Tests.{eqb-false}
 use lib.Dec.{T, eqb}
 use lib.Ieee.Fits.{and-l, and-r, and-i}
-use lib.IntN.{ℤ, pos, _+ℤ_}
+use lib.IntN.{ℤ, _+ℤ_}
 use lib.Signed.{leZ}
 use Rattle.region_interval.specs.Integers.{floorDiv}
 use Rattle.region_interval.specs.Interval.{shrunk, aligned}
-use Rattle.region_overlap.specs.Overlap.{vacant, covers, meet, In}
-use Rattle.region_overlap.specs.Grid.{OnGrid}
-use Rattle.region_overlap.proofs.Laws.{held-not-vacant, first-place, not-turned, span-not-vacant, covering-not-vacant, covering-not-turned, span-not-turned, meet-left, meet-right, meet-most, aligned-on-grid, aligned-covers, aligned-least, cell-in, cell-touched}
+use Rattle.region_interval.specs.Overlap.{vacant, covers, meet, In}
+use Rattle.region_interval.specs.Grid.{OnGrid}
+use Rattle.region_interval.proofs.Laws.{held-not-vacant, first-place, not-turned, span-not-vacant, covering-not-vacant, covering-not-turned, span-not-turned, meet-left, meet-right, meet-most, aligned-on-grid, aligned-covers, aligned-least, cell-in, cell-touched}
 use Rattle.region_axis.proofs.Laws.{span-back}
 use Rattle.region_interval.specs.declared.Span.{Span}
-use Rattle.region_arithmetic.specs.Laws.{Aligned, IntersectionInside, IntersectionGreatest, AlignedContains, AlignedLeast, ShrunkHas, ShrunkTouched}
+use Rattle.region_arithmetic.specs.Laws.{IntersectionInside, IntersectionGreatest, AlignedContains, AlignedLeast, ShrunkHas, ShrunkTouched}
 use Rattle.region.specs.Regions.{columns, rows, regionOf, zeroRegion, isEmpty, inside, contains}
 use Rattle.region_arithmetic.specs.Arithmetic.{intersected, shrunkBy, alignedTo}
 use Rattle.region.specs.declared.Region.{Region}

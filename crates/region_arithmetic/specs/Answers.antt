@@ -9,7 +9,7 @@ use Rattle.refusals.specs.Checks.{Check, always, given, firstOf}
 use Rattle.region_interval.specs.Interval.{powerBelow}
 use Rattle.region.specs.Measures.{boundsFit}
 use Rattle.region.specs.Regions.{zeroRegion}
-use Rattle.region.specs.Answers.{givenChecks, pairChecks}
+use Rattle.region.specs.Answers.{measuredCheck, givenChecks, pairChecks}
 use Rattle.region.specs.declared.Region.{Region}
 use Rattle.region_arithmetic.specs.Arithmetic.{translated, intersected, paddedBy, downsampled, alignedTo}
 use Rattle.region_arithmetic.specs.declared.RegionAnswer.{RegionAnswer}
@@ -20,12 +20,17 @@ regionAnswer n r = record { number = n; region = cond (eqb n 0) r zeroRegion }
 -- ---- tables of checks: the given regions, then the result
 
 abbrev pub madeChecks : Region → Region → List Check
-madeChecks r made = always outOfLimits (not (boundsFit r)) ∷ always outOfLimits (not (boundsFit made)) ∷ []
+madeChecks r made = measuredCheck r ∷ measuredCheck made ∷ []
 
 -- the result is checked only if the setting that it needs is in range
+abbrev pub madeCheck : Bool → Region → Check
+madeCheck sound made = given sound outOfLimits (not (boundsFit made))
+
+abbrev pub settingCheck : Bool → Check
+settingCheck sound = always outOfRange (not sound)
+
 abbrev pub settingChecks : Region → Bool → Region → List Check
-settingChecks r sound made =
-    always outOfLimits (not (boundsFit r)) ∷ given sound outOfLimits (not (boundsFit made)) ∷ always outOfRange (not sound) ∷ []
+settingChecks r sound made = measuredCheck r ∷ madeCheck sound made ∷ settingCheck sound ∷ []
 
 -- downsampling factors: 0 to 16
 abbrev pub isFactor : ℕ → Bool

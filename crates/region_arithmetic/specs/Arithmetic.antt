@@ -3,7 +3,7 @@ use mathlib.Core.Bool.{cond, _||_}
 use Prim.Native.Nat.{ℕ, _^_}
 use lib.IntN.{ℤ}
 use Rattle.region_interval.specs.Interval.{moved, padded, shrunk, aligned}
-use Rattle.region_overlap.specs.Overlap.{vacant, meet}
+use Rattle.region_interval.specs.Overlap.{vacant, meet}
 use Rattle.region.specs.Regions.{columns, rows, regionOf, zeroRegion}
 use Rattle.region.specs.declared.Region.{Region}
 

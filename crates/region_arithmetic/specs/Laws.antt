@@ -5,7 +5,7 @@ use Prim.Native.Nat.{ℕ, _<_}
 use lib.Dec.{T}
 use lib.IntN.{ℤ}
 use Rattle.region_interval.specs.Integers.{floorDiv}
-use Rattle.region_overlap.specs.Grid.{OnGrid}
+use Rattle.region_interval.specs.Grid.{OnGrid}
 use Rattle.region.specs.Regions.{Holds, columns, rows, isEmpty, contains}
 use Rattle.region.specs.declared.Region.{Region}
 use Rattle.region_arithmetic.specs.Arithmetic.{intersected, shrunkBy, alignedTo}

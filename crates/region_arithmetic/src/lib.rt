@@ -10,12 +10,15 @@ use region_interval::Span;
 ghost use mathlib.Core.Path.{_≡_};
 ghost use lib.Dec.{T};
 ghost use Rattle.region_interval.specs.Interval.{spanOf};
-ghost use Rattle.region_overlap.specs.Overlap.{meet};
+ghost use Rattle.region_interval.specs.Overlap.{meet};
 ghost use Rattle.region.specs.Measures.{boundsFit};
 ghost use Rattle.region.specs.Regions.{regionOf, zeroRegion};
 ghost use Rattle.region_arithmetic.specs.Arithmetic.{intersected};
-ghost use Rattle.region_arithmetic.specs.Answers.{regionAnswer, regionNumber, isAlignment, translateOutcome, intersectionOutcome, padOutcome, downsampleOutcome, alignedOutcome};
+ghost use Rattle.region_arithmetic.specs.Answers.{regionAnswer, regionNumber, isAlignment, alignedOutcome};
+ghost use Rattle.region_arithmetic.specs.Answers.{translateOutcome, intersectionOutcome, padOutcome};
+ghost use Rattle.region_arithmetic.specs.Answers.{downsampleOutcome};
 
+// A region made from others; zeros in a refused call.
 #[repr(C)]
 pub struct RegionAnswer {
     pub number: u32,
@@ -88,7 +91,7 @@ pub fn translate(r: Region, x: i32, y: i32) -> RegionAnswer
 fn shared(a: i32, n: u32, b: i32, m: u32) -> Span
     ensures { λ s. ⌜ s ≡ meet (spanOf a n) (spanOf b m) ⌝ }
 {
-    region_overlap::meet(
+    region_interval::overlap::meet(
         region_interval::span_of(a, n),
         region_interval::span_of(b, m),
     )
@@ -101,10 +104,10 @@ fn common(a: Region, b: Region) -> RegionAnswer
 {
     let x = shared(a.left, a.width, b.left, b.width);
     let y = shared(a.top, a.height, b.top, b.height);
-    if region_overlap::vacant(x) {
+    if region_interval::overlap::vacant(x) {
         return refused(ACCEPTED);
     }
-    if region_overlap::vacant(y) {
+    if region_interval::overlap::vacant(y) {
         return refused(ACCEPTED);
     }
     check_made(x, y)

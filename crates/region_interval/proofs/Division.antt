@@ -1,15 +1,12 @@
 -- Division rounded down and rounded up, by the nearest multiples below and above. Assumes nothing.
-use mathlib.Core.Path.{_≡_, refl, sym, ap, _∙_}
-use mathlib.Core.Bool.{Bool, true, false}
-use Prim.Native.Nat.{ℕ, zero, suc, _+_, _*_, _/_, _%_, _<_, _≤_}
+use mathlib.Core.Path.{_≡_, refl, ap, _∙_}
+use Prim.Native.Nat.{ℕ, suc, _+_, _*_, _/_, _%_, _<_, _≤_}
 use native.Mathlib.Nat.{mod-lt, div-add-mod', suc-mul, mul-le-mul-right}
 use native.Mathlib.Decide.{decLe}
 use native.Mathlib.Omega.{arith}
-use lib.Dec.{T}
 use lib.IntN.{ℤ, pos, negsuc, negℤ, _+ℤ_, _*ℤ_}
-use lib.Signed.{leZ}
 use Rattle.region_interval.specs.Integers.{floorDiv, ceilDiv}
-use Rattle.region_interval.proofs.Order.{above, below, le-to, le-of, eq-of, neg-above, neg-below}
+use Rattle.region_interval.proofs.Order.{above, below, eq-of, neg-above, neg-below}
 
 -- ---- a multiple of m, positive and negative part
 

@@ -3,3 +3,4 @@ pub mod Flags
 pub mod Division
 pub mod Order
 pub mod Powers
+pub mod Laws

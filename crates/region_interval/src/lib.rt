@@ -1,4 +1,6 @@
 // One axis of a region: the positions p with start ≤ p < end, on integers wide enough that nothing overflows.
+pub mod overlap;
+
 use limits::min_u32;
 ghost use mathlib.Core.Path.{_≡_};
 ghost use Prim.Native.Nat.{_+_, _≤_, _<_, _^_, min};

@@ -11,10 +11,15 @@ use Rattle.region.specs.Regions.{inside}
 use Rattle.region.specs.declared.Region.{Region}
 use Rattle.region_placement.specs.declared.PlacedAnswer.{PlacedAnswer}
 
+-- a region exceeds the limits of an image or filter region
+abbrev pub pictureCheck : Region → Region → Check
+pictureCheck image filter = always outOfLimits (not (pictureFits image && pictureFits filter))
+
+abbrev pub insideCheck : Region → Region → Check
+insideCheck image filter = always notInside (not (inside image filter))
+
 abbrev pub placedChecks : Region → Region → List Check
-placedChecks image filter =
-    always outOfLimits (not (pictureFits image && pictureFits filter))
-    ∷ always notInside (not (inside image filter)) ∷ []
+placedChecks image filter = pictureCheck image filter ∷ insideCheck image filter ∷ []
 
 abbrev pub placedAnswer : ℕ → Region → Region → PlacedAnswer
 placedAnswer n image filter = record {

@@ -22,7 +22,7 @@ use Rattle.run_setup.specs.SetupFits.{SetupFits}
 use Rattle.run_setup.proofs.Laws.{setup-fits, image-size, filter-size}
 use Rattle.run_record.proofs.Laws.{pass-left}
 use Rattle.run_outcomes.specs.Band.{State, BandOutcome, setCheck, sigmaCheck, readsFirst, source, target, bandChecks, bandNumber, banded, bandOutcome}
-use Rattle.run_outcomes.proofs.Rows.{here, below, row-passed}
+use Rattle.refusals.proofs.Rows.{here, below, row-passed}
 use Rattle.run_outcomes.proofs.Laws.{BandFits, band-fits}
 use Rattle.run_band.specs.Rows.{RowsFit, passedRows, bandWritten}
 

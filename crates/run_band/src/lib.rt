@@ -25,7 +25,8 @@ ghost use Rattle.run_band.specs.Rows.{RowsFit, passedRows, bandWritten};
 
 // The number of a band call: 7 for the sets and the block sigmas, then the record's number.
 fn refusal(run: Run, sigmas: usize, first: usize, second: usize, k: u32) -> u32
-    ensures { λ r. ⌜ r ≡ firstOf (setCheck 3 (run .setup) first second ∷ sigmaCheck 3 (run .setup) sigmas ∷ openChecks run k) ⌝ }
+    ensures { λ r. ⌜ r ≡ firstOf
+        (setCheck 3 (run .setup) first second ∷ sigmaCheck 3 (run .setup) sigmas ∷ openChecks run k) ⌝ }
 {
     if bad_sets(run.setup, first, second) {
         return WRONG_LENGTH;
@@ -39,7 +40,8 @@ fn refusal(run: Run, sigmas: usize, first: usize, second: usize, k: u32) -> u32
 // Runs the next pass over rows `from` up to `to` of the result region.
 fn pass_rows(run: Run, sigmas: &[f32], src: &[f32], dst: &mut [f32], from: u32, to: u32)
     requires { ⌜ RowsFit run (length (now sigmas)) (length (now src)) (length (now dst)) from to ⌝ }
-    ensures { λ _. ⌜ now (dst .exit) ≡ passedRows 3 run (now (sigmas .entry)) from to (now (src .entry)) (now (dst .entry)) ⌝ }
+    ensures { λ _. ⌜ now (dst .exit)
+        ≡ passedRows 3 run (now (sigmas .entry)) from to (now (src .entry)) (now (dst .entry)) ⌝ }
 {
     let s = run.setup;
     if gabor_at(s.settings, run.pass) {
@@ -64,8 +66,16 @@ fn pass_rows(run: Run, sigmas: &[f32], src: &[f32], dst: &mut [f32], from: u32, 
 // Runs the next pass over the rows of band k. Each advance exchanges the sets: even passes read the first, odd passes
 // read the second.
 fn filter_band(run: Run, sigmas: &[f32], first: &mut [f32], second: &mut [f32], k: u32)
-    requires { ⌜ bandNumber 3 (record { run = run; sigmas = now sigmas; first = now first; second = now second }) k ≡ 0 ⌝ }
-    ensures { λ _. ⌜ _≡_ {A = State} (record { run = run; sigmas = now (sigmas .entry); first = now (first .exit); second = now (second .exit) }) (bandWritten 3 (record { run = run; sigmas = now (sigmas .entry); first = now (first .entry); second = now (second .entry) }) k) ⌝ }
+    requires { ⌜ bandNumber 3
+        (record { run = run; sigmas = now sigmas; first = now first; second = now second }) k ≡ 0 ⌝ }
+    ensures { λ _. ⌜ _≡_ {A = State} (record {
+      run = run;
+      sigmas = now (sigmas .entry);
+      first = now (first .exit);
+      second = now (second .exit);
+    }) (bandWritten 3
+        (record { run = run; sigmas = now (sigmas .entry); first = now (first .entry); second = now (second .entry) })
+        k) ⌝ }
 {
     let height = run.setup.band_height;
     let from = k * height;
@@ -89,7 +99,17 @@ fn marked(run: Run, k: usize) -> Run
 // Runs band k of the next pass: writes its rows of the result region to the set that the pass writes, and marks the
 // band done.
 pub fn band(run: Run, sigmas: &[f32], first: &mut [f32], second: &mut [f32], k: u32) -> RunAnswer
-    ensures { λ r. ⌜ _≡_ {A = BandOutcome} (record { number = r .number; state = record { run = r .run; sigmas = now (sigmas .entry); first = now (first .exit); second = now (second .exit) } }) (bandOutcome 3 (record { run = run; sigmas = now (sigmas .entry); first = now (first .entry); second = now (second .entry) }) k) ⌝ }
+    ensures { λ r. ⌜ _≡_ {A = BandOutcome} (record {
+      number = r .number;
+      state = record {
+        run = r .run;
+        sigmas = now (sigmas .entry);
+        first = now (first .exit);
+        second = now (second .exit);
+      };
+    }) (bandOutcome 3
+        (record { run = run; sigmas = now (sigmas .entry); first = now (first .entry); second = now (second .entry) })
+        k) ⌝ }
 {
     let number = refusal(run, sigmas.len(), first.len(), second.len(), k);
     if number != ACCEPTED {

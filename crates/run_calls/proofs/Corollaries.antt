@@ -13,7 +13,7 @@ use lib.Ieee.{Float, nan}
 use lib.Ieee.Fits.{and-i}
 use lib.Signed.{leZ, ltZ}
 use Rattle.region_interval.specs.declared.Span.{Span}
-use Rattle.region_overlap.specs.Overlap.{covers, In}
+use Rattle.region_interval.specs.Overlap.{covers, In}
 use Rattle.region_interval.proofs.Order.{le-refl}
 use Rattle.region.specs.declared.Region.{Region}
 use Rattle.region.specs.Regions.{columns, rows, inside, Holds}

@@ -38,7 +38,7 @@ use Rattle.run_record.specs.Record.{isDone, started, badDone, runFits}
 use Rattle.run_setup.specs.Makers.{noSetup}
 use Rattle.run_outcomes.specs.Start.{Handed, pictureChecks, startChecks, startLeaves, sigmasFilled, startOutcome}
 use Rattle.run_outcomes.specs.Result.{resultChecks, resultOutcome}
-use Rattle.run_calls.specs.Calls.{LibraryCall, libraryCalls, end}
+use Rattle.run_calls.specs.Calls.{libraryCalls, end}
 use Rattle.run_calls.specs.Places.{Clear, inputAt, sampleAt, sigmaAt}
 use Rattle.run_calls.specs.Theorem.{resultAfter}
 use Rattle.run_calls.specs.Corollaries.{FinishedRun}

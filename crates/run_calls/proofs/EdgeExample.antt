@@ -10,7 +10,7 @@ use Rattle.region.specs.Regions.{inside, Holds}
 use Rattle.region.specs.Measures.{boundsFit, pictureFits}
 use Rattle.region_axis.specs.Measures.{cornerFits, sideFits}
 use Rattle.frame.specs.Sizes.{sizesOf}
-use Rattle.sigma_grids.specs.Table.{badGrid, cells, gridStart, lacks, someBelow}
+use Rattle.sigma_grids.specs.Table.{badGrid, cells, gridStart, gridLacksBlock, someBelow}
 use Rattle.sigma_groups.specs.Held.{notHeld, someNotHeld}
 use Rattle.frame.specs.Outcome.{badSides, badSettings}
 use Rattle.sigma_groups.specs.Outcome.{tableFits, gridsFit}
@@ -34,11 +34,11 @@ use Rattle.run_calls.proofs.Places.{counted, counted-from}
 
 module _ (p : Picture) (scales : List Float) (border sigma : Float) where
   accepted : StartAccepted 3 (smaller p scales border sigma)
-  unfolding startOutcome startChecks pictureChecks pictureFits boundsFit cornerFits sideFits inside badSides badSettings sizesOf tableFits gridsFit gridStart cells someBelow badGrid someNotHeld notHeld lacks bandCount layoutOf setOf tab
+  unfolding startOutcome startChecks pictureChecks pictureFits boundsFit cornerFits sideFits inside badSides badSettings sizesOf tableFits gridsFit gridStart cells someBelow badGrid someNotHeld notHeld gridLacksBlock bandCount layoutOf setOf tab
   accepted = refl
 
   unrefused : Unrefused 3 (larger p scales border sigma)
-  unfolding pictureChecks pictureFits boundsFit cornerFits sideFits inside badSides badSettings sizesOf tableFits gridsFit gridStart cells someBelow badGrid someNotHeld notHeld lacks bandCount layoutOf setOf tab
+  unfolding pictureChecks pictureFits boundsFit cornerFits sideFits inside badSides badSettings sizesOf tableFits gridsFit gridStart cells someBelow badGrid someNotHeld notHeld gridLacksBlock bandCount layoutOf setOf tab
   unrefused = refl
 
   module _ (x y : ℤ) (held : Holds (smaller p scales border sigma .setup .filter) x y) where

@@ -16,7 +16,7 @@ use Rattle.region.specs.Regions.{inside, Holds}
 use Rattle.region.specs.Measures.{boundsFit, pictureFits}
 use Rattle.region_axis.specs.Measures.{cornerFits, sideFits}
 use Rattle.frame.specs.Sizes.{sizesOf}
-use Rattle.sigma_grids.specs.Table.{badGrid, cells, gridStart, lacks, someBelow}
+use Rattle.sigma_grids.specs.Table.{badGrid, cells, gridStart, gridLacksBlock, someBelow}
 use Rattle.sigma_groups.specs.Held.{notHeld, someNotHeld}
 use Rattle.frame.specs.Outcome.{badSides, badSettings}
 use Rattle.sigma_groups.specs.Outcome.{tableFits, gridsFit}
@@ -91,11 +91,11 @@ module _ (t : State) (c : LibraryCall) (cs : List LibraryCall) (e : numberIn (an
 
 module _ (g : Given) where
   accepted : StartAccepted 3 (smaller g)
-  unfolding startOutcome startChecks pictureChecks pictureFits boundsFit cornerFits sideFits inside badSides badSettings sizesOf tableFits gridsFit gridStart cells someBelow badGrid someNotHeld notHeld lacks bandCount layoutOf setOf tab
+  unfolding startOutcome startChecks pictureChecks pictureFits boundsFit cornerFits sideFits inside badSides badSettings sizesOf tableFits gridsFit gridStart cells someBelow badGrid someNotHeld notHeld gridLacksBlock bandCount layoutOf setOf tab
   accepted = refl
 
   unrefused : Unrefused 3 (larger g)
-  unfolding pictureChecks pictureFits boundsFit cornerFits sideFits inside badSides badSettings sizesOf tableFits gridsFit gridStart cells someBelow badGrid someNotHeld notHeld lacks bandCount layoutOf setOf tab
+  unfolding pictureChecks pictureFits boundsFit cornerFits sideFits inside badSides badSettings sizesOf tableFits gridsFit gridStart cells someBelow badGrid someNotHeld notHeld gridLacksBlock bandCount layoutOf setOf tab
   unrefused = refl
 
   start-refused : startOutcome 3 (empty g) .answer .number ≡ 4

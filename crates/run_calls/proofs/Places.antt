@@ -7,7 +7,7 @@ use lib.Ieee.Fits.{and-l, and-r}
 use lib.IntN.{ℤ, pos, negsuc, natAbs, _+ℤ_, _-ℤ_}
 use lib.Signed.{leZ, ltZ}
 use Rattle.region_interval.specs.Interval.{spanOf}
-use Rattle.region_overlap.specs.Overlap.{covers, In}
+use Rattle.region_interval.specs.Overlap.{covers, In}
 use Rattle.region_interval.proofs.Order.{above, below, le-to, le-of, lt-to, lt-of, sum-is, difference-is, size-is, not-negative-difference, le-trans}
 use Rattle.mirror.specs.Cut.{Deep}
 use Rattle.region.specs.declared.Region.{Region}

@@ -21,13 +21,13 @@ use Rattle.run_record.specs.declared.Run.{Run}
 use Rattle.run_setup.specs.Setup.{maxBands, layout, epfOn, itersFit, fullFits, heightFits, countFits, bandCount, setupFits, sizeFits, setLength, sigmaLength, resultRegion, resultLength}
 use Rattle.run_record.specs.Record.{advanced, finished, runFits, runInRange, bandOpen, passDone, overChecks}
 use Rattle.refusals.proofs.Tables.{is-true, met, met-given, none-zero}
+use Rattle.refusals.proofs.Rows.{here, below, row-passed, orElse, first-joined, joined-none}
 use Rattle.run_setup.proofs.Laws.{fits-setup}
 use Rattle.run_record.specs.RunFits.{RunFits}
 use Rattle.run_record.proofs.Laws.{run-fits, fits-run, Open, band-open, open-band, Over, pass-over, over-pass}
-use Rattle.run_outcomes.specs.Start.{Handed, blocksOf, regionSides, filterInside, filterOnBlocks, setLengths, sigmasLength, itersInRange, fullInRange, gaborInRange, heightInRange, countInRange, orElse, pictureChecks, tailChecks, startChecks, startNumber, startLeaves, sigmasFilled, startAccepted, startRefused, startOutcome}
+use Rattle.run_outcomes.specs.Start.{Handed, blocksOf, regionSides, filterInside, filterOnBlocks, setLengths, sigmasLength, itersInRange, fullInRange, gaborInRange, heightInRange, countInRange, pictureChecks, tailChecks, startChecks, startNumber, startLeaves, sigmasFilled, startAccepted, startRefused, startOutcome}
 use Rattle.run_outcomes.specs.Band.{State, readsFirst, bandChecks, bandNumber, bandAccepted, bandOutcome, advanceNumber, advanceOutcome}
 use Rattle.run_outcomes.specs.Result.{resultChecks, resultNumber, resultOf, resultOutcome}
-use Rattle.run_outcomes.proofs.Rows.{here, below, row-passed, first-joined, joined-none}
 
 -- ---- start
 

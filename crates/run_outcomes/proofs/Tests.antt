@@ -18,14 +18,14 @@ use Rattle.run_outcomes.specs.Result.{sliceCheck}
 -- ---- the sides of a region that is within the limits
 
 pub record Sides (r : Region) : Type 0 where
-  pub wide : r .width ≤ 16384
-  pub high : r .height ≤ 16384
+  pub width-le : r .width ≤ 16384
+  pub height-le : r .height ≤ 16384
 
 pub size-sides : (r : Region) → sizeFits r ≡ true → Sides r
 unfolding sizeFits
 size-sides r e =
     let s = and-first (leb (r .width) 16384 && leb (r .height) 16384) _ e in
-    record { wide = leb-true _ _ (and-first (leb (r .width) 16384) (leb (r .height) 16384) s); high = leb-true _ _ (and-second (leb (r .width) 16384) (leb (r .height) 16384) s) }
+    record { width-le = leb-true _ _ (and-first (leb (r .width) 16384) (leb (r .height) 16384) s); height-le = leb-true _ _ (and-second (leb (r .width) 16384) (leb (r .height) 16384) s) }
 
 -- ---- the sets
 

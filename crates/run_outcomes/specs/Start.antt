@@ -5,15 +5,14 @@ use Prim.Native.Nat.{ℕ, _/_}
 use lib.Dec.{eqb}
 use lib.ListN.{length}
 use lib.Ieee.{Float}
-use Rattle.refusals.specs.Numbers.{outOfLimits, notInside, notOnBlocks, wrongLength, blockNotHeld, outOfRange}
+use Rattle.refusals.specs.Numbers.{notOnBlocks, wrongLength, blockNotHeld, outOfRange}
 use Rattle.refusals.specs.Checks.{Check, always, given, firstOf}
-use Rattle.region.specs.Regions.{inside}
-use Rattle.region.specs.Measures.{pictureFits}
 use Rattle.frame.specs.declared.Frame.{Frame}
-use Rattle.sigma_blocks.specs.declared.Blocks.{Blocks}
+use Rattle.sigma_groups.specs.declared.blocks.Blocks.{Blocks}
 use Rattle.sigma_groups.specs.Held.{someNotHeld}
 use Rattle.sigma_groups.specs.Outcome.{tableRead, frameSides, gridSides, tableLength, gridsLength, frameSettings, presences}
 use Rattle.sigma.specs.Sigma.{blockSigmas}
+use Rattle.region_placement.specs.Placed.{pictureCheck, insideCheck}
 use Rattle.region_placement.specs.Blocks.{clampToZero, onBlocks}
 use Rattle.run_passes.specs.Plan.{gaborFits}
 use Rattle.run_setup.specs.declared.Setup.{Setup}
@@ -44,10 +43,10 @@ abbrev pub runsEpf : Setup → Bool
 runsEpf s = itersFit s && epfOn s
 
 abbrev pub regionSides : Setup → Check
-regionSides s = always outOfLimits (not (pictureFits (s .image) && pictureFits (s .filter)))
+regionSides s = pictureCheck (s .image) (s .filter)
 
 abbrev pub filterInside : Setup → Check
-filterInside s = always notInside (not (inside (s .image) (s .filter)))
+filterInside s = insideCheck (s .image) (s .filter)
 
 abbrev pub filterOnBlocks : Setup → Check
 filterOnBlocks s = given (runsEpf s) notOnBlocks (not (onBlocks (s .filter)))
@@ -77,10 +76,6 @@ heightInRange s = always outOfRange (not (heightFits s))
 
 abbrev pub countInRange : Setup → Check
 countInRange s = given (fullFits s && heightFits s) outOfRange (not (countFits s))
-
--- a, or b if a is 0
-abbrev pub orElse : ℕ → ℕ → ℕ
-orElse a b = cond (eqb a 0) b a
 
 module _ (n : ℕ) (h : Handed) where
   abbrev setup : Setup

@@ -1,5 +1,6 @@
 // Runs: the answers of the calls, and the lengths of the slices that they are given. The outcomes of start, band,
 // advance and result are defined in specs/.
+use planes::PLANES;
 use refusals::flag_fits;
 use refusals::flag_set;
 use region::Region;
@@ -7,7 +8,7 @@ use run_passes::MAX_ITERS;
 use run_record::Run;
 use run_setup::Setup;
 use run_setup::size_fits;
-use sigma_blocks::blocks_along;
+use sigma_groups::blocks::blocks_along;
 ghost use mathlib.Core.Path.{_≡_};
 ghost use mathlib.Core.Bool.{true};
 ghost use Prim.Native.Nat.{_*_};
@@ -15,8 +16,6 @@ ghost use Rattle.refusals.specs.Checks.{applies};
 ghost use Rattle.run_setup.specs.Setup.{sizeFits, resultRegion};
 ghost use Rattle.run_outcomes.specs.Band.{setCheck, sigmaCheck};
 ghost use Rattle.run_outcomes.specs.Result.{sliceCheck};
-
-const PLANES: usize = 3;
 
 // The number and the record after the call. A refused band or advance returns the record that it was given, a refused
 // start returns zeros.

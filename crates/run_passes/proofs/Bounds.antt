@@ -13,7 +13,6 @@ use Rattle.epf_step.specs.Bounds.{notNegative, ScalesNotNegative}
 use Rattle.epf_step.proofs.Bounds.{weight-bounds, divisor-bounds, pass-bounds}
 use Rattle.epf.specs.Outcome.{settingsOf}
 use Rattle.run_passes.specs.declared.Settings.{Settings}
-use Rattle.run_passes.specs.Pass.{Area}
 use Rattle.run_passes.specs.Plan.{scaleOf, stepOf}
 use Rattle.run_passes.specs.Bounds.{NothingNegative, StepBounds, SettingsBounds, BoundsReached}
 

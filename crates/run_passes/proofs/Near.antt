@@ -10,7 +10,7 @@ use Rattle.mirror.specs.Cut.{Deep}
 use Rattle.mirror.proofs.Cut.{mirror-cut}
 use Rattle.planes.specs.Picture.{Picture, around}
 use Rattle.gabor_kernel.specs.Ends.{stands}
-use Rattle.gabor_kernel.specs.Gabor.{gaborPass, total, sideWeight, diagonalWeight}
+use Rattle.gabor_kernel.specs.Gabor.{gaborPass, kernelOf, sideWeight, diagonalWeight}
 use Rattle.gabor_kernel.proofs.Local.{gaborBy-same}
 use Rattle.epf_step.specs.Steps.{kernel, dists, border, multiplier, epfPass, reach as stepReach}
 use Rattle.epf_step.proofs.Local.{Alike, steps-near, epf-same}
@@ -40,7 +40,7 @@ pub pass-alike : (n : ℕ) (p : Pass) → sound n p → (a b : Area) (g G : Pict
 unfolding pass reach sound isStep gaborPass epfPass
 pass-alike n (gaborLike ws) u a b g G x y X Y alike c h =
     rw (alike .column (λ z. z), alike .row (λ z. z))
-    (gaborBy-same (sideWeight ws c) (diagonalWeight ws c) _ _ (λ dx dy s t. alike .samples c dx dy h s t) (total (sideWeight ws c) (diagonalWeight ws c)) _ _)
+    (gaborBy-same (kernelOf (sideWeight ws c) (diagonalWeight ws c)) _ _ (λ dx dy s t. alike .samples c dx dy h s t) _ _)
 pass-alike n (edgePreserving e) u a b g G x y X Y alike c h =
     let mul : multiplier (e .multiplier) (e .borderMul) (a .top + y) x ≡ multiplier (e .multiplier) (e .borderMul) (b .top + Y) X = rw (alike .image-row tt) (multiplier-column (e .multiplier) (e .borderMul) (b .top + Y) x X (alike .in-block tt)) in
     rw (alike .sigma tt, mul)

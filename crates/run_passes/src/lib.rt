@@ -9,7 +9,8 @@ ghost use mathlib.Core.Path.{_≡_};
 ghost use Prim.Native.Nat.{_≤_};
 ghost use lib.ListN.{length};
 ghost use Rattle.refusals.specs.Numbers.{outOfRange};
-ghost use Rattle.run_passes.specs.Plan.{plan, gaborOn, oneIf, stepMargin, margin, marginOutcome, scaleOf, stepOf, gaborAt, stepIndex};
+ghost use Rattle.run_passes.specs.Plan.{plan, gaborOn, oneIf, stepMargin, margin, marginOutcome};
+ghost use Rattle.run_passes.specs.Plan.{scaleOf, stepOf, gaborAt, stepIndex};
 
 // The Gabor-like filter. `enabled` is a flag: 1 is on, 0 is off. `weights` has two weights for each of the channels
 // X, Y and B: of the side neighbours and of the diagonal ones.
@@ -28,6 +29,7 @@ pub struct EpfSettings {
     pub sigma_for_modular: f32,
 }
 
+// The settings of both filters.
 #[repr(C)]
 pub struct Settings {
     pub gabor: GaborSettings,

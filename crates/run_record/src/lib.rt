@@ -17,7 +17,8 @@ ghost use lib.ListN.{getD};
 ghost use Rattle.refusals.specs.Checks.{firstOf};
 ghost use Rattle.sigma_grids.specs.Table.{someBelow};
 ghost use Rattle.run_setup.specs.Setup.{maxBands, bandCount};
-ghost use Rattle.run_record.specs.Record.{isDone, badFlag, finished, openBands, runFits, notOpen, openChecks, overChecks, finishedChecks};
+ghost use Rattle.run_record.specs.Record.{isDone, badFlag, finished, openBands, runFits, notOpen};
+ghost use Rattle.run_record.specs.Record.{openChecks, overChecks, finishedChecks};
 
 // The record of a run. `pass` counts the completed passes. `done` has one flag per band of the next pass: 1 if the
 // band is done.

@@ -1,6 +1,7 @@
 // The result of a finished run: the result region of the set that the next pass would read, copied plane by plane
 // (Specification 12.11).
 use planes::Layout;
+use planes::PLANES;
 use planes::copy_run;
 use planes_layout::layout_of;
 use refusals::ACCEPTED;
@@ -22,13 +23,13 @@ ghost use Rattle.run_setup.specs.SetupFits.{SetupFits};
 ghost use Rattle.run_outcomes.specs.Result.{ResultOutcome, resultOf, resultOutcome};
 ghost use Rattle.run_result.specs.Part.{partOf, rowsOf};
 
-const PLANES: usize = 3;
-
 // Copies the filter region's rows of one plane. In `src` the image row of the first one starts at index `from`; in
 // `out` they start at index `at`.
 fn copy_rows(src: &[f32], from: usize, out: &mut [f32], at: usize, l: Layout)
-    requires { ⌜ LayoutFits l × (from + l .height * l .image .width ≤ length (now src)) × (at + l .height * l .width ≤ length (now out)) ⌝ }
-    ensures { λ _. ⌜ now (out .exit) ≡ rowsFill (now (out .entry)) at (l .width) (l .width) (l .height) (rowsOf l from (now (src .entry))) ⌝ }
+    requires { ⌜ LayoutFits l × (from + l .height * l .image .width ≤ length (now src))
+        × (at + l .height * l .width ≤ length (now out)) ⌝ }
+    ensures { λ _. ⌜ now (out .exit)
+        ≡ rowsFill (now (out .entry)) at (l .width) (l .width) (l .height) (rowsOf l from (now (src .entry))) ⌝ }
 {
     let mut y = 0;
     let mut row = from;
@@ -44,8 +45,10 @@ fn copy_rows(src: &[f32], from: usize, out: &mut [f32], at: usize, l: Layout)
 // Copies the filter region of n planes.
 fn copy_planes(src: &[f32], out: &mut [f32], l: Layout, n: usize)
     requires { ⌜ LayoutFits l ⌝ }
-    requires { ⌜ (n ≤ 3) × (length (now src) ≡ n * l .image .height * l .image .width) × (length (now out) ≡ n * l .height * l .width) ⌝ }
-    ensures { λ _. ⌜ now (out .exit) ≡ planesFill (l .width) (l .height) 0 (l .width) 0 (l .height) (inner l (now (src .entry))) (now (out .entry)) n ⌝ }
+    requires { ⌜ (n ≤ 3) × (length (now src) ≡ n * l .image .height * l .image .width)
+        × (length (now out) ≡ n * l .height * l .width) ⌝ }
+    ensures { λ _. ⌜ now (out .exit) ≡ planesFill (l .width) (l .height)
+        0 (l .width) 0 (l .height) (inner l (now (src .entry))) (now (out .entry)) n ⌝ }
 {
     let mut c = 0;
     while c < n {
@@ -87,7 +90,8 @@ fn copy_result(s: Setup, src: &[f32], out: &mut [f32])
 // Copies the result of a finished run to `out`, from the set that the next pass would read. A refused call (7, 9 or
 // 11) writes nothing.
 pub fn result(run: Run, first: &[f32], second: &[f32], out: &mut [f32]) -> u32
-    ensures { λ r. ⌜ _≡_ {A = ResultOutcome} (record { number = r; out = now (out .exit) }) (resultOutcome 3 run (now (first .entry)) (now (second .entry)) (now (out .entry))) ⌝ }
+    ensures { λ r. ⌜ _≡_ {A = ResultOutcome} (record { number = r; out = now (out .exit) })
+        (resultOutcome 3 run (now (first .entry)) (now (second .entry)) (now (out .entry))) ⌝ }
 {
     if bad_sets(run.setup, first.len(), second.len()) {
         return WRONG_LENGTH;

@@ -1,6 +1,6 @@
 -- The code's tests agree with the definitions. Assumes nothing.
 use mathlib.Core.Path.{_≡_, refl, sym, ap, _∙_}
-use mathlib.Core.Bool.{Bool, true, false, cond, not, _&&_, and-false}
+use mathlib.Core.Bool.{Bool, true, false, _&&_, and-false}
 use Prim.Native.Nat.{_-_, _*_, _<_, _≤_}
 use native.Mathlib.Nat.{div-zero}
 use borrow.Author.Tests.{lt-leb, le-leb, lt-ltb}
@@ -10,10 +10,9 @@ use Rattle.region.specs.Regions.{inside}
 use Rattle.region.specs.Measures.{pictureFits}
 use Rattle.region_placement.specs.declared.PlacedAnswer.{PlacedAnswer}
 use Rattle.region_placement.specs.Placed.{placedChecks, placedOutcome}
-use Rattle.refusals.specs.Numbers.{outOfLimits, notInside}
+use Rattle.region_placement.proofs.PlacedLaws.{placed-inside, placed-fits}
 use Rattle.refusals.specs.Checks.{firstOf}
 use Rattle.planes_layout.specs.Outcome.{layoutOf}
-use Rattle.planes_layout.proofs.Fits.{zero-is}
 use Rattle.region_placement.specs.Blocks.{onBlocks}
 use Rattle.run_passes.specs.Plan.{gaborFits}
 use Rattle.run_setup.specs.declared.Setup.{Setup}
@@ -95,8 +94,8 @@ module _ (s : Setup) where
 
 -- ---- what start would refuse
 
-none-placed : (a b c d e : Bool) → (cond (true && not (a && b)) outOfLimits (cond (true && not c) notInside 0) ≡ 0 → ⊥) → false ≡ (((a && b) && (c && d)) && e)
-none-placed true true true d e h = absurd (h refl)
+none-placed : (a b c d e : Bool) → (a ≡ true → b ≡ true → c ≡ true → ⊥) → false ≡ (((a && b) && (c && d)) && e)
+none-placed true true true d e h = absurd (h refl refl refl)
 none-placed true true false d e h = refl
 none-placed true false c d e h = refl
 none-placed false b c d e h = refl
@@ -110,13 +109,13 @@ module _ (s : Setup) (a : PlacedAnswer) (e : a ≡ placedOutcome (s .image) (s .
   unfolding setupFits
   not-placed h =
       none-placed (pictureFits (s .image)) (pictureFits (s .filter)) (inside (s .image) (s .filter)) (blocksFit s) (numbersFit s)
-      (λ z. h (number-is ∙ z))
+      (λ p q r. h (number-is ∙ placed-inside (s .image) (s .filter) p q r))
 
   module _ (z : a .number ≡ 0) where
     parts : (pictureFits (s .image) ≡ true) × (pictureFits (s .filter) ≡ true) × (inside (s .image) (s .filter) ≡ true)
     parts =
-        let t = zero-is (pictureFits (s .image)) (pictureFits (s .filter)) (inside (s .image) (s .filter)) (sym number-is ∙ z) in
-        (is-true _ (t .0), is-true _ (t .1), is-true _ (t .2))
+        let p = placed-fits (s .image) (s .filter) (sym number-is ∙ z) in
+        (is-true _ (p .image-picture), is-true _ (p .filter-picture), is-true _ (p .filter-inside))
 
     pub not-on-blocks : blocksFit s ≡ false → false ≡ setupFits s
     unfolding setupFits

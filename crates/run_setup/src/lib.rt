@@ -1,4 +1,6 @@
 // The setup of a run: which values are in range, and the rows and bands of the result region.
+use limits::MAX_AREA_U32;
+use limits::MAX_SIDE_U32;
 use refusals::ACCEPTED;
 use refusals::flag_fits;
 use refusals::flag_set;
@@ -9,13 +11,10 @@ use run_passes::MAX_ITERS;
 use run_passes::Settings;
 ghost use mathlib.Core.Path.{_≡_};
 ghost use Prim.Native.Nat.{_<_};
-ghost use Rattle.run_setup.specs.Setup.{rowCount, sizeFits, bandCount, blocksFit, heightFits, numbersFit, setupFits};
+ghost use Rattle.run_setup.specs.Setup.{rowCount, sizeFits, bandCount, blocksFit, heightFits};
+ghost use Rattle.run_setup.specs.Setup.{numbersFit, setupFits};
 
-// Specification 4.1.
-pub const MAX_SIDE: u32 = 16384;
-
-const MAX_AREA: u32 = 16777216;
-
+// The largest number of bands of a pass (Specification 4.1).
 pub const MAX_BANDS: usize = 256;
 
 // The setup of a run; no call changes it. `preserve_outside` is a flag: the result region is the image region if it
@@ -34,10 +33,10 @@ pub struct Setup {
 pub fn size_fits(r: Region) -> bool
     ensures { λ b. ⌜ b ≡ sizeFits r ⌝ }
 {
-    if MAX_SIDE < r.width {
+    if MAX_SIDE_U32 < r.width {
         return false;
     }
-    if MAX_SIDE < r.height {
+    if MAX_SIDE_U32 < r.height {
         return false;
     }
     if r.width < 1 {
@@ -46,7 +45,7 @@ pub fn size_fits(r: Region) -> bool
     if r.height < 1 {
         return false;
     }
-    r.width * r.height <= MAX_AREA
+    r.width * r.height <= MAX_AREA_U32
 }
 
 // The number of rows of the result region.
@@ -85,7 +84,7 @@ fn height_fits(s: Setup) -> bool
     if s.band_height < 1 {
         return false;
     }
-    s.band_height <= MAX_SIDE
+    s.band_height <= MAX_SIDE_U32
 }
 
 // Whether the iterations, both flags, the band height and the number of bands are in range.

@@ -20,11 +20,9 @@ use Rattle.planes.proofs.Stored.{and-first, and-second}
 use Rattle.planes_layout.specs.Outcome.{layoutOf}
 use Rattle.epf_tiles.specs.Blocks.{blockColumns, blockRows}
 use Rattle.frame.specs.declared.Frame.{Frame}
-use Rattle.sigma_grids.specs.Table.{badPresence, badGrid}
-use Rattle.sigma_blocks.specs.Measures.{blocksAcross, blocksDown, badBlocks}
+use Rattle.sigma_groups.specs.Measures.{blocksAcross, blocksDown, badBlocks}
 use Rattle.sigma_groups.specs.Held.{someNotHeld}
-use Rattle.frame.specs.Outcome.{badSides, badSettings}
-use Rattle.sigma_groups.specs.Outcome.{frameFits, tableFits, tableRead, someGroup, gridsFit, frameSides, gridSides, tableLength, gridsLength, frameSettings, presences, sigmaChecks, sigmaNumber}
+use Rattle.sigma_groups.specs.Outcome.{tableRead, frameSides, gridSides, tableLength, gridsLength, frameSettings, presences, sigmaChecks, sigmaNumber}
 use Rattle.sigma.specs.Outcome.{SigmasOutcome, leftIn, sigmasOutcome}
 use Rattle.region_placement.specs.Blocks.{clampToZero}
 use Rattle.region_placement.proofs.BlockLaws.{clamp-small}
@@ -35,7 +33,7 @@ use Rattle.run_record.specs.Record.{started}
 use Rattle.run_setup.proofs.Tests.{size-by-area}
 use Rattle.run_outcomes.proofs.Tests.{blocks-same}
 use Rattle.run_outcomes.specs.Start.{Handed, StartOutcome, blocksOf, runsEpf, regionSides, filterInside, filterOnBlocks, setLengths, sigmasLength, blocksHeld, itersInRange, pictureChecks, startNumber, startLeaves, sigmasFilled, noRun, startOutcome}
-use Rattle.run_outcomes.proofs.Rows.{here, below, row-passed, or-zero}
+use Rattle.refusals.proofs.Rows.{here, below, row-passed, or-zero}
 use Rattle.run_outcomes.proofs.Laws.{start-parts}
 use Rattle.run_start.specs.Lowest.{lowest}
 use Rattle.run_start.proofs.LowestLaws.{Parted, none, left, right, first-lowest, lowest-left, lowest-none, ascending-from}

@@ -6,7 +6,7 @@ use Prim.Native.Nat.{ℕ, _/_}
 use lib.Ieee.{Float}
 use Rattle.refusals.specs.Numbers.{outOfRange}
 use Rattle.frame.specs.declared.Frame.{Frame}
-use Rattle.sigma_blocks.specs.declared.Blocks.{Blocks}
+use Rattle.sigma_groups.specs.declared.blocks.Blocks.{Blocks}
 use Rattle.sigma_groups.specs.Outcome.{sigmaNumber}
 use Rattle.sigma.specs.Outcome.{sigmasOutcome}
 use Rattle.region_placement.specs.Blocks.{clampToZero}

@@ -1,6 +1,7 @@
 // Start: checks all arguments before anything is written, and makes the record of the run.
 use frame::Frame;
 use header_epf_sigma::EpfSigma;
+use limits::BLOCK;
 use refusals::ACCEPTED;
 use refusals::NOT_ON_BLOCKS;
 use refusals::OUT_OF_RANGE;
@@ -20,7 +21,7 @@ use run_setup::MAX_BANDS;
 use run_setup::Setup;
 use run_setup::numbers_fit;
 use sigma::block_sigmas;
-use sigma_blocks::Blocks;
+use sigma_groups::blocks::Blocks;
 use sigma_groups::check;
 ghost use mathlib.Core.Path.{_≡_};
 ghost use mathlib.Core.Bool.{_&&_, not};
@@ -33,8 +34,6 @@ ghost use Rattle.run_record.specs.Record.{started};
 ghost use Rattle.run_outcomes.specs.Start.{StartOutcome, blocksOf, runsEpf, noRun, startOutcome};
 ghost use Rattle.run_start.specs.Lowest.{lowest};
 ghost use Rattle.run_start.specs.Pieces.{epfFlag, sigmasAsked, setupChecks, numberOf};
-
-const BLOCK_DIM: usize = 8;
 
 // The lower of two numbers, where 0 means that no check applies.
 fn lowest(a: u32, b: u32) -> u32
@@ -81,8 +80,8 @@ fn blocks_of(s: Setup) -> Blocks
     ensures { λ r. ⌜ r ≡ blocksOf s ⌝ }
 {
     Blocks {
-        left: (clamp_to_zero(s.filter.left) / BLOCK_DIM) as u32,
-        top: (clamp_to_zero(s.filter.top) / BLOCK_DIM) as u32,
+        left: (clamp_to_zero(s.filter.left) / BLOCK) as u32,
+        top: (clamp_to_zero(s.filter.top) / BLOCK) as u32,
         width: s.filter.width,
         height: s.filter.height,
     }
@@ -125,7 +124,8 @@ fn setup_number(s: Setup, first: usize, second: usize) -> u32
 
 // The number of the frame, its group table and grids, and the block sigmas: 4, 7, 8, 9 or 0.
 fn groups_number(s: Setup, frame: Frame, table: &[u32], grids: &[f32], sigmas: usize) -> u32
-    ensures { λ r. ⌜ r ≡ sigmaNumber (epfFlag s) frame (blocksOf s) (now (table .entry)) (now (grids .entry)) (sigmasAsked s sigmas) ⌝ }
+    ensures { λ r. ⌜ r ≡ sigmaNumber
+        (epfFlag s) frame (blocksOf s) (now (table .entry)) (now (grids .entry)) (sigmasAsked s sigmas) ⌝ }
 {
     let asked = sigmas_asked(s, sigmas);
     check(epf_flag(s), frame, blocks_of(s), table, grids, asked)
@@ -222,7 +222,17 @@ pub fn start(
     second: &[f32],
     sigmas: &mut [f32],
 ) -> RunAnswer
-    ensures { λ r. ⌜ _≡_ {A = StartOutcome} (record { answer = r; first = now (first .exit); sigmas = now (sigmas .exit) }) (startOutcome 3 (record { setup = setup; frame = frame; table = now (table .entry); grids = now (grids .entry); first = now (first .entry); second = now (second .entry); sigmas = now (sigmas .entry) })) ⌝ }
+    ensures { λ r. ⌜ _≡_ {A = StartOutcome}
+        (record { answer = r; first = now (first .exit); sigmas = now (sigmas .exit) })
+        (startOutcome 3 (record {
+          setup = setup;
+          frame = frame;
+          table = now (table .entry);
+          grids = now (grids .entry);
+          first = now (first .entry);
+          second = now (second .entry);
+          sigmas = now (sigmas .entry);
+        })) ⌝ }
 {
     let number = picture_number(
         setup,

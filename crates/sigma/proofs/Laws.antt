@@ -9,9 +9,9 @@ use lib.Ieee.{Float, nan}
 use Rattle.planes.proofs.SetLaws.{length-tab, getD-tab}
 use Rattle.frame.specs.declared.Frame.{Frame}
 use Rattle.frame.specs.Sizes.{innerOf}
-use Rattle.sigma_blocks.specs.declared.Blocks.{Blocks}
+use Rattle.sigma_groups.specs.declared.blocks.Blocks.{Blocks}
 use Rattle.sigma_grids.specs.Table.{presence, gridWidth, gridStart}
-use Rattle.sigma_blocks.specs.Measures.{blocksAcross, blocksDown}
+use Rattle.sigma_groups.specs.Measures.{blocksAcross, blocksDown}
 use Rattle.sigma_groups.specs.Held.{groupAt}
 use Rattle.sigma.specs.Sigma.{sigmaIn, frameSigma, aboveAt, blockSigma, blockSigmas}
 

@@ -22,15 +22,16 @@ use Rattle.frame.specs.declared.FrameAnswer.{FrameAnswer}
 use Rattle.frame.specs.Sizes.{groupDim, groupOf, innerOf, sizesOf}
 use Rattle.frame.proofs.Laws.{frame-sound, frame-sizes}
 use Rattle.frame.specs.Outcome.{frameOutcome}
-use Rattle.sigma_blocks.specs.declared.Blocks.{Blocks}
+use Rattle.sigma_groups.specs.declared.blocks.Blocks.{Blocks}
 use Rattle.sigma.specs.declared.Run.{Run}
+use Rattle.sigma.specs.declared.BlockRow.{BlockRow}
 use Rattle.sigma_grids.specs.Table.{presence, gridWidth, gridHeight, gridStart, badGrid}
-use Rattle.sigma_blocks.specs.Measures.{blocksAcross, blocksDown}
-use Rattle.sigma_blocks.proofs.Laws.{across-le}
+use Rattle.sigma_groups.specs.Measures.{blocksAcross, blocksDown}
+use Rattle.sigma_groups.proofs.Measured.{across-le}
 use Rattle.sigma_groups.specs.Held.{groupAt, notHeld, someNotHeld}
 use Rattle.sigma.specs.Sigma.{missing, sigmaIn, frameSigma, aboveAt, blockSigma, blockSigmas}
 use Rattle.sigma_groups.proofs.Laws.{entry-lt, entries-le, Held, held, Accepted}
-use Rattle.sigma_grids.proofs.Laws.{some-fewer, none-below, grid-sides, lacks-not, cells-present, start-ends}
+use Rattle.sigma_grids.proofs.Laws.{some-fewer, none-below, grid-sides, grid-has-block, cells-present, start-ends}
 use Rattle.sigma.specs.Runs.{aboveIn, Holds, RunFits, RunOf, GridsOf, rowSigma, RowFits, AllFits}
 
 -- a run that fills the whole list
@@ -59,36 +60,41 @@ run-group b s i l = let e : b + i ≡ groupOf b s * groupDim s + (innerOf b s + 
 pub run-inner : (b s i : ℕ) → innerOf b s + i < groupDim s → innerOf (b + i) s ≡ innerOf b s + i
 run-inner b s i l = let e : b + i ≡ groupOf b s * groupDim s + (innerOf b s + i) = omega (arith, div-add-mod' b (groupDim s)) in rw e (digits-mod (groupOf b s) l)
 
-module _ (t : List ℕ) (grids : List Float) (modular : Float) (group column row n : ℕ) where
+module _ (t : List ℕ) (grids : List Float) (r : Run) where
+  -- the index of the run's first cell in the grids slice
+  abbrev pub firstCell : ℕ
+  firstCell = gridStart t (r .group) + (r .row * gridWidth t (r .group) + r .column)
+
   -- cells of a present grid are consecutive
-  pub run-present : presence t group ≡ 1 → (above : Float) (from i : ℕ) → from ≡ gridStart t group + (row * gridWidth t group + column)
-      → getD grids (from + i) nan ≡ sigmaIn t grids modular above group (column + i) row
+  pub run-present : presence t (r .group) ≡ 1 → (modular above : Float) (from i : ℕ) → from ≡ firstCell
+      → getD grids (from + i) nan ≡ sigmaIn t grids modular above (r .group) (r .column + i) (r .row)
   unfolding sigmaIn
-  run-present p above from i e =
-      let z : from + i ≡ gridStart t group + (row * gridWidth t group + (column + i)) = omega arith in
-      rw (eq-eqb (presence t group) 1 p, z)
+  run-present p modular above from i e =
+      let z : from + i ≡ gridStart t (r .group) + (r .row * gridWidth t (r .group) + (r .column + i)) = omega arith in
+      rw (eq-eqb (presence t (r .group)) 1 p, z)
 
-  pub run-missing : (presence t group ≡ 1 → ⊥) → (above : Float) (i : ℕ) → missing modular above ≡ sigmaIn t grids modular above group (column + i) row
+  pub run-missing : (presence t (r .group) ≡ 1 → ⊥) → (modular above : Float) (i : ℕ) → missing modular above ≡ sigmaIn t grids modular above (r .group) (r .column + i) (r .row)
   unfolding sigmaIn
-  run-missing p above i = rw (ne-eqb (presence t group) 1 p)
+  run-missing p modular above i = rw (ne-eqb (presence t (r .group)) 1 p)
 
-  module _ (h : Holds t grids group column row n) where
-    pub row-le : row * gridWidth t group ≤ 1048576
-    row-le = let l : row ≤ 1024 = omega (arith, h .row-lt, h .height-le) in omega (arith, mul-le-mul l (h .width-le))
+  module _ (h : Holds t grids r) where
+    pub row-le : r .row * gridWidth t (r .group) ≤ 1048576
+    row-le = let l : r .row ≤ 1024 = omega (arith, h .row-lt, h .height-le) in omega (arith, mul-le-mul l (h .width-le))
 
     -- the run ends within the grids slice
-    pub run-room : gridStart t group + (row * gridWidth t group + column) + n ≤ length grids
+    pub run-room : firstCell + r .n ≤ length grids
     run-room =
-        let l : suc row ≤ gridHeight t group = h .row-lt in
-        omega (arith, h .columns, h .room, suc-mul row (gridWidth t group), mul-le-mul-right (gridWidth t group) l, mul-comm (gridWidth t group) (gridHeight t group))
+        let w = gridWidth t (r .group) in
+        let l : suc (r .row) ≤ gridHeight t (r .group) = h .row-lt in
+        omega (arith, h .columns, h .grid-end-le, suc-mul (r .row) w, mul-le-mul-right w l, mul-comm w (gridHeight t (r .group)))
 
 module _ (f : Frame) (sizes : GroupSizes) (t : List ℕ) (grids : List Float) (h : GridsOf f sizes t grids) (by : ℕ) where
   -- if the last block of a run is held, all its blocks are
-  pub run-fits : (bx limit : ℕ) (r : Run) → RunOf f bx by limit r → notHeld f t (bx + (r .n - 1)) by ≡ false → RunFits t grids (r .group) (r .column) (r .row) (r .n)
+  pub run-fits : (bx limit : ℕ) (r : Run) → RunOf f bx by limit r → notHeld f t (bx + (r .n - 1)) by ≡ false → RunFits t grids r
   run-fits bx limit r is no-fault =
       record {
         entry = rw (is .group-is) here;
-        short = entries-le f sizes t (h .table);
+        table-le = entries-le f sizes t (h .table);
         before = some-fewer groups (r .group) (badGrid t) (h .sides) (rw (is .group-is) (omega (arith, below)));
         holds = present-holds;
       }
@@ -103,7 +109,7 @@ module _ (f : Frame) (sizes : GroupSizes) (t : List ℕ) (grids : List Float) (h
       last = bx + (r .n - 1)
 
       inside : innerOf bx s + (r .n - 1) < groupDim s
-      inside = omega (arith, is .column-is, is .one-group, is .some)
+      inside = omega (arith, is .column-is, is .one-group, is .n-pos)
 
       same-group : groupAt f last by ≡ groupAt f bx by
       same-group = ap (λ (k : ℕ). groupOf by s * sizesOf f .«groups_per_row» + k) (run-group bx s (r .n - 1) inside)
@@ -117,36 +123,40 @@ module _ (f : Frame) (sizes : GroupSizes) (t : List ℕ) (grids : List Float) (h
       below : groupAt f bx by < groups
       below = omega (arith, here, h .table .entries)
 
-      present-holds : presence t (r .group) ≡ 1 → Holds t grids (r .group) (r .column) (r .row) (r .n)
+      present-holds : presence t (r .group) ≡ 1 → Holds t grids r
       present-holds p =
           let g : r .group ≡ groupAt f last by = is .group-is ∙ sym same-group in
           let l : r .group < groups = rw (is .group-is) below in
           let sides = grid-sides t (r .group) (none-below groups (r .group) (badGrid t) (h .sides) l) p in
-          let cell = lacks-not t (r .group) (innerOf last s) (innerOf by s) (rw g (at-last .in-grid)) p in
+          let cell = grid-has-block t (r .group) (innerOf last s) (innerOf by s) (rw g (at-last .in-grid)) p in
           record {
             width-le = sides .0 .1;
             height-le = sides .1 .1;
-            columns = omega (arith, cell .0, run-inner bx s (r .n - 1) inside, is .column-is, is .some);
+            columns = omega (arith, cell .0, run-inner bx s (r .n - 1) inside, is .column-is, is .n-pos);
             row-lt = omega (arith, cell .1, is .row-is);
-            room = omega (arith, start-ends t (r .group) groups l, cells-present t (r .group) p, h .cells-are);
+            grid-end-le = omega (arith, start-ends t (r .group) groups l, cells-present t (r .group) p, h .cells-are);
           }
 
 -- the next run of a row
-module _ (f : Frame) (t : List ℕ) (grids : List Float) (modular : Float) (s₀ : List Float) (n o left by : ℕ) where
-  pub row-turn : (s s' : List Float) (x limit : ℕ) (r : Run) → s ≡ fill s₀ o x (rowSigma f t grids modular s₀ n o left by) → RunOf f (left + x) by limit r → x + limit ≤ n
-      → s' ≡ fill s (o + x) (r .n) (λ i. sigmaIn t grids modular (aboveIn s n modular (o + x + i)) (r .group) (r .column + i) (r .row))
-      → s' ≡ fill s₀ o (x + r .n) (rowSigma f t grids modular s₀ n o left by)
+module _ (f : Frame) (t : List ℕ) (grids : List Float) (modular : Float) (s₀ : List Float) (o : ℕ) (row : BlockRow) where
+  abbrev rowOf : ℕ → Float
+  rowOf = rowSigma f t grids modular s₀ o row
+
+  pub row-turn : (s s' : List Float) (x limit : ℕ) (r : Run) → s ≡ fill s₀ o x rowOf → RunOf f (row .left + x) (row .by) limit r → x + limit ≤ row .across
+      → s' ≡ fill s (o + x) (r .n) (λ i. sigmaIn t grids modular (aboveIn s (row .across) modular (o + x + i)) (r .group) (r .column + i) (r .row))
+      → s' ≡ fill s₀ o (x + r .n) rowOf
   unfolding rowSigma frameSigma
-  row-turn s s' x limit r e is l e' = e' ∙ rw e (fill-then s₀ o x (r .n) (rowSigma f t grids modular s₀ n o left by) _ (rowSigma f t grids modular s₀ n o left by) (λ i l. refl) each)
+  row-turn s s' x limit r e is l e' = e' ∙ rw e (fill-then s₀ o x (r .n) rowOf _ rowOf (λ i l. refl) each)
     where
-      each : (i : ℕ) → i < r .n → sigmaIn t grids modular (aboveIn (fill s₀ o x (rowSigma f t grids modular s₀ n o left by)) n modular (o + x + i)) (r .group) (r .column + i) (r .row) ≡ (rowSigma f t grids modular s₀ n o left by) (x + i)
+      each : (i : ℕ) → i < r .n → sigmaIn t grids modular (aboveIn (fill s₀ o x rowOf) (row .across) modular (o + x + i)) (r .group) (r .column + i) (r .row) ≡ rowOf (x + i)
       each i p =
           let k = f .«group_size_shift» in
+          let bx = row .left + x in
           let at-x : o + x + i ≡ o + (x + i) = omega arith in
-          let block : left + (x + i) ≡ left + x + i = omega arith in
-          let inside : innerOf (left + x) k + i < groupDim k = omega (arith, is .column-is, is .one-group) in
-          rw (above-same s₀ n modular o x (rowSigma f t grids modular s₀ n o left by) (o + x + i) (omega (arith, is .within)))
-          (rw (at-x, block, run-group (left + x) k i inside, run-inner (left + x) k i inside, is .group-is, is .column-is, is .row-is))
+          let block : row .left + (x + i) ≡ row .left + x + i = omega arith in
+          let inside : innerOf bx k + i < groupDim k = omega (arith, is .column-is, is .one-group) in
+          rw (above-same s₀ (row .across) modular o x rowOf (o + x + i) (omega (arith, is .n-le)))
+          (rw (at-x, block, run-group bx k i inside, run-inner bx k i inside, is .group-is, is .column-is, is .row-is))
 
 -- ---- row by row
 
@@ -172,15 +182,19 @@ module _ (f : Frame) (b : Blocks) (t : List ℕ) (grids : List Float) (modular :
       let i : o + x - blocksAcross b ≡ 0 + (k + x) = omega arith in
       rw (le-ltb (o + x) (blocksAcross b) (omega arith), i) (fill-at s₀ 0 o flat (k + x) (omega arith) (omega arith) ∙ flat-is x y k p refl)
 
-  -- an iteration of the loop over rows, with n blocks across
+  -- row y of the filter region, with n blocks across
+  abbrev rowAt : ℕ → ℕ → BlockRow
+  rowAt n y = record { left = b .left; by = b .top + y; across = n }
+
+  -- an iteration of the loop over rows
   pub rows-turn : (s s' : List Float) (n y o : ℕ) → n ≡ blocksAcross b → o ≡ y * n → o ≤ length s₀ → s ≡ fill s₀ 0 o flat
-      → s' ≡ fill s o n (rowSigma f t grids modular s n o (b .left) (b .top + y)) → s' ≡ fill s₀ 0 (o + n) flat
+      → s' ≡ fill s o n (rowSigma f t grids modular s o (rowAt n y)) → s' ≡ fill s₀ 0 (o + n) flat
   unfolding rowSigma blockSigma
   rows-turn s s' n y o q e room is is' =
       let z : 0 + o ≡ o = omega arith in
       is' ∙ rw (is, q) (rw z at (fill-then s₀ 0 o (blocksAcross b) flat _ flat (λ i l. refl) each))
     where
-      each : (x : ℕ) → x < blocksAcross b → rowSigma f t grids modular (fill s₀ 0 o flat) (blocksAcross b) o (b .left) (b .top + y) x ≡ flat (o + x)
+      each : (x : ℕ) → x < blocksAcross b → rowSigma f t grids modular (fill s₀ 0 o flat) o (rowAt (blocksAcross b) y) x ≡ flat (o + x)
       each x p = let e' : o ≡ y * blocksAcross b = rw (← q) e in rw (above-is x y o p e' room) (sym (flat-is x y o p e'))
 
   pub rows-end : (s : List Float) (n y o : ℕ) → n ≡ blocksAcross b → o ≡ y * n → y ≡ blocksDown b → length s₀ ≡ blocksDown b * blocksAcross b → s ≡ fill s₀ 0 o flat → s ≡ blockSigmas f b t grids modular
@@ -190,13 +204,13 @@ module _ (f : Frame) (b : Blocks) (t : List ℕ) (grids : List Float) (modular :
       is ∙ rw z (fill-whole s₀ (blocksDown b * blocksAcross b) _ l)
 
 pub row-fits : (f : Frame) (sizes : GroupSizes) (b : Blocks) (t : List ℕ) (grids : List Float) → AllFits f sizes b t grids → (n y : ℕ) → n ≡ blocksAcross b → y < blocksDown b
-    → RowFits f sizes t grids (b .left) (b .top + y) n
+    → RowFits f sizes t grids (record { left = b .left; by = b .top + y; across = n })
 unfolding someNotHeld
 row-fits f sizes b t grids h n y q l =
     rw q (record {
       grids-of = h .grids-of;
       left-le = h .measured-blocks .left-le;
-      n-le = across-le b (h .measured-blocks);
+      across-le = across-le b (h .measured-blocks);
       held-all = none-below (blocksDown b) y _ (h .held-all) l;
     })
 

@@ -7,12 +7,12 @@ use lib.Ieee.{Float, nan}
 use Rattle.planes.specs.Sets.{tab}
 use Rattle.frame.specs.declared.Frame.{Frame}
 use Rattle.frame.specs.Sizes.{sizesOf}
-use Rattle.sigma_blocks.specs.declared.Blocks.{Blocks}
-use Rattle.sigma_grids.specs.Table.{badGrid, cells, gridStart, lacks, someBelow}
+use Rattle.sigma_groups.specs.declared.blocks.Blocks.{Blocks}
+use Rattle.sigma_grids.specs.Table.{badGrid, cells, gridStart, gridLacksBlock, someBelow}
 use Rattle.sigma_groups.specs.Held.{notHeld, someNotHeld}
 use Rattle.frame.specs.Outcome.{badSides, badSettings}
 use Rattle.sigma_groups.specs.Outcome.{tableFits, gridsFit, sigmaNumber}
-use Rattle.sigma_blocks.specs.Measures.{badBlocks}
+use Rattle.sigma_groups.specs.Measures.{badBlocks}
 use Rattle.sigma.specs.Sigma.{sigmaIn, frameSigma, aboveAt, blockSigma, blockSigmas}
 
 -- one group across and two down, of 128 × 128 blocks; the upper one has a grid of one column, the lower one has none
@@ -42,7 +42,7 @@ started grids modular = refl
 
 -- these inputs are accepted
 fits : sigmaNumber 1 frame (blocks 127 24) table (replicate 128 nan) 3 ≡ 0
-unfolding sizesOf badSides badSettings badBlocks tableFits gridsFit gridStart cells someBelow badGrid someNotHeld notHeld lacks
+unfolding sizesOf badSides badSettings badBlocks tableFits gridsFit gridStart cells someBelow badGrid someNotHeld notHeld gridLacksBlock
 fits = refl
 
 -- four groups with grids of 128 × 128 cells, and the four blocks where they meet: one cell of each grid, in group order

@@ -7,7 +7,7 @@ use lib.ListN.{length}
 use lib.Ieee.{Float}
 use Rattle.refusals.specs.Flags.{flagSet}
 use Rattle.frame.specs.declared.Frame.{Frame}
-use Rattle.sigma_blocks.specs.declared.Blocks.{Blocks}
+use Rattle.sigma_groups.specs.declared.blocks.Blocks.{Blocks}
 use Rattle.sigma_groups.specs.Outcome.{sigmaNumber}
 use Rattle.sigma.specs.Sigma.{blockSigmas}
 

@@ -9,10 +9,11 @@ use lib.Ieee.{Float, nan}
 use Rattle.frame.specs.declared.Frame.{Frame}
 use Rattle.frame.specs.declared.GroupSizes.{GroupSizes}
 use Rattle.frame.specs.Sizes.{groupDim, innerOf, sizesOf}
-use Rattle.sigma_blocks.specs.declared.Blocks.{Blocks}
+use Rattle.sigma_groups.specs.declared.blocks.Blocks.{Blocks}
 use Rattle.sigma.specs.declared.Run.{Run}
+use Rattle.sigma.specs.declared.BlockRow.{BlockRow}
 use Rattle.sigma_grids.specs.Table.{presence, gridWidth, gridHeight, gridStart, badGrid, someBelow}
-use Rattle.sigma_blocks.specs.Measured.{Measured}
+use Rattle.sigma_groups.specs.Measured.{Measured}
 use Rattle.sigma_groups.specs.Held.{groupAt, notHeld, someNotHeld}
 use Rattle.sigma.specs.Sigma.{frameSigma}
 use Rattle.sigma_groups.specs.Fitting.{TableOf}
@@ -23,19 +24,19 @@ aboveIn s n modular at = cond (ltb at n) modular (getD s (at - n) nan)
 
 -- ---- a run of blocks of one group
 
--- a present grid of the group holds the n cells from (column, row)
-pub record Holds (t : List ℕ) (grids : List Float) (group column row n : ℕ) : Type 0 where
-  pub width-le : gridWidth t group ≤ 1024
-  pub height-le : gridHeight t group ≤ 1024
-  pub columns : column + n ≤ gridWidth t group
-  pub row-lt : row < gridHeight t group
-  pub room : gridStart t group + gridWidth t group * gridHeight t group ≤ length grids
+-- a present grid of the group holds the cells of the run
+pub record Holds (t : List ℕ) (grids : List Float) (r : Run) : Type 0 where
+  pub width-le : gridWidth t (r .group) ≤ 1024
+  pub height-le : gridHeight t (r .group) ≤ 1024
+  pub columns : r .column + r .n ≤ gridWidth t (r .group)
+  pub row-lt : r .row < gridHeight t (r .group)
+  pub grid-end-le : gridStart t (r .group) + gridWidth t (r .group) * gridHeight t (r .group) ≤ length grids
 
-pub record RunFits (t : List ℕ) (grids : List Float) (group column row n : ℕ) : Type 0 where
-  pub entry : 3 * group + 3 ≤ length t
-  pub short : length t ≤ 768
-  pub before : someBelow group (badGrid t) ≡ false
-  pub holds : presence t group ≡ 1 → Holds t grids group column row n
+pub record RunFits (t : List ℕ) (grids : List Float) (r : Run) : Type 0 where
+  pub entry : 3 * r .group + 3 ≤ length t
+  pub table-le : length t ≤ 768
+  pub before : someBelow (r .group) (badGrid t) ≡ false
+  pub holds : presence t (r .group) ≡ 1 → Holds t grids r
 
 -- ---- runs of a row of blocks
 
@@ -44,8 +45,8 @@ pub record RunOf (f : Frame) (bx by limit : ℕ) (r : Run) : Type 0 where
   pub group-is : r .group ≡ groupAt f bx by
   pub column-is : r .column ≡ innerOf bx (f .«group_size_shift»)
   pub row-is : r .row ≡ innerOf by (f .«group_size_shift»)
-  pub some : 0 < r .n
-  pub within : r .n ≤ limit
+  pub n-pos : 0 < r .n
+  pub n-le : r .n ≤ limit
   pub one-group : r .column + r .n ≤ groupDim (f .«group_size_shift»)
 
 -- the grids slice holds the grids that the table describes
@@ -54,17 +55,17 @@ pub record GridsOf (f : Frame) (sizes : GroupSizes) (t : List ℕ) (grids : List
   pub sides : someBelow (sizesOf f .«num_groups») (badGrid t) ≡ false
   pub cells-are : length grids ≡ gridStart t (sizesOf f .«num_groups»)
 
--- the next run of a row
-module _ (f : Frame) (t : List ℕ) (grids : List Float) (modular : Float) (s₀ : List Float) (n o left by : ℕ) where
+-- the sigma of block x of a row that is written at index o; s₀ has the rows above it
+module _ (f : Frame) (t : List ℕ) (grids : List Float) (modular : Float) (s₀ : List Float) (o : ℕ) (r : BlockRow) where
   unfoldable pub rowSigma : ℕ → Float
-  rowSigma x = frameSigma f t grids modular (aboveIn s₀ n modular (o + x)) (left + x) by
+  rowSigma x = frameSigma f t grids modular (aboveIn s₀ (r .across) modular (o + x)) (r .left + x) (r .by)
 
 -- a row of blocks, each of them held
-pub record RowFits (f : Frame) (sizes : GroupSizes) (t : List ℕ) (grids : List Float) (left by n : ℕ) : Type 0 where
+pub record RowFits (f : Frame) (sizes : GroupSizes) (t : List ℕ) (grids : List Float) (r : BlockRow) : Type 0 where
   pub grids-of : GridsOf f sizes t grids
-  pub left-le : left ≤ 131072
-  pub n-le : n ≤ 2048
-  pub held-all : someBelow n (λ x. notHeld f t (left + x) by) ≡ false
+  pub left-le : r .left ≤ 131072
+  pub across-le : r .across ≤ 2048
+  pub held-all : someBelow (r .across) (λ x. notHeld f t (r .left + x) (r .by)) ≡ false
 
 -- the conditions for all rows of a filter region
 pub record AllFits (f : Frame) (sizes : GroupSizes) (b : Blocks) (t : List ℕ) (grids : List Float) : Type 0 where

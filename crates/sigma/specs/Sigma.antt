@@ -7,9 +7,9 @@ use lib.Ieee.{Float, nan}
 use Rattle.planes.specs.Sets.{tab}
 use Rattle.frame.specs.declared.Frame.{Frame}
 use Rattle.frame.specs.Sizes.{innerOf}
-use Rattle.sigma_blocks.specs.declared.Blocks.{Blocks}
+use Rattle.sigma_groups.specs.declared.blocks.Blocks.{Blocks}
 use Rattle.sigma_grids.specs.Table.{present, gridWidth, gridStart}
-use Rattle.sigma_blocks.specs.Measures.{blocksAcross, blocksDown}
+use Rattle.sigma_groups.specs.Measures.{blocksAcross, blocksDown}
 use Rattle.sigma_groups.specs.Held.{groupAt}
 
 -- The sigma of a block whose grid is missing: that of the block above, which for the top row of blocks is `sigma_for_modular`.

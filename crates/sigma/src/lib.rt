@@ -3,16 +3,17 @@ use frame::Frame;
 use frame::GroupSizes;
 use limits::min_u32;
 use planes::copy_run;
-use sigma_blocks::Blocks;
 use sigma_grids::ENTRY;
 use sigma_grids::PRESENT;
+use sigma_groups::blocks::Blocks;
+use sigma_groups::blocks::blocks_along;
 ghost use mathlib.Core.Path.{_≡_};
 ghost use Prim.Native.Nat.{ℕ, _+_, _*_, _<_, _≤_};
 ghost use lib.ListN.{length};
 ghost use Rattle.planes.specs.Fill.{fill};
 ghost use Rattle.frame.specs.Sizes.{groupOf, sizesOf};
 ghost use Rattle.frame.specs.Sound.{Sound};
-ghost use Rattle.sigma_blocks.specs.Measures.{blocksAcross, blocksDown};
+ghost use Rattle.sigma_groups.specs.Measures.{blocksAcross, blocksDown};
 ghost use Rattle.sigma.specs.Sigma.{missing, sigmaIn, blockSigmas};
 ghost use Rattle.sigma.specs.Outcome.{SigmasOutcome, sigmasOutcome};
 ghost use Rattle.sigma.specs.Runs.{aboveIn, rowSigma, RunFits, RunOf, RowFits, AllFits};
@@ -50,41 +51,38 @@ fn fill_missing(modular: f32, across: u32, sigmas: &mut [f32], at: usize, n: u32
     }
 }
 
-// Writes the sigmas of n blocks of one group, from its cell (column, row), at index `at`.
-fn fill_run(
-    table: &[u32],
-    grids: &[f32],
-    group: u32,
-    column: u32,
-    row: u32,
-    modular: f32,
-    across: u32,
-    sigmas: &mut [f32],
-    at: usize,
-    n: u32,
-)
-    requires { ⌜ RunFits (now table) (now grids) group column row n × (at + n ≤ length (now sigmas)) × (n ≤ across) ⌝ }
-    ensures { λ _. ⌜ now (sigmas .exit) ≡ fill (now (sigmas .entry)) at n
-        (λ (i : ℕ). sigmaIn (now (table .entry)) (now (grids .entry)) modular
-        (aboveIn (now (sigmas .entry)) across modular (at + i)) group (column + i) row) ⌝ }
-{
-    let entry = ENTRY * group as usize;
-    if table[entry] != PRESENT {
-        fill_missing(modular, across, sigmas, at, n);
-        return;
-    }
-    let width = table[entry + 1] as usize;
-    let answer = sigma_grids::grid_start(table, group);
-    let from = answer.start + (row as usize * width + column as usize);
-    copy_run(sigmas, at, grids, from, n as usize);
-}
-
 // A part of a row of blocks that lies in one group: the group, the cell of the first block, the number of blocks.
 struct Run {
     group: u32,
     column: u32,
     row: u32,
     n: u32,
+}
+
+// Writes the sigmas of a run at index `at`.
+fn fill_run(
+    table: &[u32],
+    grids: &[f32],
+    run: Run,
+    modular: f32,
+    across: u32,
+    sigmas: &mut [f32],
+    at: usize,
+)
+    requires { ⌜ RunFits (now table) (now grids) run × (at + run .n ≤ length (now sigmas)) × (run .n ≤ across) ⌝ }
+    ensures { λ _. ⌜ now (sigmas .exit) ≡ fill (now (sigmas .entry)) at (run .n)
+        (λ (i : ℕ). sigmaIn (now (table .entry)) (now (grids .entry)) modular
+        (aboveIn (now (sigmas .entry)) across modular (at + i)) (run .group) (run .column + i) (run .row)) ⌝ }
+{
+    let entry = ENTRY * run.group as usize;
+    if table[entry] != PRESENT {
+        fill_missing(modular, across, sigmas, at, run.n);
+        return;
+    }
+    let width = table[entry + 1] as usize;
+    let answer = sigma_grids::grid_start(table, run.group);
+    let from = answer.start + (run.row as usize * width + run.column as usize);
+    copy_run(sigmas, at, grids, from, run.n as usize);
 }
 
 // The run that starts at block (bx, by) and has at most `limit` blocks.
@@ -106,6 +104,13 @@ fn run_at(frame: Frame, sizes: GroupSizes, bx: u32, by: u32, limit: u32) -> Run
     }
 }
 
+// A row of blocks of the filter region: its first block (left, by) in the frame, and the number of blocks across.
+struct BlockRow {
+    left: u32,
+    by: u32,
+    across: u32,
+}
+
 // Writes the sigmas of a row of blocks at index o.
 fn fill_row(
     frame: Frame,
@@ -113,31 +118,19 @@ fn fill_row(
     table: &[u32],
     grids: &[f32],
     modular: f32,
-    left: u32,
-    by: u32,
-    across: u32,
+    row: BlockRow,
     sigmas: &mut [f32],
     o: usize,
 )
-    requires { ⌜ RowFits frame sizes (now table) (now grids) left by across × (o + across ≤ length (now sigmas)) ⌝ }
-    ensures { λ _. ⌜ now (sigmas .exit) ≡ fill (now (sigmas .entry)) o across
-        (rowSigma frame (now (table .entry)) (now (grids .entry)) modular (now (sigmas .entry)) across o left by) ⌝ }
+    requires { ⌜ RowFits frame sizes (now table) (now grids) row × (o + row .across ≤ length (now sigmas)) ⌝ }
+    ensures { λ _. ⌜ now (sigmas .exit) ≡ fill (now (sigmas .entry)) o (row .across)
+        (rowSigma frame (now (table .entry)) (now (grids .entry)) modular (now (sigmas .entry)) o row) ⌝ }
 {
+    let across = row.across;
     let mut x = 0;
     while x < across {
-        let run = run_at(frame, sizes, left + x, by, across - x);
-        fill_run(
-            table,
-            grids,
-            run.group,
-            run.column,
-            run.row,
-            modular,
-            across,
-            sigmas,
-            o + x as usize,
-            run.n,
-        );
+        let run = run_at(frame, sizes, row.left + x, row.by, across - x);
+        fill_run(table, grids, run, modular, across, sigmas, o + x as usize);
         x += run.n;
     }
 }
@@ -155,24 +148,17 @@ fn fill_rows(
         × (length (now sigmas) ≡ blocksDown blocks * blocksAcross blocks) ⌝ }
     ensures { λ _. ⌜ now (sigmas .exit) ≡ blockSigmas frame blocks (now (table .entry)) (now (grids .entry)) modular ⌝ }
 {
-    let across = sigma_blocks::blocks_along(blocks.width);
-    let down = sigma_blocks::blocks_along(blocks.height);
+    let across = blocks_along(blocks.width);
+    let down = blocks_along(blocks.height);
     let mut y = 0;
     let mut o = 0;
     while y < down {
-        let by = blocks.top + y;
-        fill_row(
-            frame,
-            sizes,
-            table,
-            grids,
-            modular,
-            blocks.left,
-            by,
+        let row = BlockRow {
+            left: blocks.left,
+            by: blocks.top + y,
             across,
-            sigmas,
-            o,
-        );
+        };
+        fill_row(frame, sizes, table, grids, modular, row, sigmas, o);
         o += across as usize;
         y += 1;
     }

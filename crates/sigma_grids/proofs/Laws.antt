@@ -12,7 +12,7 @@ use borrow.Author.Tests.{le-ltb, ltb-false, leb-false, eq-eqb, ne-eqb}
 use lib.Dec.{ltb, leb}
 use lib.ListN.{length}
 use Rattle.sigma_grids.specs.declared.StartAnswer.{StartAnswer}
-use Rattle.sigma_grids.specs.Table.{presence, gridWidth, gridHeight, badGridSide, badGrid, cells, lacks, gridStart, someBelow}
+use Rattle.sigma_grids.specs.Table.{presence, gridWidth, gridHeight, badGridSide, badGrid, cells, gridLacksBlock, gridStart, someBelow}
 use Rattle.sigma_grids.specs.Start.{noEntries, startOutcome}
 
 -- ---- from a test that fails
@@ -76,9 +76,9 @@ grid-sides t g h p =
     (side-range (gridWidth t g) 1024 (n .0), side-range (gridHeight t g) 1024 (n .1))
 
 -- a cell of a present grid
-pub lacks-not : (t : List ℕ) (g column row : ℕ) → lacks t g column row ≡ false → presence t g ≡ 1 → (column < gridWidth t g) × (row < gridHeight t g)
-unfolding lacks
-lacks-not t g column row h p =
+pub grid-has-block : (t : List ℕ) (g column row : ℕ) → gridLacksBlock t g column row ≡ false → presence t g ≡ 1 → (column < gridWidth t g) × (row < gridHeight t g)
+unfolding gridLacksBlock
+grid-has-block t g column row h p =
     let e : (leb (gridWidth t g) column || leb (gridHeight t g) row) ≡ false = rw (eq-eqb (presence t g) 1 p) at h in
     let n = neither (leb (gridWidth t g) column) (leb (gridHeight t g) row) e in
     (leb-false (gridWidth t g) column (n .0), leb-false (gridHeight t g) row (n .1))

@@ -39,8 +39,8 @@ gridStart t zero = 0
 gridStart t (suc g) = gridStart t g + cells t g
 
 -- a grid that is present and lacks the cell at this column and row
-unfoldable pub lacks : List ℕ → ℕ → ℕ → ℕ → Bool
-lacks t g column row = present t g && (leb (gridWidth t g) column || leb (gridHeight t g) row)
+unfoldable pub gridLacksBlock : List ℕ → ℕ → ℕ → ℕ → Bool
+gridLacksBlock t g column row = present t g && (leb (gridWidth t g) column || leb (gridHeight t g) row)
 
 -- some number below n has the property
 unfoldable pub someBelow : ℕ → (ℕ → Bool) → Bool

@@ -1,6 +1,6 @@
 -- Laws of the blocks in groups, and of accepted inputs. Assumes nothing.
 use mathlib.Core.Path.{_≡_, refl, sym, ap, _∙_}
-use mathlib.Core.Bool.{Bool, true, false, cond, not, _&&_}
+use mathlib.Core.Bool.{Bool, true, false, cond}
 use mathlib.Core.List.{List}
 use Prim.Native.Nat.{ℕ, _+_, _*_, _<_, _≤_}
 use native.Mathlib.Nat.{mul-comm}
@@ -16,17 +16,18 @@ use Rattle.frame.specs.declared.SplitAnswer.{SplitAnswer}
 use Rattle.frame.specs.Sizes.{groupOf, innerOf, sizesOf}
 use Rattle.frame.proofs.Laws.{Bounded, sizes-bounded, split-accepted}
 use Rattle.frame.specs.Outcome.{badSides, badSettings, frameChecks, splitOutcome}
-use Rattle.refusals.specs.Numbers.{accepted, outOfLimits, wrongLength, blockNotHeld, outOfRange}
+use Rattle.refusals.specs.Numbers.{accepted, outOfLimits, outOfRange}
 use Rattle.refusals.specs.Checks.{firstOf}
 use Rattle.refusals.specs.Flags.{flagFits, flagSet}
-use Rattle.sigma_blocks.specs.declared.Blocks.{Blocks}
-use Rattle.sigma_blocks.specs.Measures.{badBlocks}
-use Rattle.sigma_blocks.specs.Measured.{Measured}
-use Rattle.sigma_blocks.proofs.Laws.{boundsFit}
-use Rattle.sigma_grids.specs.Table.{badPresence, badGrid, lacks, gridStart}
+use Rattle.refusals.proofs.Rows.{here, below, row-passed}
+use Rattle.sigma_groups.specs.declared.blocks.Blocks.{Blocks}
+use Rattle.sigma_groups.specs.Measures.{badBlocks}
+use Rattle.sigma_groups.specs.Measured.{Measured}
+use Rattle.sigma_groups.proofs.Measured.{boundsFit}
+use Rattle.sigma_grids.specs.Table.{badPresence, badGrid, gridLacksBlock, gridStart}
 use Rattle.sigma_grids.proofs.Laws.{neither}
 use Rattle.sigma_groups.specs.Held.{groupAt, notHeld, someNotHeld}
-use Rattle.sigma_groups.specs.Outcome.{frameFits, tableFits, tableRead, someGroup, gridsFit, sigmaCount, sigmaNumber}
+use Rattle.sigma_groups.specs.Outcome.{tableFits, someGroup, gridsFit, sigmaCount, frameSides, gridSides, tableLength, gridsLength, frameSettings, presences, blocksInLimits, sigmasCounted, regionHeld, flagInRange, sigmaChecks, sigmaNumber}
 use Rattle.sigma_groups.specs.Fitting.{TableOf}
 
 -- from the answer of `split_block`
@@ -56,13 +57,13 @@ module _ (f : Frame) (sizes : GroupSizes) (t : List ℕ) (h : TableOf f sizes t)
 pub record Held (f : Frame) (t : List ℕ) (bx by : ℕ) : Type 0 where
   pub in-row : groupOf bx (f .«group_size_shift») < sizesOf f .«groups_per_row»
   pub in-column : groupOf by (f .«group_size_shift») < sizesOf f .«groups_per_column»
-  pub in-grid : lacks t (groupAt f bx by) (innerOf bx (f .«group_size_shift»)) (innerOf by (f .«group_size_shift»)) ≡ false
+  pub in-grid : gridLacksBlock t (groupAt f bx by) (innerOf bx (f .«group_size_shift»)) (innerOf by (f .«group_size_shift»)) ≡ false
 
 pub held : (f : Frame) (t : List ℕ) (bx by : ℕ) → notHeld f t bx by ≡ false → Held f t bx by
 unfolding notHeld
 held f t bx by h =
     let s = f .«group_size_shift» in
-    let g = neither _ (lacks t (groupAt f bx by) (innerOf bx s) (innerOf by s)) h in
+    let g = neither _ (gridLacksBlock t (groupAt f bx by) (innerOf bx s) (innerOf by s)) h in
     let n = neither (leb (sizesOf f .«groups_per_row») (groupOf bx s)) (leb (sizesOf f .«groups_per_column») (groupOf by s)) (g .0) in
     record {
       in-row = leb-false (sizesOf f .«groups_per_row») (groupOf bx s) (n .0);
@@ -92,11 +93,6 @@ settings-fit true b e = absurd (omega arith)
 settings-fit false true e = absurd (omega arith)
 settings-fit false false e = (refl, refl)
 
--- a check that does not apply
-passed : (b : Bool) (k rest : ℕ) → 0 < k → cond b k rest ≡ 0 → (b ≡ false) × (rest ≡ 0)
-passed true k rest p e = absurd (omega arith)
-passed false k rest p e = (refl, e)
-
 -- Accepted inputs: the numbers of frame and filter region are in range, and lengths, grids and blocks fit.
 pub record Accepted (on : ℕ) (f : Frame) (b : Blocks) (t : List ℕ) (grids : List Float) (n : ℕ) : Type 0 where
   pub frame-fits : firstOf (frameChecks f) ≡ accepted
@@ -110,38 +106,26 @@ pub record Accepted (on : ℕ) (f : Frame) (b : Blocks) (t : List ℕ) (grids : 
   pub held-all : flagSet on ≡ true → someNotHeld f b t ≡ false
 
 module _ (on : ℕ) (f : Frame) (b : Blocks) (t : List ℕ) (grids : List Float) (n : ℕ) where
-  -- from the tests, if the table is readable
-  accepted-tests : badSides f ≡ false → badBlocks b ≡ false → badSettings f ≡ false → (tableRead f t && someGroup f (badGrid t)) ≡ false
-      → (frameFits f && not (tableFits f t)) ≡ false → (tableRead f t && not (someGroup f (badPresence t)) && not (gridsFit f t grids)) ≡ false
-      → (not (badBlocks b) && flagFits on && not (eqb n (sigmaCount (flagSet on) b))) ≡ false → (tableRead f t && not (badBlocks b) && flagSet on && someNotHeld f b t) ≡ false
-      → (tableRead f t && someGroup f (badPresence t)) ≡ false → not (flagFits on) ≡ false → Accepted on f b t grids n
-  unfolding tableFits gridsFit
-  accepted-tests s k q g l c m h p o =
-      let fits : tableFits f t ≡ true = not-false (tableFits f t) (rw (s, q) at l) in
-      let flag : flagFits on ≡ true = not-false (flagFits on) o in
-      let clear : someGroup f (badPresence t) ≡ false = rw (s, q, fits) at p in
-      record {
-        frame-fits = rw (s, q);
-        blocks = boundsFit b k;
-        entries = eqb-true (length t) (3 * sizesOf f .«num_groups») fits;
-        sides = rw (s, q, fits) at g;
-        presences = clear;
-        cells-are = eqb-true (length grids) (gridStart t (sizesOf f .«num_groups»)) (not-false (gridsFit f t grids) (rw (s, q, fits, clear) at c));
-        flag = flag;
-        count = eqb-true n (sigmaCount (flagSet on) b) (not-false (eqb n (sigmaCount (flagSet on) b)) (rw (k, flag) at m));
-        held-all = λ y. rw (s, q, fits, k, y) at h;
-      }
-
   pub accepted-fits : sigmaNumber on f b t grids n ≡ 0 → Accepted on f b t grids n
+  unfolding tableFits gridsFit
   accepted-fits e =
-      let a1 = passed (badSides f) outOfLimits _ (omega arith) e in
-      let a2 = passed (badBlocks b) outOfLimits _ (omega arith) (a1 .1) in
-      let a3 = passed (tableRead f t && someGroup f (badGrid t)) outOfLimits _ (omega arith) (a2 .1) in
-      let a4 = passed (frameFits f && not (tableFits f t)) wrongLength _ (omega arith) (a3 .1) in
-      let a5 = passed (tableRead f t && not (someGroup f (badPresence t)) && not (gridsFit f t grids)) wrongLength _ (omega arith) (a4 .1) in
-      let a6 = passed (not (badBlocks b) && flagFits on && not (eqb n (sigmaCount (flagSet on) b))) wrongLength _ (omega arith) (a5 .1) in
-      let a7 = passed (tableRead f t && not (badBlocks b) && flagSet on && someNotHeld f b t) blockNotHeld _ (omega arith) (a6 .1) in
-      let a8 = passed (badSettings f) outOfRange _ (omega arith) (a7 .1) in
-      let a9 = passed (tableRead f t && someGroup f (badPresence t)) outOfRange _ (omega arith) (a8 .1) in
-      let a10 = passed (not (flagFits on)) outOfRange 0 (omega arith) (a9 .1) in
-      accepted-tests (a1 .0) (a2 .0) (a8 .0) (a3 .0) (a4 .0) (a5 .0) (a6 .0) (a7 .0) (a9 .0) (a10 .0)
+      let passed = row-passed (sigmaChecks on f b t grids n) tt e in
+      let sides : badSides f ≡ false = passed (frameSides f) (search (here, below) depth 12) in
+      let settings : badSettings f ≡ false = passed (frameSettings f) (search (here, below) depth 12) in
+      let region : badBlocks b ≡ false = passed (blocksInLimits b) (search (here, below) depth 12) in
+      let flag : flagFits on ≡ true = not-false (flagFits on) (passed (flagInRange on) (search (here, below) depth 12)) in
+      let table : tableFits f t ≡ true = not-false (tableFits f t) (rw (sides, settings) at (passed (tableLength f t) (search (here, below) depth 12))) in
+      let clear : someGroup f (badPresence t) ≡ false = rw (sides, settings, table) at (passed (presences f t) (search (here, below) depth 12)) in
+      let cells = not-false (gridsFit f t grids) (rw (sides, settings, table, clear) at (passed (gridsLength f t grids) (search (here, below) depth 12))) in
+      let count = not-false (eqb n (sigmaCount (flagSet on) b)) (rw (region, flag) at (passed (sigmasCounted on b n) (search (here, below) depth 12))) in
+      record {
+        frame-fits = rw (sides, settings);
+        blocks = boundsFit b region;
+        entries = eqb-true (length t) (3 * sizesOf f .«num_groups») table;
+        sides = rw (sides, settings, table) at (passed (gridSides f t) (search (here, below) depth 12));
+        presences = clear;
+        cells-are = eqb-true (length grids) (gridStart t (sizesOf f .«num_groups»)) cells;
+        flag = flag;
+        count = eqb-true n (sigmaCount (flagSet on) b) count;
+        held-all = λ y. rw (sides, settings, table, region, y) at (passed (regionHeld on f b t) (search (here, below) depth 12));
+      }

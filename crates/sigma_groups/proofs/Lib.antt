@@ -1,2 +1,3 @@
+pub mod Measured
 mod Number
 pub mod Laws

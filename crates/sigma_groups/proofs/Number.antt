@@ -8,11 +8,11 @@ use lib.Ieee.{Float}
 use Rattle.refusals.specs.Numbers.{accepted, outOfLimits, wrongLength, blockNotHeld, outOfRange}
 use Rattle.refusals.specs.Flags.{flagFits, flagSet}
 use Rattle.frame.specs.declared.Frame.{Frame}
-use Rattle.sigma_blocks.specs.declared.Blocks.{Blocks}
+use Rattle.sigma_groups.specs.declared.blocks.Blocks.{Blocks}
 use Rattle.sigma_grids.specs.Table.{badGrid, badPresence}
 use Rattle.frame.specs.Outcome.{badSides, badSettings}
 use Rattle.sigma_groups.specs.Outcome.{tableFits, someGroup, gridsFit, sigmaCount, sigmaNumber}
-use Rattle.sigma_blocks.specs.Measures.{badBlocks}
+use Rattle.sigma_groups.specs.Measures.{badBlocks}
 use Rattle.sigma_groups.specs.Held.{someNotHeld}
 
 module _ (on : ℕ) (f : Frame) (b : Blocks) (t : List ℕ) (grids : List Float) (n : ℕ) where

@@ -5,12 +5,12 @@ use Prim.Native.Nat.{ℕ}
 use lib.Ieee.{Float, nan}
 use Rattle.frame.specs.declared.Frame.{Frame}
 use Rattle.frame.specs.Sizes.{sizesOf}
-use Rattle.sigma_blocks.specs.declared.Blocks.{Blocks}
-use Rattle.sigma_grids.specs.Table.{badGrid, cells, gridStart, lacks, someBelow}
+use Rattle.sigma_groups.specs.declared.blocks.Blocks.{Blocks}
+use Rattle.sigma_grids.specs.Table.{badGrid, cells, gridStart, gridLacksBlock, someBelow}
 use Rattle.sigma_groups.specs.Held.{notHeld, someNotHeld}
 use Rattle.frame.specs.Outcome.{badSides, badSettings}
 use Rattle.sigma_groups.specs.Outcome.{tableFits, gridsFit, sigmaNumber}
-use Rattle.sigma_blocks.specs.Measures.{badBlocks}
+use Rattle.sigma_groups.specs.Measures.{badBlocks}
 
 -- a frame of w × h samples with groups of 128 × 128 blocks
 abbrev frame : ℕ → ℕ → ℕ → Frame
@@ -31,7 +31,7 @@ wide-grid on h grids n = refl
 
 -- presence 2: 9; the grid's sides and the length of the grids slice are passed over, a wrong number of sigmas is still 7
 faulty-presence : (w h : ℕ) (grids : List Float) → (sigmaNumber 1 (frame 8 8 1) (region 0 0 8 8) (2 ∷ w ∷ h ∷ []) grids 1 ≡ 9) × (sigmaNumber 1 (frame 8 8 1) (region 0 0 8 8) (2 ∷ w ∷ h ∷ []) grids 2 ≡ 7)
-unfolding badSides badSettings badBlocks tableFits sizesOf someBelow badGrid someNotHeld notHeld lacks
+unfolding badSides badSettings badBlocks tableFits sizesOf someBelow badGrid someNotHeld notHeld gridLacksBlock
 faulty-presence w h grids = (refl, refl)
 
 -- upsampling 3: 9; table and grids are passed over
@@ -46,7 +46,7 @@ faulty-flag n = refl
 
 -- a block past the only group, and a block that a grid of one cell lacks: 8, and 0 with the EPF off
 not-held : (sigmaNumber 1 (frame 8 8 1) (region 128 0 8 8) (0 ∷ 0 ∷ 0 ∷ []) [] 1 ≡ 8) × (sigmaNumber 1 (frame 16 8 1) (region 1 0 8 8) (1 ∷ 1 ∷ 1 ∷ []) (nan ∷ []) 1 ≡ 8) × (sigmaNumber 0 (frame 16 8 1) (region 1 0 8 8) (1 ∷ 1 ∷ 1 ∷ []) (nan ∷ []) 0 ≡ 0)
-unfolding badSides badSettings badBlocks tableFits gridsFit gridStart cells sizesOf someBelow badGrid someNotHeld notHeld lacks
+unfolding badSides badSettings badBlocks tableFits gridsFit gridStart cells sizesOf someBelow badGrid someNotHeld notHeld gridLacksBlock
 not-held = (refl, refl, refl)
 
 -- a grids slice one cell too short: 7, although a block is not held

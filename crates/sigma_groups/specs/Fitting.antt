@@ -9,8 +9,8 @@ use Rattle.frame.specs.declared.GroupSizes.{GroupSizes}
 use Rattle.frame.specs.Sizes.{sizesOf}
 use Rattle.frame.specs.Sound.{Sound}
 use Rattle.frame.specs.Outcome.{badSides, badSettings}
-use Rattle.sigma_blocks.specs.declared.Blocks.{Blocks}
-use Rattle.sigma_blocks.specs.Measures.{badBlocks}
+use Rattle.sigma_groups.specs.declared.blocks.Blocks.{Blocks}
+use Rattle.sigma_groups.specs.Measures.{badBlocks}
 
 -- ---- blocks and the groups of a frame
 

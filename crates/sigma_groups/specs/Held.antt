@@ -5,9 +5,9 @@ use Prim.Native.Nat.{ℕ, _+_, _*_}
 use lib.Dec.{leb}
 use Rattle.frame.specs.declared.Frame.{Frame}
 use Rattle.frame.specs.Sizes.{groupOf, innerOf, sizesOf}
-use Rattle.sigma_blocks.specs.declared.Blocks.{Blocks}
-use Rattle.sigma_blocks.specs.Measures.{blocksAcross, blocksDown}
-use Rattle.sigma_grids.specs.Table.{lacks, someBelow}
+use Rattle.sigma_groups.specs.declared.blocks.Blocks.{Blocks}
+use Rattle.sigma_groups.specs.Measures.{blocksAcross, blocksDown}
+use Rattle.sigma_grids.specs.Table.{gridLacksBlock, someBelow}
 
 -- the group number of block (bx, by); groups are numbered row by row
 abbrev pub groupAt : Frame → ℕ → ℕ → ℕ
@@ -18,7 +18,7 @@ unfoldable pub notHeld : Frame → List ℕ → ℕ → ℕ → Bool
 notHeld f t bx by =
     leb (sizesOf f .«groups_per_row») (groupOf bx (f .«group_size_shift»))
     || leb (sizesOf f .«groups_per_column») (groupOf by (f .«group_size_shift»))
-    || lacks t (groupAt f bx by) (innerOf bx (f .«group_size_shift»)) (innerOf by (f .«group_size_shift»))
+    || gridLacksBlock t (groupAt f bx by) (innerOf bx (f .«group_size_shift»)) (innerOf by (f .«group_size_shift»))
 
 -- some block of the filter region is not held
 unfoldable pub someNotHeld : Frame → Blocks → List ℕ → Bool

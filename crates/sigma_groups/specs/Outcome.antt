@@ -11,9 +11,9 @@ use Rattle.refusals.specs.Flags.{flagFits, flagSet}
 use Rattle.frame.specs.declared.Frame.{Frame}
 use Rattle.frame.specs.Sizes.{sizesOf}
 use Rattle.frame.specs.Outcome.{badSides, badSettings}
-use Rattle.sigma_blocks.specs.declared.Blocks.{Blocks}
+use Rattle.sigma_groups.specs.declared.blocks.Blocks.{Blocks}
 use Rattle.sigma_grids.specs.Table.{gridStart, badPresence, badGrid, someBelow}
-use Rattle.sigma_blocks.specs.Measures.{blocksAcross, blocksDown, badBlocks}
+use Rattle.sigma_groups.specs.Measures.{blocksAcross, blocksDown, badBlocks}
 use Rattle.sigma_groups.specs.Held.{someNotHeld}
 
 -- ---- values that checks need
@@ -65,6 +65,22 @@ frameSettings f = always outOfRange (badSettings f)
 abbrev pub presences : Frame → List ℕ → Check
 presences f t = given (tableRead f t) outOfRange (someGroup f (badPresence t))
 
+-- ---- checks of the filter region, its sigmas and the flag
+
+abbrev pub blocksInLimits : Blocks → Check
+blocksInLimits b = always outOfLimits (badBlocks b)
+
+-- the number of sigmas; passed over if the flag is out of range
+abbrev pub sigmasCounted : ℕ → Blocks → ℕ → Check
+sigmasCounted on b sigmas = given (not (badBlocks b) && flagFits on) wrongLength (not (eqb sigmas (sigmaCount (flagSet on) b)))
+
+-- the blocks of the region; a presence out of range counts as missing
+abbrev pub regionHeld : ℕ → Frame → Blocks → List ℕ → Check
+regionHeld on f b t = given (tableRead f t && not (badBlocks b) && flagSet on) blockNotHeld (someNotHeld f b t)
+
+abbrev pub flagInRange : ℕ → Check
+flagInRange on = always outOfRange (not (flagFits on))
+
 -- ---- the table of checks
 
 -- The checks of Specification 7.9, ascending. If the EPF is off, all of them apply except 8. Whether it is on is a flag;
@@ -73,15 +89,15 @@ presences f t = given (tableRead f t) outOfRange (someGroup f (badPresence t))
 abbrev pub sigmaChecks : ℕ → Frame → Blocks → List ℕ → List Float → ℕ → List Check
 sigmaChecks on f b t grids sigmas =
     frameSides f
-    ∷ always outOfLimits (badBlocks b)
+    ∷ blocksInLimits b
     ∷ gridSides f t
     ∷ tableLength f t
     ∷ gridsLength f t grids
-    ∷ given (not (badBlocks b) && flagFits on) wrongLength (not (eqb sigmas (sigmaCount (flagSet on) b)))
-    ∷ given (tableRead f t && not (badBlocks b) && flagSet on) blockNotHeld (someNotHeld f b t)
+    ∷ sigmasCounted on b sigmas
+    ∷ regionHeld on f b t
     ∷ frameSettings f
     ∷ presences f t
-    ∷ always outOfRange (not (flagFits on))
+    ∷ flagInRange on
     ∷ []
 
 -- the number of the first check that applies

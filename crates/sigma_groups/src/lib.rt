@@ -1,7 +1,11 @@
 // Whether the grids hold a filter region's blocks, and the number of `block_sigmas` (Specification 7.7, 7.9).
+pub mod blocks;
+
+use blocks::Blocks;
+use blocks::bad_blocks;
+use blocks::blocks_along;
 use frame::Frame;
 use frame::GroupSizes;
-use sigma_blocks::Blocks;
 use sigma_grids::ENTRY;
 use sigma_grids::PRESENT;
 ghost use mathlib.Core.Path.{_≡_};
@@ -10,9 +14,9 @@ ghost use Prim.Native.Nat.{ℕ, _+_, _*_, _≤_};
 ghost use lib.Dec.{eqb};
 ghost use lib.ListN.{length};
 ghost use Rattle.refusals.specs.Flags.{flagFits, flagSet};
-ghost use Rattle.sigma_grids.specs.Table.{badPresence, lacks, someBelow};
+ghost use Rattle.sigma_grids.specs.Table.{badPresence, gridLacksBlock, someBelow};
+ghost use Rattle.sigma_groups.specs.Measured.{Measured};
 ghost use Rattle.sigma_groups.specs.Held.{notHeld, someNotHeld};
-ghost use Rattle.sigma_blocks.specs.Measured.{Measured};
 ghost use Rattle.sigma_groups.specs.Outcome.{sigmaCount, sigmaNumber};
 ghost use Rattle.sigma_groups.specs.Fitting.{TableOf, Fitting};
 
@@ -23,8 +27,8 @@ fn sigma_count(on: bool, blocks: Blocks) -> usize
     if !on {
         return 0;
     }
-    let across = sigma_blocks::blocks_along(blocks.width);
-    let down = sigma_blocks::blocks_along(blocks.height);
+    let across = blocks_along(blocks.width);
+    let down = blocks_along(blocks.height);
     (down * across) as usize
 }
 
@@ -67,9 +71,9 @@ fn wide(x: u32) -> usize
 }
 
 // Whether a group's grid is present and lacks a cell.
-fn lacks(table: &[u32], group: u32, column: u32, row: u32) -> bool
+fn grid_lacks_block(table: &[u32], group: u32, column: u32, row: u32) -> bool
     requires { ⌜ 3 * group + 3 ≤ length (now table) ⌝ }
-    ensures { λ r. ⌜ r ≡ lacks (now (table .entry)) group column row ⌝ }
+    ensures { λ r. ⌜ r ≡ gridLacksBlock (now (table .entry)) group column row ⌝ }
 {
     let entry = ENTRY * group as usize;
     if table[entry] != PRESENT {
@@ -94,7 +98,7 @@ fn not_held(frame: Frame, sizes: GroupSizes, table: &[u32], bx: u32, by: u32) ->
     if sizes.groups_per_column <= row.group {
         return true;
     }
-    lacks(
+    grid_lacks_block(
         table,
         row.group * sizes.groups_per_row + column.group,
         column.inner,
@@ -127,8 +131,8 @@ fn some_not_held(frame: Frame, sizes: GroupSizes, blocks: Blocks, table: &[u32])
     requires { ⌜ TableOf frame sizes (now table) × Measured blocks ⌝ }
     ensures { λ r. ⌜ r ≡ someNotHeld frame blocks (now (table .entry)) ⌝ }
 {
-    let across = sigma_blocks::blocks_along(blocks.width);
-    let down = sigma_blocks::blocks_along(blocks.height);
+    let across = blocks_along(blocks.width);
+    let down = blocks_along(blocks.height);
     let mut y = 0;
     while y < down {
         if row_not_held(frame, sizes, table, blocks.left, blocks.top + y, across) {
@@ -220,7 +224,7 @@ pub fn check(
     if answer.number == refusals::OUT_OF_LIMITS {
         return refusals::OUT_OF_LIMITS;
     }
-    if sigma_blocks::bad_blocks(blocks) {
+    if bad_blocks(blocks) {
         return refusals::OUT_OF_LIMITS;
     }
     if answer.number == refusals::ACCEPTED {

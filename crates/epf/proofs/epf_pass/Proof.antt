@@ -65,6 +65,6 @@ epf-pass-spec = tie.close
     (λ c κs. search needs)
     (λ c κs. let d = c .before .before .before .before in let f = fits d in let g = held (d .before .before .before .before) .fits in
     let step = ap (λ (z : Step). z .step) (c .before .before .before .step-of .ensures) in
-    (band-fits 3 _ _ _ _ _ _ _ (omega arith) g f, record { layout = g; planes = omega arith; set = f .target; sigmas = f .blocks; low = omega (arith, f .low, step); place = c .clamp-to-zero .ensures .1 }))
+    (band-fits 3 _ _ _ _ _ _ _ (omega arith) g f, record { layout = g; planes-le = omega arith; set = f .target; sigmas = f .blocks; step-lt = omega (arith, f .step-le, step); top-le = c .clamp-to-zero .ensures .1 }))
     (λ c. search needs)
     returns-3)

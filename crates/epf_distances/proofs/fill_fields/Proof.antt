@@ -7,7 +7,7 @@ use denote.Ref.{now}
 use lib.ListN.{length}
 use Rattle.epf_step.specs.Steps.{scaled}
 use Rattle.epf_distances.specs.Taps.{half, shift}
-use Rattle.epf_distances.proofs.Taps.{half-few, shift-far}
+use Rattle.epf_distances.proofs.Taps.{half-le, shift-bounds}
 use Rattle.epf_distances.specs.Fields.{fieldsFill}
 use Rattle.epf_distances.proofs.Fields.{field-turn, field-end}
 use Rattle.epf_distances.proofs.fill_fields.Statement.{statement}
@@ -25,12 +25,12 @@ loop-holds c = (omega arith, refl, refl)
 
 -- in an iteration: the field is one of six, and the indices that it compares lie at most 128 apart
 record Among (h k : ℕ) : Type 0 where
-  pub few : h < 6
-  pub least : 1 ≤ k
-  pub most : k ≤ 128
+  pub field-lt : h < 6
+  pub shift-pos : 1 ≤ k
+  pub shift-le : k ≤ 128
 
 among : (step count h k : ℕ) → count ≡ half step → h < count → k ≡ shift step h → Among h k
-among step count h k e l p = record { few = omega (arith, half-few step); least = omega (arith, shift-far step h); most = omega (arith, shift-far step h) }
+among step count h k e l p = record { field-lt = omega (arith, half-le step); shift-pos = omega (arith, shift-bounds step h); shift-le = omega (arith, shift-bounds step h) }
 
 module _ (c : tie.After-shift Inv-loop μ-loop) where
   here : Among (c .before .before .loop .h) (c .shift .result)
@@ -54,11 +54,11 @@ fill-fields-spec = tie.close
     loop-holds
     (λ c κs. search needs)
     (λ c. omega (arith, here c))
-    (λ c. omega (arith, here (c .before)))
-    (λ c. omega (arith, here (c .before)))
-    (λ c. omega (arith, here (c .before .before)))
-    (λ c. omega (arith, here (c .before .before)))
-    (λ c. omega (arith, here (c .before .before)))
+    (λ c. omega (arith, here c))
+    (λ c. omega (arith, here c))
+    (λ c. omega (arith, here c))
+    (λ c. omega (arith, here c))
+    (λ c. omega (arith, here c))
     (λ c κs. omega (arith, here (c .before .before)))
     (λ c. omega arith)
     (λ c. omega arith)

@@ -54,7 +54,7 @@ rows-of-spec = tie.close
     (λ c. let p = start (c .before .before) .pre in omega (arith, c .before .before .loop-test .taken, p .1 .down, p .1 .layout .high, p .1 .layout .down))
     (λ c κs. search needs)
     (λ c κs. let d = c .before .before .before .before in let p = start d .pre in let r = room d in
-    (r .some, r .narrow, omega (arith, first-small _ _ (c .before .first-slope .ensures), p .3), omega (arith, d .before .loop .inv .1, p .2), omega (arith, r .room, p .2)))
+    (r .stride-pos, r .cols-le, omega (arith, first-small _ _ (c .before .first-slope .ensures), p .3), omega (arith, d .before .loop .inv .1, p .2), omega (arith, r .end-le, p .2)))
     (λ c. omega arith)
     (λ c. omega arith)
     loop-again

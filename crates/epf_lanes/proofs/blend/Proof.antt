@@ -7,7 +7,7 @@ use denote.Ref.{now}
 use lib.ListN.{length}
 use Rattle.planes.specs.Fill.{fill}
 use Rattle.epf_step.specs.Steps.{kernel}
-use Rattle.epf_distances.proofs.Taps.{kernel-few}
+use Rattle.epf_distances.proofs.Taps.{kernel-bounds}
 use Rattle.epf_lanes.specs.Lanes.{storedTo}
 use Rattle.epf_lanes.proofs.Lanes.{stored-none, stored-four, stored-end}
 use Rattle.epf_lanes.proofs.blend.Statement.{statement}
@@ -29,10 +29,10 @@ module _ (c : tie.In-loop Inv-loop μ-loop) where
 
   -- there are four more neighbours
   more : at .loop .q + 4 ≤ length (kernel (start .args .step))
-  more = omega (arith, c .loop-test .taken, at .loop .inv .0, at .loop .inv .1, c .before .before .kernel-len .ensures, kernel-few (start .args .step))
+  more = omega (arith, c .loop-test .taken, at .loop .inv .0, at .loop .inv .1, c .before .before .kernel-len .ensures, kernel-bounds (start .args .step))
 
   few : at .loop .q + 4 ≤ 12
-  few = omega (arith, more, kernel-few (start .args .step) .0)
+  few = omega (arith, more, kernel-bounds (start .args .step) .0)
 
   long : start .args .at + 56 ≤ length (at .loop .out)
   long = omega (arith, start .pre .0, c .before .before .before .before .before .centre .kept .0, at .loop .inv .2)

@@ -9,7 +9,7 @@ use Rattle.planes.specs.Rect.{planesFill}
 use Rattle.epf_slopes.specs.Slopes.{firstSlope}
 use Rattle.epf_slopes.proofs.Slopes.{first-same, first-small}
 use Rattle.epf_lanes.specs.Lanes.{laneOf}
-use Rattle.epf_lanes.proofs.Lanes.{row-next, rows-done, rows-end}
+use Rattle.epf_lanes.proofs.Lanes.{row-lanes, row-next, rows-done, rows-end}
 use Rattle.epf_lanes.proofs.filter_rows.Statement.{statement}
 use Rattle.epf_lanes.proofs.filter_rows.Tie as tie
 
@@ -23,13 +23,15 @@ abbrev μ-loop : tie.MeasureT-loop
 
 loop-again : tie.Need-loop-again Inv-loop μ-loop
 loop-again c =
-    let l = c .before .before .before .before .before .before .before .before in let s = l .before .before in let f = c .before .before .filter-row in (
+    let f = c .before .before .before .before .before .before .before .before .before in let l = f .before .before in let s = l .before .before in
+    let w = c .before .before .before .before .before .before .weigh-all .ensures .0 in let b = c .before .before .blend-planes in (
       omega arith,
-      f .kept .0 ∙ l .loop .inv .1,
-      f .ensures .1,
-      f .ensures .2,
+      b .kept .0 ∙ l .loop .inv .1,
+      w .weights-length,
+      w .sum-length,
       row-next (λ (c : ℕ) (i : ℕ) (r : ℕ). laneOf (s .args .step) (now (s .args .fields)) (now (s .args .slopes)) (now (s .args .win)) (firstSlope (s .args .top + r)) c i r) _ _ _ (s .args .planes) (l .loop .r) (omega arith) (omega arith) (s .pre .0) (l .loop .inv .4)
-          (rw (← (first-same _ (s .args .top) (l .loop .r) (c .before .before .before .before .before .before .first-slope .ensures))) (f .ensures .0)),
+          (rw (← (first-same _ (s .args .top) (l .loop .r) (f .first-slope .ensures)))
+          (row-lanes (s .args .step) (now (s .args .fields)) (now (s .args .slopes)) (now (s .args .win)) _ _ _ _ (f .first-slope .result) (l .loop .r) (s .args .planes) w (b .ensures))),
     )
 
 pub filter-rows-spec : {M : Type 1} → statement M
@@ -40,7 +42,8 @@ filter-rows-spec = tie.close
     (λ c. (omega arith, refl, refl, refl, rows-done _ _ _))
     (λ c. omega arith)
     (λ c κs. search needs)
-    (λ c κs. let l = c .before .before .before .before .before in let inv = l .loop .inv in omega (arith, inv, l .before .before .pre, first-small _ _ (c .before .before .before .first-slope .ensures)))
+    (λ c κs. let f = c .before .before in omega (arith, f .before .before .loop .inv, f .before .before .before .before .pre, first-small _ _ (f .first-slope .ensures)))
+    (λ c κs. let l = c .before .before .before .before .before .before .before .before in omega (arith, l .loop .inv, l .before .before .pre))
     (λ c. omega arith)
     (λ c. omega arith)
     loop-again

@@ -17,4 +17,4 @@ samples-at-spec = tie.close
     (tie.spec
     (λ c κs. search needs)
     (λ c. omega (arith, room (c .before)))
-    (λ c. (ap (λ (t : Tap). c .before .before .args .base + t .place) (c .before .neighbour .ensures), omega (arith, room (c .before)))))
+    (λ c. (ap (λ (t : Tap). c .before .before .args .base + t .index) (c .before .neighbour .ensures), omega (arith, room (c .before)))))

@@ -6,7 +6,7 @@ use borrow.Author.Needs.{needs}
 use denote.Ref.{now}
 use lib.ListN.{length}
 use Rattle.epf_step.specs.Steps.{kernel}
-use Rattle.epf_distances.proofs.Taps.{kernel-few, TapRoom, tap-room}
+use Rattle.epf_distances.proofs.Taps.{kernel-bounds, TapRoom, tap-room}
 use Rattle.epf_lanes.specs.Lanes.{weightOf, Weighed}
 use Rattle.epf_lanes.proofs.Lanes.{weighed-none, weighed-more}
 use Rattle.epf_lanes.proofs.Divisors.{all-weighed}
@@ -28,7 +28,7 @@ module _ (c : tie.After-neighbour Inv-loop μ-loop) where
   room = tap-room (start .args .step) (c .before .before .loop .q) (c .neighbour .result) (omega (arith, c .before .before .before .kernel-len .ensures, c .before .loop-test .taken)) (c .neighbour .ensures)
 
   few : c .before .before .loop .q < 12
-  few = omega (arith, c .before .before .before .kernel-len .ensures, c .before .loop-test .taken, kernel-few (start .args .step) .0)
+  few = omega (arith, c .before .before .before .kernel-len .ensures, c .before .loop-test .taken, kernel-bounds (start .args .step) .0)
 
 loop-again : tie.Need-loop-again Inv-loop μ-loop
 unfolding weightOf

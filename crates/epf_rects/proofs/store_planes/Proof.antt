@@ -33,7 +33,7 @@ module _ (c : tie.In-loop Inv-loop μ-loop) where
   source r h = start .pre .1 (c .before .loop .c) r (c .loop-test .taken) h
 
   first : start .args .from + c .before .loop .c * start .args .plane ≤ length (now (start .args .src))
-  first = omega (arith, source 0 (start .pre .0 .some))
+  first = omega (arith, source 0 (start .pre .0 .rows-pos))
 
 loop-again : tie.Need-loop-again Inv-loop μ-loop
 loop-again c =
@@ -55,7 +55,7 @@ store-planes-spec = tie.close
     (λ c. omega (arith, room c, start c .pre .0 .across, start c .pre .0 .layout))
     (λ c. omega (arith, first (c .before)))
     (λ c. omega (arith, first (c .before)))
-    (λ c κs. let d = c .before in ((λ r h. omega (arith, room d .rooms r h, d .before .loop .inv .1)), (λ r h. source d r h)))
+    (λ c κs. let d = c .before in ((λ r h. omega (arith, room d .rows-fit r h, d .before .loop .inv .1)), (λ r h. source d r h)))
     (λ c. omega arith)
     (λ c. omega arith)
     loop-again

@@ -1,6 +1,5 @@
 -- `epf_rects::store_tile` meets its contract. If a test fails, `dst` is unchanged. Assumes nothing.
 use mathlib.Core.Path.{sym, _∙_}
-use native.Mathlib.Omega.{arith}
 use borrow.Author.Needs.{needs}
 use borrow.Author.Tests.{not-true, not-false}
 use denote.Ref.{now}
@@ -26,6 +25,6 @@ store-tile-spec = tie.close
     (λ c. no-tile _ _ _ _ _ (c .if2 .taken))
     (λ c. many-rows _ _ _ _ _ (c .if3 .taken))
     (λ c. many-columns _ _ _ _ _ (c .if4 .taken))
-    (λ c κs. let d = c .before in let s = start d .args in (fits d, tile-lies (s .l) (s .n) (s .rect) (now (s .tile)) (now (s .dst)) (fits d .planes) (d .before .before .before .before .if2 .left) (d .before .before .if3 .left) (d .if4 .left)))
+    (λ c κs. let d = c .before in let s = start d .args in (fits d, tile-lies (s .l) (s .n) (s .rect) (now (s .tile)) (now (s .dst)) (fits d .planes-le) (d .before .before .before .before .if2 .left) (d .before .before .if3 .left) (d .if4 .left)))
     (λ c. search needs)
     (λ c. let d = c .before .before .before .before in let s = start d .args in c .before .before .store-planes .ensures ∙ sym (tile-stored (s .l) (s .n) (s .rect) (now (s .tile)) (now (s .dst)) (fits d) (d .before .before .before .before .if2 .left) (d .before .before .if3 .left) (d .if4 .left))))

@@ -8,7 +8,7 @@ use Rattle.gabor_kernel.proofs.solo2.Tie as tie
 
 returns : tie.Need-returns
 unfolding gaborBy alone evaluate formula nine pick
-returns c = rw (c .before .solo-centre .ensures, c .solo-side .ensures)
+returns c = rw (c .before .before .solo-centre .ensures, c .before .solo-side .ensures)
 
 pub solo2-spec : {M : Type 1} → statement M
 solo2-spec = tie.close (tie.spec (λ c κs. search needs) (λ c κs. search needs) returns)

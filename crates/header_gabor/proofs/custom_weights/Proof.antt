@@ -2,7 +2,7 @@
 use borrow.Author.Needs.{needs}
 use mathlib.Core.Path.{_∙_}
 use Rattle.header_fields.specs.Fields.{read}
-use Rattle.header_gabor_channel.specs.Channel.{channelOutcome}
+use Rattle.header_gabor.specs.Channel.{channelOutcome}
 use Rattle.header_gabor.specs.Gabor.{channelsFields}
 use Rattle.header_fields.proofs.Rows.{answer-is, read-nested}
 use Rattle.header_gabor.proofs.custom_weights.Statement.{statement}

@@ -1,10 +1,8 @@
 -- `bounds_fit` meets its contract. Assumes nothing.
-use mathlib.Core.Path.{_≡_, refl, sym, ap, _∙_}
-use mathlib.Core.Bool.{true, false}
+use mathlib.Core.Path.{_≡_, sym, _∙_}
 use Prim.Native.Nat.{ℕ}
-use native.Mathlib.Omega.{arith}
 use borrow.Author.Needs.{needs}
-use Rattle.region_interval.proofs.Flags.{not-true, not-false, yes}
+use Rattle.region_interval.proofs.Flags.{not-true, not-false}
 use Rattle.region.proofs.Laws.{bounds-axes}
 use Rattle.region.proofs.bounds_fit.Statement.{statement}
 use Rattle.region.proofs.bounds_fit.Tie as tie

@@ -1,8 +1,6 @@
 -- `holds` meets its contract. Assumes nothing.
-use mathlib.Core.Path.{_≡_, refl, sym, ap, _∙_}
-use mathlib.Core.Bool.{true, false}
+use mathlib.Core.Path.{_≡_, sym, _∙_}
 use borrow.Author.Needs.{needs}
-use Rattle.region.specs.Regions.{isEmpty}
 use Rattle.region.proofs.holds.Statement.{statement}
 use Rattle.region.proofs.holds.Tie as tie
 

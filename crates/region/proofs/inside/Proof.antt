@@ -1,10 +1,8 @@
 -- `inside` meets its contract. Assumes nothing.
-use mathlib.Core.Path.{_≡_, refl, sym, ap, _∙_}
-use mathlib.Core.Bool.{true, false}
+use mathlib.Core.Path.{_≡_, sym, _∙_}
 use Prim.Native.Nat.{ℕ}
-use native.Mathlib.Omega.{arith}
 use borrow.Author.Needs.{needs}
-use Rattle.region_interval.proofs.Flags.{not-true, not-false, yes}
+use Rattle.region_interval.proofs.Flags.{not-true, not-false}
 use Rattle.region.specs.Regions.{inside}
 use Rattle.region.proofs.inside.Statement.{statement}
 use Rattle.region.proofs.inside.Tie as tie

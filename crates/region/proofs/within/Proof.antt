@@ -1,5 +1,5 @@
 -- `within` meets its contract. Assumes nothing.
-use mathlib.Core.Path.{_≡_, ap, _∙_}
+use mathlib.Core.Path.{_≡_, _∙_}
 use borrow.Author.Needs.{needs}
 use Rattle.region_axis.proofs.Laws.{axis-ok}
 use Rattle.region.proofs.within.Statement.{statement}

@@ -1,16 +1,14 @@
 -- `check_made` meets its contract. Assumes nothing.
-use mathlib.Core.Path.{_≡_, refl, sym, ap, _∙_}
-use mathlib.Core.Bool.{true, false}
+use mathlib.Core.Path.{_≡_, sym, _∙_}
+use mathlib.Core.Bool.{true}
 use Prim.Native.Nat.{ℕ}
-use native.Mathlib.Omega.{arith}
 use borrow.Author.Needs.{needs}
-use Rattle.region_interval.proofs.Flags.{not-true, not-false, yes}
+use Rattle.region_interval.proofs.Flags.{not-true, not-false}
 use mir.Syntax.{w32}
 use mir.Facts.{toZ-ofZ}
 use Rattle.region_axis.specs.Measures.{spanFits}
 use Rattle.region_axis.proofs.Laws.{axis-ok, axis-yes}
 use Rattle.region_arithmetic.specs.Answers.{regionAnswer, regionNumber}
-use Rattle.region.specs.Measures.{boundsFit}
 use Rattle.region.proofs.Laws.{bounds-spans}
 use Rattle.region.specs.Regions.{regionOf}
 use Rattle.region_arithmetic.proofs.check_made.Statement.{statement}

@@ -1,12 +1,10 @@
 -- `common` meets its contract. Assumes nothing.
-use mathlib.Core.Path.{_≡_, refl, sym, ap, _∙_}
-use mathlib.Core.Bool.{true, false}
+use mathlib.Core.Path.{_≡_, sym, ap, _∙_}
 use Prim.Native.Nat.{ℕ}
-use native.Mathlib.Omega.{arith}
 use borrow.Author.Needs.{needs}
 use mir.Facts.{toZ-ofZ}
-use Rattle.region_interval.proofs.Flags.{not-true, not-false, yes, true-of}
-use Rattle.region_overlap.specs.Overlap.{vacant, meet}
+use Rattle.region_interval.proofs.Flags.{true-of}
+use Rattle.region_interval.specs.Overlap.{vacant, meet}
 use Rattle.region.proofs.Answers.{given-holds}
 use Rattle.region_arithmetic.specs.Answers.{regionAnswer, regionNumber}
 use Rattle.region.specs.Measures.{boundsFit}

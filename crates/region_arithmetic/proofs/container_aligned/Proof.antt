@@ -1,17 +1,16 @@
 -- `container_aligned` meets its contract. Assumes nothing.
-use mathlib.Core.Path.{_≡_, refl, sym, ap, _∙_}
-use mathlib.Core.Bool.{true, false}
+use mathlib.Core.Path.{_≡_, sym, ap, _∙_}
+use mathlib.Core.Bool.{true}
 use Prim.Native.Nat.{ℕ, min}
 use native.Mathlib.Omega.{arith}
 use borrow.Author.Needs.{needs}
-use Rattle.region_interval.proofs.Flags.{not-true, not-false, yes}
+use Rattle.region_interval.proofs.Flags.{not-true, not-false}
 use lib.Count.{trailingZeros}
 use mir.Facts.{toZ-ofZ}
 use Rattle.region_arithmetic.specs.Answers.{regionAnswer, isAlignment}
 use Rattle.region_arithmetic.proofs.Answers.{setting-given, setting-fails, setting-checked}
 use Rattle.region_interval.proofs.Powers.{power-found}
 use Rattle.region_arithmetic.specs.Arithmetic.{alignedTo}
-use Rattle.region.specs.Measures.{boundsFit}
 use Rattle.region_arithmetic.proofs.container_aligned.Statement.{statement}
 use Rattle.region_arithmetic.proofs.container_aligned.Tie as tie
 

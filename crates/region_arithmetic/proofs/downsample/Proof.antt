@@ -1,16 +1,14 @@
 -- `downsample` meets its contract. Assumes nothing.
-use mathlib.Core.Path.{_≡_, refl, sym, ap, _∙_}
-use mathlib.Core.Bool.{true, false}
+use mathlib.Core.Path.{_≡_, sym, ap, _∙_}
 use Prim.Native.Nat.{ℕ, min}
 use native.Mathlib.Omega.{arith}
 use borrow.Author.Needs.{needs}
-use Rattle.region_interval.proofs.Flags.{not-true, not-false, yes}
+use Rattle.region_interval.proofs.Flags.{not-true, not-false}
 use borrow.Author.Tests.{lt-leb, le-leb}
 use mir.Facts.{toZ-ofZ}
 use Rattle.region_arithmetic.specs.Answers.{regionAnswer, isFactor}
 use Rattle.region_arithmetic.proofs.Answers.{setting-given, setting-fails, setting-checked}
 use Rattle.region_arithmetic.specs.Arithmetic.{downsampled, shrunkBy}
-use Rattle.region.specs.Measures.{boundsFit}
 use Rattle.region_arithmetic.proofs.downsample.Statement.{statement}
 use Rattle.region_arithmetic.proofs.downsample.Tie as tie
 

@@ -1,8 +1,6 @@
 -- `corner_fits` meets its contract. Assumes nothing.
-use mathlib.Core.Path.{sym, _∙_}
-use mathlib.Core.Bool.{true, false}
+use mathlib.Core.Path.{_∙_}
 use lib.IntN.{ℤ, negsuc}
-use lib.Signed.{ltZ, leZ}
 use mir.Facts.{toZ-ofZ}
 use Rattle.region_axis.specs.Measures.{cornerFits}
 use Rattle.region_interval.proofs.Order.{lt-not-le, not-lt-le}

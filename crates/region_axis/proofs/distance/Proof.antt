@@ -1,14 +1,14 @@
 -- `distance` meets its contract. Assumes nothing.
-use mathlib.Core.Path.{_≡_, refl, sym, _∙_}
-use mathlib.Core.Bool.{Bool, true, false}
+use mathlib.Core.Path.{_≡_, refl, _∙_}
+use mathlib.Core.Bool.{Bool, true}
 use native.Mathlib.Omega.{arith}
 use lib.Dec.{T}
 use lib.IntN.{ℤ, natAbs, _-ℤ_, negℤ}
-use lib.Signed.{leZ, nonNeg, mag, natAbs-le}
+use lib.Signed.{nonNeg, mag, natAbs-le}
 use mir.Syntax.{w64}
 use mir.Val.{SFits, Fits}
 use mir.Facts.{toZ-ofZ}
-use Rattle.region_interval.proofs.Order.{le-to, not-le, not-negative-difference, not-negative, size-is, same-size, mag-add, mag-neg, above, below}
+use Rattle.region_interval.proofs.Order.{le-to, not-le, not-negative-difference, not-negative, same-size, mag-add, mag-neg, above, below}
 use Rattle.region_axis.proofs.distance.Statement.{statement}
 use Rattle.region_axis.proofs.distance.Tie as tie
 use Prim.Native.Nat.{_<_, _≤_, _+_}

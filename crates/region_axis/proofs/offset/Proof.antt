@@ -1,9 +1,8 @@
 -- `offset` meets its contract: two i32 values are less than 2^32 apart. Assumes nothing.
-use mathlib.Core.Path.{_≡_, refl, sym, ap, _∙_}
+use mathlib.Core.Path.{_≡_, _∙_}
 use mathlib.Core.Logic.{⊎-elim}
 use Prim.Native.Nat.{_+_, _<_, _≤_}
 use native.Mathlib.Omega.{arith}
-use borrow.Author.Needs.{needs}
 use lib.IntN.{ℤ, natAbs, _-ℤ_}
 use lib.Signed.{mag}
 use mir.Facts.{toZ-ofZ}

@@ -1,7 +1,7 @@
 -- `negated` meets its contract. Assumes nothing.
 use mathlib.Core.Path.{refl}
 use native.Mathlib.Omega.{arith}
-use lib.IntN.{pos, negℤ, +ℤ-idl}
+use lib.IntN.{negℤ, +ℤ-idl}
 use mir.Syntax.{w64}
 use mir.Val.{SFits}
 use mir.Facts.{toZ-ofZ}

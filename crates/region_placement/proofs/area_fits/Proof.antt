@@ -1,9 +1,7 @@
 -- `area_fits` meets its contract. Assumes nothing.
-use mathlib.Core.Path.{_≡_, refl, sym, ap, _∙_}
-use mathlib.Core.Bool.{true, false}
+use mathlib.Core.Path.{_≡_, _∙_}
 use Prim.Native.Nat.{ℕ, _*_, _<_, _≤_}
 use native.Mathlib.Omega.{arith}
-use borrow.Author.Needs.{needs}
 use native.Mathlib.Nat.{mul-le-mul-left, mul-le-mul-right}
 use borrow.Author.Tests.{lt-leb, le-leb}
 use Rattle.region_placement.proofs.area_fits.Statement.{statement}

@@ -1,11 +1,9 @@
 -- `picture_fits` meets its contract. Assumes nothing.
-use mathlib.Core.Path.{_≡_, refl, sym, ap, _∙_}
-use mathlib.Core.Bool.{true, false}
+use mathlib.Core.Path.{_≡_, sym, _∙_}
 use Prim.Native.Nat.{ℕ}
-use native.Mathlib.Omega.{arith}
 use borrow.Author.Needs.{needs}
-use Rattle.region_interval.proofs.Flags.{not-true, not-false, yes}
-use Rattle.region.specs.Measures.{boundsFit, pictureFits}
+use Rattle.region_interval.proofs.Flags.{not-true, not-false}
+use Rattle.region.specs.Measures.{pictureFits}
 use Rattle.region_placement.proofs.picture_fits.Statement.{statement}
 use Rattle.region_placement.proofs.picture_fits.Tie as tie
 

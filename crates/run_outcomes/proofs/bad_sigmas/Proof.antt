@@ -14,8 +14,8 @@ mul-result c =
     let d = c .before .blocks-along .result in
     let a = c .blocks-along2 .result in
     let s = size-sides (c .before .before .before .before .before .before .before .before .args .s .filter) (sym (c .before .before .before .size-fits .ensures) ∙ not-false _ (c .before .before .if3 .left)) in
-    let e : d ≤ 2048 = omega (arith, c .before .blocks-along .ensures, s .high) in
-    let f : a ≤ 2048 = omega (arith, c .blocks-along2 .ensures, s .wide) in
+    let e : d ≤ 2048 = omega (arith, c .before .blocks-along .ensures, s .height-le) in
+    let f : a ≤ 2048 = omega (arith, c .blocks-along2 .ensures, s .width-le) in
     let m : d * a ≤ 2048 * 2048 = mul-le-mul e f in
     record { fits = omega arith }
 

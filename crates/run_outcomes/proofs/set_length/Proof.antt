@@ -11,8 +11,8 @@ mul-result-2 : tie.Need-mul-result-2
 mul-result-2 c =
     let r = c .before .before .args .r in
     let s = size-sides r (c .before .before .pre) in
-    let a : 3 * r .height ≤ 3 * 16384 = omega (arith, s .high) in
-    let m : 3 * r .height * r .width ≤ 3 * 16384 * 16384 = mul-le-mul a (s .wide) in
+    let a : 3 * r .height ≤ 3 * 16384 = omega (arith, s .height-le) in
+    let m : 3 * r .height * r .width ≤ 3 * 16384 * 16384 = mul-le-mul a (s .width-le) in
     record { fits = omega arith }
 
 pub set-length-spec : {M : Type 1} → statement M

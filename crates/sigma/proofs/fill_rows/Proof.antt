@@ -8,8 +8,8 @@ use native.Mathlib.Omega.{arith}
 use denote.Ref.{now}
 use lib.ListN.{length}
 use Rattle.planes.specs.Fill.{fill}
-use Rattle.sigma_blocks.specs.Measures.{blocksAcross, blocksDown}
-use Rattle.sigma_blocks.proofs.Laws.{down-le}
+use Rattle.sigma_groups.specs.Measures.{blocksAcross, blocksDown}
+use Rattle.sigma_groups.proofs.Measured.{down-le}
 use Rattle.sigma.proofs.Runs.{flatSigma, row-fits, rows-turn, rows-end}
 use Rattle.sigma.proofs.fill_rows.Statement.{statement}
 use Rattle.sigma.proofs.fill_rows.Tie as tie
@@ -65,7 +65,7 @@ loop-again c =
     let inv = d .before .loop .inv in (
       omega (arith, d .loop-test .taken),
       omega (arith, inv .1, suc-mul (d .before .loop .y) (n d), ap (λ (k : ℕ). k * n d) (add-one (d .before .loop .y))),
-      e .fill-row .kept .1 .1 .1 .1 .1 .1 .1 .1 .0 ∙ inv .2,
+      e .fill-row .kept .1 .1 .1 .1 .1 .1 .0 ∙ inv .2,
       rows-turn (s .args .frame) (s .args .blocks) (now (s .args .table)) (now (s .args .grids)) (s .args .modular) (now (s .args .sigmas)) _ _ (n d) (d .before .loop .y) _ (n-is d) (inv .1) (omega (arith, room d)) (inv .3) (e .fill-row .ensures),
     )
 

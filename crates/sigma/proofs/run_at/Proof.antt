@@ -65,8 +65,8 @@ returns c =
       group-is = number-is (s .args .frame) (s .args .sizes) _ _ _ _ (s .pre .0 .1) (row-group d) (column-group d);
       column-is = column-inner d;
       row-is = row-inner d;
-      some = omega (arith, c .min-u32 .ensures, inner-in d, s .pre .0 .2);
-      within = omega (arith, c .min-u32 .ensures);
+      n-pos = omega (arith, c .min-u32 .ensures, inner-in d, s .pre .0 .2);
+      n-le = omega (arith, c .min-u32 .ensures);
       one-group = omega (arith, c .min-u32 .ensures, inner-in d, dim-is d);
     }
 

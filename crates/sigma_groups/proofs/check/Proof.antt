@@ -10,10 +10,10 @@ use Rattle.refusals.specs.Numbers.{accepted, outOfLimits, outOfRange}
 use Rattle.frame.specs.declared.Frame.{Frame}
 use Rattle.frame.specs.declared.FrameAnswer.{FrameAnswer}
 use Rattle.frame.proofs.Laws.{frame-sizes}
-use Rattle.sigma_blocks.specs.declared.Blocks.{Blocks}
+use Rattle.sigma_groups.specs.declared.blocks.Blocks.{Blocks}
 use Rattle.frame.specs.Outcome.{badSides, badSettings}
-use Rattle.sigma_blocks.specs.Measures.{badBlocks}
-use Rattle.sigma_blocks.proofs.Laws.{boundsFit}
+use Rattle.sigma_groups.specs.Measures.{badBlocks}
+use Rattle.sigma_groups.proofs.Measured.{boundsFit}
 use Rattle.sigma_groups.proofs.Laws.{sides-bad, sides-fit, settings-bad, settings-fit}
 use Rattle.sigma_groups.proofs.Number as number
 use Rattle.sigma_groups.proofs.check.Statement.{statement}

@@ -15,15 +15,15 @@ use Rattle.frame.specs.declared.Frame.{Frame}
 use Rattle.frame.specs.declared.GroupSizes.{GroupSizes}
 use Rattle.frame.specs.Sizes.{sizesOf}
 use Rattle.frame.proofs.Laws.{fitting-sound, sizes-bounded}
-use Rattle.sigma_blocks.specs.declared.Blocks.{Blocks}
+use Rattle.sigma_groups.specs.declared.blocks.Blocks.{Blocks}
 use Rattle.sigma_grids.specs.declared.StartAnswer.{StartAnswer}
 use Rattle.sigma_grids.proofs.Laws.{start-inside, refused-bad, passed-good}
 use Rattle.sigma_grids.specs.Table.{someBelow, badGrid, badPresence, gridStart}
 use Rattle.sigma_groups.specs.Held.{someNotHeld}
 use Rattle.sigma_groups.specs.Outcome.{tableFits, someGroup, gridsFit}
 use Rattle.sigma_groups.specs.Fitting.{TableOf}
-use Rattle.sigma_blocks.specs.Measured.{Measured}
-use Rattle.sigma_blocks.proofs.Laws.{boundsFit}
+use Rattle.sigma_groups.specs.Measured.{Measured}
+use Rattle.sigma_groups.proofs.Measured.{boundsFit}
 use Rattle.sigma_groups.proofs.Number as number
 use Rattle.sigma_groups.proofs.check_table.Statement.{statement}
 use Rattle.sigma_groups.proofs.check_table.Tie as tie
@@ -92,22 +92,22 @@ module _ (c : tie.After-grid-start) where
   groups2 : start2 .args .sizes .«num_groups» ≡ sizesOf (f start2) .«num_groups»
   groups2 = ap (λ (g : GroupSizes). g .«num_groups») (start2 .pre .sizes-are)
 
-  short2 : length (t start2) ≤ 768
-  short2 = omega (arith, c .before .if1 .left, groups-le (c .before .before))
+  table-le2 : length (t start2) ≤ 768
+  table-le2 = omega (arith, c .before .if1 .left, groups-le (c .before .before))
 
   room2 : 3 * start2 .args .sizes .«num_groups» ≤ length (t start2)
   room2 = omega (arith, entries-are (c .before), groups2)
 
   grids-bad : c .grid-start .result .number ≡ 4 → someGroup (f start2) (badGrid (t start2)) ≡ true
-  grids-bad r = rw (← groups2) (refused-bad (t start2) _ _ short2 room2 (c .grid-start .ensures) r)
+  grids-bad r = rw (← groups2) (refused-bad (t start2) _ _ table-le2 room2 (c .grid-start .ensures) r)
 
   module _ (r : c .grid-start .result .number ≡ 4 → ⊥) where
     grids-good : someBelow (start2 .args .sizes .«num_groups») (badGrid (t start2)) ≡ false
-    grids-good = passed-good (t start2) _ _ short2 room2 (c .grid-start .ensures) r
+    grids-good = passed-good (t start2) _ _ table-le2 room2 (c .grid-start .ensures) r
 
     end-is : c .grid-start .result .start ≡ gridStart (t start2) (sizesOf (f start2) .«num_groups»)
     end-is =
-        ap (λ (a : StartAnswer). a .start) (start-inside (t start2) _ _ short2 room2 (c .grid-start .ensures) grids-good)
+        ap (λ (a : StartAnswer). a .start) (start-inside (t start2) _ _ table-le2 room2 (c .grid-start .ensures) grids-good)
         ∙ ap (gridStart (t start2)) groups2
 
 module _ (c : tie.After-bad-grids) where

@@ -12,7 +12,7 @@ use Rattle.frame.specs.declared.Frame.{Frame}
 use Rattle.frame.specs.declared.GroupSizes.{GroupSizes}
 use Rattle.frame.specs.declared.SplitAnswer.{SplitAnswer}
 use Rattle.frame.specs.Outcome.{splitOutcome}
-use Rattle.sigma_grids.specs.Table.{lacks}
+use Rattle.sigma_grids.specs.Table.{gridLacksBlock}
 use Rattle.sigma_groups.specs.Held.{notHeld}
 use Rattle.sigma_groups.specs.Fitting.{TableOf}
 use Rattle.sigma_groups.proofs.Laws.{entry-lt, entries-le, split-group, split-inner}
@@ -37,7 +37,7 @@ module _ (f : Frame) (sizes : GroupSizes) (t : List ℕ) (h : TableOf f sizes t)
           le-leb (sizes .«groups_per_column») (row .group) l,
         )
 
-    in-frame : row .group < sizes .«groups_per_column» → lacks t (row .group * sizes .«groups_per_row» + column .group) (column .inner) (row .inner) ≡ notHeld f t bx by
+    in-frame : row .group < sizes .«groups_per_column» → gridLacksBlock t (row .group * sizes .«groups_per_row» + column .group) (column .inner) (row .inner) ≡ notHeld f t bx by
     unfolding notHeld
     in-frame l =
         rw (
@@ -74,7 +74,7 @@ returns-3 c =
     let r = c .before .before .before .before in
     let e = r .before .before .before in
     let d = e .before .before .before .before in
-    c .lacks .ensures ∙ in-frame _ _ _ (d .before .before .pre) _ _ _ (d .split-block .ensures) _ (e .split-block2 .ensures) (e .before .if1 .left) (r .if2 .left)
+    c .grid-lacks-block .ensures ∙ in-frame _ _ _ (d .before .before .pre) _ _ _ (d .split-block .ensures) _ (e .split-block2 .ensures) (e .before .if1 .left) (r .if2 .left)
 
 pub not-held-spec : {M : Type 1} → statement M
 not-held-spec =

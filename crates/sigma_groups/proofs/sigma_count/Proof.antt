@@ -5,8 +5,8 @@ use Prim.Native.Nat.{_*_, _≤_}
 use borrow.Author.Tests.{not-true, not-false}
 use borrow.Author.Needs.{needs}
 use native.Mathlib.Omega.{arith}
-use Rattle.sigma_blocks.specs.Measures.{blocksAcross, blocksDown}
-use Rattle.sigma_blocks.proofs.Laws.{count-le}
+use Rattle.sigma_groups.specs.Measures.{blocksAcross, blocksDown}
+use Rattle.sigma_groups.proofs.Measured.{count-le}
 use Rattle.sigma_groups.proofs.sigma_count.Statement.{statement}
 use Rattle.sigma_groups.proofs.sigma_count.Tie as tie
 

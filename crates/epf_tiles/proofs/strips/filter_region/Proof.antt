@@ -10,7 +10,8 @@ use lib.ListN.{length}
 use Rattle.planes.specs.Band.{setFits}
 use Rattle.planes.proofs.Room.{set-facts}
 use Rattle.epf_tiles.specs.Blocks.{blockColumns, blockRows}
-use Rattle.epf_tiles.specs.Region.{RegionFits}
+use Rattle.epf_tiles.specs.declared.Pass.{Pass}
+use Rattle.epf_tiles.specs.Region.{PassFits}
 use Rattle.epf_tiles.proofs.Region.{BlocksRoom, blocks-room, no-source, no-target, no-sigmas, no-step, no-top, no-order, no-rows, region-fits, region-done}
 use Rattle.epf_tiles.proofs.strips.filter_region.Statement.{statement}
 use Rattle.epf_tiles.proofs.strips.filter_region.Tie as tie
@@ -42,7 +43,10 @@ module _ (c : tie.Else7) where
   abbrev first : tie.Start
   first = start held
 
-  fits : RegionFits (first .args .l) (first .args .n) (first .args .s) (first .args .top) (length (now (first .args .dst))) (length (now (first .args .sigmas))) × (length (now (first .args .src)) ≡ length (now (first .args .dst)))
+  abbrev pass : Pass
+  pass = record { layout = first .args .l; planes = first .args .n; settings = first .args .s; top = first .args .top }
+
+  fits : PassFits pass (length (now (first .args .src))) (length (now (first .args .dst))) (length (now (first .args .sigmas)))
   fits = region-fits (first .args .n) (first .args .l) (first .args .s) (first .args .top) (first .args .from) (first .args .to) (now (first .args .sigmas)) (now (first .args .src)) (now (first .args .dst))
       (source held) (target held) (c .before .before .before .before .before .before .if3 .left ∙ counted (c .before .before .before .before .before .before .before)) (c .before .before .before .before .if4 .left) (c .before .before .before .if5 .left)
 
@@ -61,7 +65,7 @@ filter-region-spec = tie.close
     (λ c. no-top _ _ _ _ _ _ _ _ _ (c .if5 .taken))
     (λ c. no-order _ _ _ _ _ _ _ _ _ (c .if6 .taken))
     (λ c. no-rows _ _ _ _ _ _ _ _ _ (c .if7 .taken))
-    (λ c κs. let d = c .before in (fits d .0, fits d .1, omega (arith, d .before .before .if6 .left), d .if7 .left))
+    (λ c κs. let d = c .before in (fits d, (omega (arith, d .before .before .if6 .left), d .if7 .left)))
     (λ c. search needs)
     (λ c. let d = c .before .before .before .before in let s = first d .args in c .before .before .strips .ensures
-    ∙ sym (region-done (s .n) (s .l) (s .s) (s .top) (s .from) (s .to) (now (s .sigmas)) (now (s .src)) (now (s .dst)) (fits d .0) (fits d .1) (omega (arith, d .before .before .if6 .left)) (d .if7 .left))))
+    ∙ sym (region-done (s .n) (s .l) (s .s) (s .top) (s .from) (s .to) (now (s .sigmas)) (now (s .src)) (now (s .dst)) (fits d .region) (fits d .same) (omega (arith, d .before .before .if6 .left)) (d .if7 .left))))

@@ -5,20 +5,19 @@ use native.Mathlib.Omega.{arith}
 use borrow.Author.Needs.{needs}
 use denote.Ref.{now}
 use lib.ListN.{length}
-use Rattle.planes.specs.Rect.{planesFill}
-use Rattle.epf_tiles.specs.Tile.{Scratch, stepOver}
-use Rattle.epf_tiles.specs.Region.{StripFits}
-use Rattle.epf_tiles.proofs.Region.{rows-start, strip-fits, strip-below, region-long}
+use Rattle.epf_tiles.specs.Tile.{Scratch, passOver}
+use Rattle.epf_tiles.specs.Region.{StripFits, rowsStepped}
+use Rattle.epf_tiles.proofs.Region.{rows-start, strip-fits, strip-below, pass-long}
 use Rattle.epf_tiles.proofs.strips.strips.Statement.{statement}
 use Rattle.epf_tiles.proofs.strips.strips.Tie as tie
 
 abbrev Inv-loop : tie.InvT-loop
-Inv-loop dst₀ src l n s sigmas top from to win₀ fields₀ slopes₀ lanes₀ y₀ dst win fields slopes lanes y =
+Inv-loop dst₀ src pass sigmas from to win₀ fields₀ slopes₀ lanes₀ y₀ dst win fields slopes lanes y =
     (from ≤ y) × (y ≤ to) × (length dst ≡ length dst₀) × Scratch win fields slopes lanes
-    × (dst ≡ planesFill (l .image .width) (l .image .height) (l .left) (l .width) (l .top + from) (y - from) (λ (c : ℕ) (i : ℕ) (r : ℕ). stepOver n l s top sigmas src c i (from + r)) dst₀ n)
+    × (dst ≡ rowsStepped pass from (y - from) sigmas src dst₀)
 
 abbrev μ-loop : tie.MeasureT-loop
-μ-loop dst₀ src l n s sigmas top from to win₀ fields₀ slopes₀ lanes₀ y₀ dst win fields slopes lanes y = to - y
+μ-loop dst₀ src pass sigmas from to win₀ fields₀ slopes₀ lanes₀ y₀ dst win fields slopes lanes y = to - y
 
 -- in an iteration
 module _ (c : tie.After-min Inv-loop μ-loop) where
@@ -28,21 +27,22 @@ module _ (c : tie.After-min Inv-loop μ-loop) where
   abbrev at : tie.At-loop Inv-loop μ-loop
   at = c .before .before
 
-  fits : StripFits (start .args .l) (at .loop .y) (c .min .result)
-  fits = strip-fits (start .args .l) (at .loop .y) (start .args .to) _ (c .before .loop-test .taken) (start .pre .3) (c .min .ensures)
+  fits : StripFits (start .args .pass .layout) (at .loop .y) (c .min .result)
+  fits = strip-fits (start .args .pass .layout) (at .loop .y) (start .args .to) _ (c .before .loop-test .taken) (start .pre .1 .1) (c .min .ensures)
 
 loop-again : tie.Need-loop-again Inv-loop μ-loop
 loop-again c =
     let d = c .before .before .before .before .before .before .before .before .before in
     let s = start d in
     let a = s .args in
+    let f = s .pre .0 .region in
     let inv = at d .loop .inv in
     let t = c .before .before .before .strip in (
       omega (arith, inv .0),
       omega (arith, d .min .ensures),
       t .kept .0 ∙ inv .2,
       t .ensures .1,
-      strip-below (a .l) (a .n) (stepOver (a .n) (a .l) (a .s) (a .top) (now (a .sigmas)) (now (a .src))) _ _ _ (a .from) (at d .loop .y) _ (s .pre .0 .set) (s .pre .0 .layout) (inv .0) (fits d .inside) (inv .4) (t .ensures .0),
+      strip-below (a .pass .layout) (a .pass .planes) (passOver (a .pass) (now (a .sigmas)) (now (a .src))) _ _ _ (a .from) (at d .loop .y) _ (f .set) (f .layout) (inv .0) (fits d .inside) (inv .4) (t .ensures .0),
     )
 
 returns : tie.Need-returns Inv-loop μ-loop
@@ -56,14 +56,14 @@ strips-spec = tie.close
     (tie.spec
     Inv-loop
     μ-loop
-    (λ c. (omega arith, c .before .before .before .pre .2, refl, record { windows = refl; far = refl; steep = refl; tile = refl }, rows-start _ _ _ _ _ _ _ _ _))
+    (λ c. (omega arith, c .before .before .before .pre .1 .0, refl, record { win-length = refl; fields-length = refl; slopes-length = refl; lanes-length = refl }, rows-start _ _ _ _ _ _ _ _ _))
     (λ c. omega arith)
     (λ c. omega arith)
     (λ c κs. search needs)
-    (λ c. sym (c .before .before .before .before .before .before .before .loop .inv .3 .tile))
-    (λ c κs. let d = c .before .before .before .before .before in let s = start d in let inv = at d .loop .inv in (region-long (inv .2) (s .pre .0), omega (arith, inv .2, s .pre .1), fits d, inv .3))
-    (λ c. let d = c .before .before .before .before .before .before .before .before .before in omega (arith, fits d .inside, start d .pre .0 .layout))
-    (λ c. let d = c .before .before .before .before .before .before .before .before .before in omega (arith, fits d .some, d .min .ensures))
+    (λ c. sym (c .before .before .before .before .before .before .before .loop .inv .3 .lanes-length))
+    (λ c κs. let d = c .before .before .before .before .before in let s = start d in let inv = at d .loop .inv in (pass-long (inv .2) (s .pre .0), (fits d, inv .3)))
+    (λ c. let d = c .before .before .before .before .before .before .before .before .before in omega (arith, fits d .inside, start d .pre .0 .region .layout))
+    (λ c. let d = c .before .before .before .before .before .before .before .before .before in omega (arith, fits d .rows-pos, d .min .ensures))
     loop-again
     (λ c. c .before .loop .inv .2)
     returns)

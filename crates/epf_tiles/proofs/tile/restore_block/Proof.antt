@@ -15,4 +15,4 @@ restore-block-spec = tie.close
     (λ c. block-kept _ _ _ _ (c .before .copied .ensures) (not-true _ (c .if1 .taken)))
     (λ c κs. search needs)
     (λ c. search needs)
-    (λ c. let s = c .before .before .before .before .before .before .before .before in let a = s .args in block-copied _ _ _ _ _ (c .before .before .before .before .before .copied .ensures) (not-false _ (c .before .before .before .before .if1 .left)) (c .before .before .copy-rect .ensures ∙ rect-copied (a .l) (a .n) (a .rect) (now (a .src)) (now (a .dst)) (s .pre .0) (s .pre .1))))
+    (λ c. let s = c .before .before .before .before .before .before .before .before .before in let a = s .args in block-copied _ _ _ _ _ (c .before .before .before .before .before .before .copied .ensures) (not-false _ (c .before .before .before .before .before .if1 .left)) (c .before .before .copy-rect .ensures ∙ rect-copied (a .pass .layout) (a .pass .planes) (a .rect) (now (a .src)) (now (a .dst)) (s .pre .0) (s .pre .1))))

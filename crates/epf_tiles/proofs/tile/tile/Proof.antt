@@ -10,14 +10,13 @@ use Rattle.epf_tiles.proofs.tile.tile.Tie as tie
 -- after the first sigma
 module _ (c : tie.After-first-sigma) where
   abbrev start : tie.Start
-  start = c .before .before .before .before .before
+  start = c .before .before .before .before .before .before
 
 returns : tie.Need-returns
 returns c =
     let d = c .before .before .before .before .before .before .before in
-    let a = start d .args in
-    let p = start d .pre .0 in (
-      tile-copied (a .l) (a .n) (a .s) (a .top) (now (a .src)) (a .rect) (p .0) (now (a .dst)) (p .1) (p .2) (now (a .sigmas)) _
+    let a = start d .args in (
+      tile-copied (a .pass) (now (a .src)) (a .rect) (now (a .dst)) (start d .pre .0) (now (a .sigmas)) _
           (λ b h. rw (d .first-sigma .ensures) at (c .before .before .before .before .before .all-copied .ensures (c .before .before .before .before .if1 .taken) b (omega (arith, c .before .before .before .before .before .before .blocks-of .ensures)))) (c .before .before .copy-rect .ensures),
       start d .pre .1 .1,
     )
@@ -26,21 +25,20 @@ returns-2 : tie.Need-returns-2
 returns-2 c =
     let d = c .before .before .before .before .before .before .before .before .before .before .before .before .before .before .before .before .before in
     let a = start d .args in
-    let p = start d .pre .0 in
     let f = c .before .before .before .before .before .before .before .before .filter .ensures in
-    (tile-done (a .l) (a .n) (a .s) (a .top) (now (a .src)) (a .rect) (p .0) (now (a .dst)) (p .1) (p .2) (now (a .sigmas)) _ _ (f .0) (rw (d .first-sigma .ensures) at (c .before .before .restore .ensures)), f .1)
+    (tile-done (a .pass) (now (a .src)) (a .rect) (now (a .dst)) (start d .pre .0) (now (a .sigmas)) _ _ (f .0) (rw (d .first-sigma .ensures) at (c .before .before .restore .ensures)), f .1)
 
 pub tile-spec : {M : Type 1} → statement M
 tile-spec = tie.close
     (tie.spec
-    (λ c κs. let p = c .before .before .before .before .pre .0 in omega (arith, p .0 .across, p .0 .down, p .1 .layout .across, p .1 .layout .wide, p .1 .layout .down, p .1 .layout .high))
-    (λ c κs. omega (arith, start c .pre .0 .0 .wide))
+    (λ c κs. let p = c .before .before .before .before .before .pre .0 in omega (arith, p .tile .across, p .tile .down, p .room .layout .across, p .room .layout .wide, p .room .layout .down, p .room .layout .high))
+    (λ c κs. omega (arith, start c .pre .0 .tile .cols-le))
     (λ c κs. omega (arith, c .before .first-sigma .ensures, c .blocks-of .ensures, start (c .before) .pre .1 .0))
     (λ c κs. search needs)
     (λ c. search needs)
     returns
-    (λ c κs. let d = c .before .before .before .before .before .before .before .before in let s = start d in (s .pre .0, ((d .first-sigma .ensures, omega (arith, d .first-sigma .ensures, s .pre .1 .0)), s .pre .1 .1)))
-    (λ c κs. let d = c .before .before .before .before .before .before .before .before .before .before .before .before .before .before in let s = start d in let p = s .pre .0 in let k = c .before .before .before .before .before .filter .kept .0 in (rect-long k (p .1), omega (arith, k, p .2), p .0 .wide, omega (arith, d .first-sigma .ensures, s .pre .1 .0)))
+    (λ c κs. let d = c .before .before .before .before .before .before .before .before in start d .pre)
+    (λ c κs. let d = c .before .before .before .before .before .before .before .before .before .before .before .before .before .before in let s = start d in let p = s .pre .0 in let k = c .before .before .before .before .before .filter .kept .0 in (rect-long k (p .room), ((omega (arith, k, p .same), p .tile .cols-le), omega (arith, d .first-sigma .ensures, s .pre .1 .0))))
     (λ c. search needs)
     (λ c. search needs)
     returns-2)

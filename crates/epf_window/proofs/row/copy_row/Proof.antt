@@ -15,7 +15,7 @@ use Rattle.epf_window.proofs.row.copy_row.Tie as tie
 returns : tie.Need-returns
 returns c =
     let s = c .before .before .before .before .before .before .before .before .before in
-    let low = c .before .before .before .before .before .before .before .short-of in
+    let low = c .before .before .before .before .before .before .before .saturating-sub in
     let high = c .before .before .before .before .before .before .min in
     row-loaded _ (s .args .row) (s .args .x) (s .args .w) _ _ _ _ (s .args .at) (low .result) (high .result) (s .args .cols) _ (omega arith) (omega arith) (omega arith) (omega arith) refl
     (c .before .before .before .before .copy-mirrored .ensures) (c .before .before .copy-run .ensures ∙ copied-run _ _ _ _ _ (omega (arith, ap length (c .before .before .before .before .copy-mirrored .ensures), length-fill (now (s .args .win)) (s .args .at) (low .result) (rowSample (now (s .args .src)) (s .args .row) (s .args .x) (s .args .w)))) (omega arith)) (c .copy-mirrored2 .ensures)

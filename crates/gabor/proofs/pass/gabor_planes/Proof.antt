@@ -37,7 +37,7 @@ loop-again c =
     let inv = at-loop .loop .inv in (
       omega (arith, in-loop .loop-test .taken),
       called .gabor-plane .kept .1 .0 ∙ inv .1,
-      plane-next _ _ _ _ _ _ _ _ _ _ (inv .2) refl (rw (start .pre .1 .3) (plane-region _ _ _ (start .pre .0) (turn in-loop) (start .pre .1 .1) (start .pre .1 .2))) (omega (arith, start .pre .1 .3, start .pre .1 .4, inv .1)) (start .pre .1 .5) (called .gabor-plane .ensures),
+      plane-next _ _ _ _ _ _ _ _ _ (inv .2) (rw (start .pre .1 .3) (plane-region _ _ _ (start .pre .0) (turn in-loop) (start .pre .1 .1) (start .pre .1 .2))) (omega (arith, start .pre .1 .3, start .pre .1 .4, inv .1)) (start .pre .1 .5) (called .gabor-plane .ensures),
     )
 
 pub gabor-planes-spec : {M : Type 1} → statement M

@@ -8,10 +8,10 @@ use Rattle.gabor_plane.proofs.rows.edge_run.Statement.{statement}
 use Rattle.gabor_plane.proofs.rows.edge_run.Tie as tie
 
 abbrev Inv-loop : tie.InvT-loop
-Inv-loop src dst₀ c a o n w0 w1 g j₀ dst j = Written dst₀ o n (innerSample src a c a w0 w1 g first) dst j
+Inv-loop src dst₀ c a o n k j₀ dst j = Written dst₀ o n (innerSample src a c a k first) dst j
 
 abbrev μ-loop : tie.MeasureT-loop
-μ-loop src dst₀ c a o n w0 w1 g j₀ dst j = n - j
+μ-loop src dst₀ c a o n k j₀ dst j = n - j
 
 loop-again : tie.Need-loop-again Inv-loop μ-loop
 unfolding innerSample

@@ -8,7 +8,7 @@ use Rattle.gabor_plane.proofs.rows.gabor_row.Tie as tie
 returns-2 : tie.Need-returns-2
 returns-2 c =
     let run = c .before .before .before in
-    inner-more _ _ _ _ _ _ _ _ _ _ (omega arith) _ _ _ (run .before .before .tap-at .ensures) (run .tap-run .ensures) (c .tap-at2 .ensures)
+    inner-more _ _ _ _ _ _ _ _ (omega arith) _ _ _ (run .before .before .tap-at .ensures) (run .tap-run .ensures) (c .tap-at2 .ensures)
 
 pub gabor-row-spec : {M : Type 1} → statement M
 gabor-row-spec =
@@ -18,7 +18,7 @@ gabor-row-spec =
     (λ c. omega arith)
     (λ c. omega arith)
     (λ c. simp length-set)
-    (λ c. row-one _ _ _ _ _ _ _ _ _ _ _ _ (omega arith) (c .lone-at .ensures))
+    (λ c. row-one _ _ _ _ _ _ _ _ _ _ (omega arith) (c .lone-at .ensures))
     (λ c κs. omega arith)
     (λ c. omega arith)
     (λ c. omega arith)

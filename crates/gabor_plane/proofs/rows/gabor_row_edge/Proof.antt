@@ -8,7 +8,7 @@ use Rattle.gabor_plane.proofs.rows.gabor_row_edge.Tie as tie
 returns-2 : tie.Need-returns-2
 returns-2 c =
     let run = c .before .before .before in
-    edge-more _ _ _ _ _ _ _ _ _ _ (omega arith) _ _ (run .before .before .edge-end .ensures) (run .edge-run .ensures) (c .edge-end2 .ensures)
+    edge-more _ _ _ _ _ _ _ _ (omega arith) _ _ (run .before .before .edge-end .ensures) (run .edge-run .ensures) (c .edge-end2 .ensures)
 
 pub gabor-row-edge-spec : {M : Type 1} → statement M
 gabor-row-edge-spec =
@@ -18,7 +18,7 @@ gabor-row-edge-spec =
     (λ c. omega arith)
     (λ c. omega arith)
     (λ c. simp length-set)
-    (λ c. row-one _ _ _ _ _ _ _ _ _ _ _ _ (omega arith) (c .edge-lone .ensures))
+    (λ c. row-one _ _ _ _ _ _ _ _ _ _ (omega arith) (c .edge-lone .ensures))
     (λ c κs. omega arith)
     (λ c. omega arith)
     (λ c. omega arith)

@@ -8,7 +8,7 @@ use Rattle.gabor_plane.proofs.rows.gabor_row_solo.Tie as tie
 returns-2 : tie.Need-returns-2
 returns-2 c =
     let run = c .before .before .before in
-    solo-more _ _ _ _ _ _ _ _ _ _ (omega arith) _ (run .before .before .solo-end .ensures) (run .solo-run .ensures) (c .solo-end2 .ensures)
+    solo-more _ _ _ _ _ _ _ _ (omega arith) _ (run .before .before .solo-end .ensures) (run .solo-run .ensures) (c .solo-end2 .ensures)
 
 pub gabor-row-solo-spec : {M : Type 1} → statement M
 gabor-row-solo-spec =
@@ -19,7 +19,7 @@ gabor-row-solo-spec =
     (λ c. omega arith)
     (λ c. omega arith)
     (λ c. simp length-set)
-    (λ c. solo-one _ _ _ _ _ _ _ _ (omega arith))
+    (λ c. solo-one _ _ _ _ _ _ (omega arith))
     (λ c κs. omega arith)
     (λ c. omega arith)
     (λ c. omega arith)

@@ -8,10 +8,10 @@ use Rattle.gabor_plane.proofs.rows.solo_run.Statement.{statement}
 use Rattle.gabor_plane.proofs.rows.solo_run.Tie as tie
 
 abbrev Inv-loop : tie.InvT-loop
-Inv-loop src dst₀ c o n w0 w1 g j₀ dst j = Written dst₀ o n (innerSample src c c c w0 w1 g only) dst j
+Inv-loop src dst₀ c o n k j₀ dst j = Written dst₀ o n (innerSample src c c c k only) dst j
 
 abbrev μ-loop : tie.MeasureT-loop
-μ-loop src dst₀ c o n w0 w1 g j₀ dst j = n - j
+μ-loop src dst₀ c o n k j₀ dst j = n - j
 
 loop-again : tie.Need-loop-again Inv-loop μ-loop
 unfolding innerSample
