@@ -1,8 +1,9 @@
-// Proved restoration filters for a picture loupe: the C boundary of librestoration.a (`tools/library`), for C11 or C++11 on x86-64.
+// Proved restoration filters: the C boundary of librestoration.a (`tools/library`), for C11 or C++11 on x86-64.
 //
 // Written by tools/header from the functions and structs of crates/: do not edit.
 //
-// Every function takes any numbers, returns, and answers what its comment says: that is proved. The proofs cannot see how it is called:
+// Every function takes any numbers and returns, and its contract is proved; its comment says the contract in words. The proofs cannot see how it is
+// called:
 //
 // - A slice is a pointer and a length, in elements. That many elements are there, aligned for their type. A null pointer has length 0.
 // - A buffer that a function writes (no `const`) overlaps no other buffer of that call.
@@ -38,7 +39,7 @@ enum {
     RESTORATION_NOT_ON_BLOCKS = 6, // the filter region's left or top is negative or no multiple of 8
     RESTORATION_WRONG_LENGTH = 7, // a slice has a wrong length
     RESTORATION_BLOCK_NOT_HELD = 8, // a block of the filter region has no group, or its group's grid does not hold it
-    RESTORATION_OUT_OF_RANGE = 9, // a setting is out of range
+    RESTORATION_OUT_OF_RANGE = 9, // a setting is out of range, or a run record is not valid
     RESTORATION_BAND_NOT_OPEN = 10, // there is no such band, or it is done already, or the run is finished
     RESTORATION_PASS_NOT_DONE = 11, // an advance with a band missing or after the finish, or a result before the finish
 };

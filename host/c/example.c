@@ -129,8 +129,10 @@ static void passes(void)
     COMPARE(restoration_margin(settings).margin == 7);
     REFUSED_NUMBER(restoration_gabor_pass(corner, image, 1, gabor, 0, SIDE, from, SAMPLES, to, SAMPLES), RESTORATION_NOT_INSIDE, to);
     REFUSED_NUMBER(restoration_epf_pass(image, image, 1, step, &sigma, 1, 0, SIDE, from, SAMPLES, to, SAMPLES), RESTORATION_OUT_OF_RANGE, to);
-    for (step.step = 0; step.step < 3; step.step++)
+    for (step.step = 0; step.step < 3; step.step++) {
+        to[0] = 5;
         COMPARE(restoration_epf_pass(image, image, 1, step, &sigma, 1, 0, SIDE, from, SAMPLES, to, SAMPLES) == RESTORATION_ACCEPTED && ZEROS(to));
+    }
 
     // Specification 11.8: step 2 with sigma 1, M = 1 and channel scales 1, 0, 0 on planes of one row 0, 1/2.
     static const uint32_t stepped[] = {0x3B87E264, 0x3EFDE078};

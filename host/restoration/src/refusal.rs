@@ -52,7 +52,7 @@ refusals! {
     6 NotOnBlocks "the filter region's left or top is negative or no multiple of 8"
     7 WrongLength "a slice has a wrong length"
     8 BlockNotHeld "a block of the filter region has no group, or its group's grid does not hold it"
-    9 OutOfRange "a setting is out of range"
+    9 OutOfRange "a setting is out of range, or a run record is not valid"
     10 BandNotOpen "there is no such band, or it is done already, or the run is finished"
     11 PassNotDone "an advance with a band missing or after the finish, or a result before the finish"
 }

@@ -166,8 +166,8 @@ impl Report {
         self.rows.push(row);
     }
 
-    /// Prints the table and answers whether nothing differs.
-    pub fn finish(&self) -> bool {
+    /// Prints the table and answers whether it has this many rows, each with cases, and nothing differs.
+    pub fn finish(&self, rows: usize) -> bool {
         println!(
             "{:<18} {:<14} {:>9} {:>7}  numbers expected (0 is accepted, * must be expected {SEEN} times)",
             "compared", "inputs", "cases", "differ"
@@ -187,6 +187,10 @@ impl Report {
         let differ: u64 = self.rows.iter().map(|row| row.differ).sum();
         let seconds = self.started.elapsed().as_secs_f64();
         println!("{cases} cases compared in {seconds:.1} s, {differ} differ");
-        differ == 0 && cases > 0
+        let complete = self.rows.len() == rows && self.rows.iter().all(|row| row.cases > 0);
+        if !complete {
+            println!("a row is missing or has no cases: {rows} rows are expected");
+        }
+        differ == 0 && complete
     }
 }

@@ -298,6 +298,35 @@ fn edge_filter_off_blocks_and_steps() {
     assert_eq!(step_number(sized(1, 1), 3), 9);
 }
 
+/// The first plane of `0 1/4` through step 1 with this multiplier.
+fn step_1_scaled(multiplier: f32) -> Vec<f32> {
+    let (image, source) = (sized(2, 1), three(&[0.0, 0.25]).concat());
+    let mut target = source.clone();
+    let settings = EpfStep {
+        multiplier,
+        ..plain_step(1)
+    };
+    let number = restoration::epf_pass(
+        image,
+        image,
+        1,
+        settings,
+        &[2.0],
+        0,
+        1,
+        &source,
+        &mut target,
+    );
+    assert_eq!(number, 0);
+    target[..2].to_vec()
+}
+
+#[test]
+fn scale_of_step_1() {
+    assert_eq!(step_1_scaled(1.0), apply_epf(1));
+    assert_ne!(step_1_scaled(2.0), apply_epf(1));
+}
+
 /// The first plane of 2 by 1 samples through `apply_epf`.
 fn apply_epf(iterations: u32) -> Vec<f32> {
     let image = sized(2, 1);
