@@ -90,11 +90,13 @@ typedef struct RestorationGroupSizes {
     uint32_t num_groups;
 } RestorationGroupSizes;
 
+// The sizes of a frame.
 typedef struct RestorationFrameAnswer {
     uint32_t number;
     RestorationGroupSizes sizes;
 } RestorationFrameAnswer;
 
+// The group of a column or row of blocks, and the cell in it.
 typedef struct RestorationSplitAnswer {
     uint32_t number;
     uint32_t group;
@@ -122,6 +124,7 @@ typedef struct RestorationGabor {
     float weights[3][2];
 } RestorationGabor;
 
+// A Gabor-like filter's bundle, and the next bit position.
 typedef struct RestorationGaborAnswer {
     uint32_t number;
     RestorationGabor gabor;
@@ -146,17 +149,20 @@ typedef struct RestorationEdgePreservingFilter {
     float sigma_for_modular;
 } RestorationEdgePreservingFilter;
 
+// An edge-preserving filter's bundle, and the next bit position.
 typedef struct RestorationEpfAnswer {
     uint32_t number;
     RestorationEdgePreservingFilter epf;
     size_t next;
 } RestorationEpfAnswer;
 
+// Both bundles of a frame header.
 typedef struct RestorationFilter {
     RestorationGabor gabor;
     RestorationEdgePreservingFilter epf;
 } RestorationFilter;
 
+// Both bundles, and the next bit position.
 typedef struct RestorationAnswer {
     uint32_t number;
     RestorationFilter filter;

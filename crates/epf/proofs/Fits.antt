@@ -1,18 +1,19 @@
 -- The code's tests, one after another, give the number of the definition, and an accepted step leaves what the definition says. Assumes
 -- nothing.
-use mathlib.Core.Path.{_≡_, refl, sym, _∙_}
-use mathlib.Core.Bool.{Bool, true, false, cond, _&&_, not, and-false}
+use mathlib.Core.Path.{_≡_, sym, _∙_}
+use mathlib.Core.Bool.{true, false, _&&_, and-false}
 use mathlib.Core.List.{List}
 use Prim.Native.Nat.{ℕ, _+_, _-_, _*_, _<_, _≤_}
 use native.Mathlib.Nat.{mul-le-mul}
 use native.Mathlib.Omega.{arith}
-use borrow.Author.Tests.{leb-true, lt-ltb, le-ltb, ltb-false, eq-eqb, ne-eqb, eqb-true}
-use lib.Dec.{eqb, leb, ltb}
+use borrow.Author.Tests.{leb-true, lt-ltb, le-ltb, ltb-false, eq-eqb, ne-eqb, eqb-true, not-false}
+use lib.Dec.{eqb, leb}
 use lib.ListN.{length}
 use lib.Ieee.{Float}
 use Rattle.refusals.specs.Numbers.{notOnBlocks, wrongLength, outOfRange}
 use Rattle.refusals.specs.Checks.{Check, firstOf}
 use Rattle.refusals.specs.Flags.{flagFits, flagSet}
+use Rattle.refusals.proofs.Rows.{here, below, row-passed}
 use Rattle.region.specs.declared.Region.{Region}
 use Rattle.region_placement.specs.Placed.{placedChecks}
 use Rattle.planes.specs.declared.Layout.{Layout}
@@ -22,13 +23,13 @@ use Rattle.planes.specs.Band.{passed, copiedOutside, filterRow, resultHeight, r
 use Rattle.planes.specs.Fits.{LayoutFits, BandFits}
 use Rattle.planes.proofs.Stored.{passed-over, fits-copied, and-first, and-second}
 use Rattle.planes_layout.specs.declared.LayoutAnswer.{LayoutAnswer}
-use Rattle.planes_layout.specs.Outcome.{layoutOf, layoutOutcome, PassOutcome}
+use Rattle.planes_layout.specs.Outcome.{layoutOf, layoutOutcome, flagCheck, PassOutcome}
 use Rattle.planes_layout.proofs.Fits.{Accepted, layout-accepted, placed-first, placed-then, answer-number, answer-layout, pass-refused, pass-done}
 use Rattle.epf_tiles.specs.Blocks.{blockColumns, blockRows}
 use Rattle.epf_tiles.proofs.Region.{BlocksRoom, blocks-room}
 use Rattle.epf.specs.declared.EpfStep.{EpfStep}
 use Rattle.region_placement.specs.Blocks.{clampToZero, onBlocks}
-use Rattle.epf.specs.Outcome.{epfOver, stepChecks, epfChecks, epfOutcome}
+use Rattle.epf.specs.Outcome.{epfOver, stepLengths, stepInRange, stepRows, stepChecks, epfChecks, epfOutcome}
 
 -- ---- the tests of a filter region inside the image region
 
@@ -76,15 +77,6 @@ module _ (n : ℕ) (l : Layout) (filter : Region) (full step from to sigmas src 
           all-held r = rw (a, eq-eqb src size s, eq-eqb dst size t, eq-eqb sigmas (blockRows l * blockColumns l) u, le-ltb 2 step h, f, r)
 
 -- what follows from number 0
-zero-is : (a b c d f : Bool) → cond (true && not a) notOnBlocks (cond (true && not b) wrongLength (cond (true && c) outOfRange (cond (true && not f) outOfRange (cond (f && not d) outOfRange 0)))) ≡ 0
-    → (a ≡ true) × (b ≡ true) × (c ≡ false) × (d ≡ true)
-zero-is true true false true true e = (refl, refl, refl, refl)
-zero-is true true false false true e = absurd (omega arith)
-zero-is true true false d false e = absurd (omega arith)
-zero-is true true true d f e = absurd (omega arith)
-zero-is true false c d f e = absurd (omega arith)
-zero-is false b c d f e = absurd (omega arith)
-
 pub record StepFits (n : ℕ) (l : Layout) (step from to sigmas src dst : ℕ) : Type 0 where
   pub source : src ≡ n * l .image .height * l .image .width
   pub target : dst ≡ n * l .image .height * l .image .width
@@ -100,15 +92,18 @@ step-fits n l filter full step from to sigmas src dst e =
     let p = eqb src size in
     let q = eqb dst size in
     let r = eqb sigmas (blockRows l * blockColumns l) in
-    let z = zero-is (onBlocks filter) (p && (q && r)) (ltb 2 step) (rowsFit l from to) (flagFits full) e in
-    let qr = and-second p (q && r) (z .1) in
+    let passed = row-passed (stepChecks n l filter full step from to sigmas src dst) tt e in
+    let flag : flagFits full ≡ true = not-false (flagFits full) (passed (flagCheck full) (search (here, below) depth 12)) in
+    let lengths : (p && (q && r)) ≡ true = not-false _ (passed (stepLengths n l sigmas src dst) (search (here, below) depth 12)) in
+    let rows-in : rowsFit l from to ≡ true = not-false _ (rw flag at (passed (stepRows l full from to) (search (here, below) depth 12))) in
+    let qr = and-second p (q && r) lengths in
     record {
-      source = eqb-true _ _ (and-first p (q && r) (z .1));
+      source = eqb-true _ _ (and-first p (q && r) lengths);
       target = eqb-true _ _ (and-first q r qr);
       blocks = eqb-true _ _ (and-second q r qr);
-      step-le = ltb-false _ _ (z .2);
-      order = leb-true _ _ (and-first (leb from to) (leb to (resultHeight l)) (z .3));
-      rows = leb-true _ _ (and-second (leb from to) (leb to (resultHeight l)) (z .3));
+      step-le = ltb-false _ _ (passed (stepInRange step) (search (here, below) depth 12));
+      order = leb-true _ _ (and-first (leb from to) (leb to (resultHeight l)) rows-in);
+      rows = leb-true _ _ (and-second (leb from to) (leb to (resultHeight l)) rows-in);
     }
 
 pub band-fits : (n : ℕ) (l : Layout) (step from to sigmas : ℕ) (src dst : List Float) → n ≤ 3 → LayoutFits l → StepFits n l step from to sigmas (length src) (length dst) → BandFits l n from to src dst
@@ -122,8 +117,8 @@ pub record SizeRoom (l : Layout) : Type 0 where
 
 pub size-room : (l : Layout) → LayoutFits l → SizeRoom l
 size-room l f =
-    let a : 3 * l .image .height ≤ 49152 = omega (arith, f .high) in
-    record { lines-le = a; samples-le = mul-le-mul a (f .wide); blocks = blocks-room l f }
+    let a : 3 * l .image .height ≤ 49152 = omega (arith, f .height-le) in
+    record { lines-le = a; samples-le = mul-le-mul a (f .width-le); blocks = blocks-room l f }
 
 -- ---- a band: copied outside the filter region, then filtered inside it
 pub band-passed : (l : Layout) (n from to f t : ℕ) (p : Picture) (src dst a b : List Float) → BandFits l n from to src dst

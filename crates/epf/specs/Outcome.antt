@@ -14,7 +14,7 @@ use Rattle.region_placement.specs.Placed.{placedChecks}
 use Rattle.planes.specs.declared.Layout.{Layout}
 use Rattle.planes.specs.Picture.{Picture}
 use Rattle.planes.specs.Band.{inner, passed, rowsFit}
-use Rattle.planes_layout.specs.Outcome.{layoutOf, PassOutcome, passOutcome}
+use Rattle.planes_layout.specs.Outcome.{layoutOf, flagCheck, PassOutcome, passOutcome}
 use Rattle.epf_step.specs.Steps.{scaled, standardLimit, EpfPass, epfPass}
 use Rattle.epf_tiles.specs.Blocks.{blockColumns, sigmaOf, blockRows}
 use Rattle.epf.specs.declared.EpfStep.{EpfStep}
@@ -28,15 +28,32 @@ settingsOf n s = record { step = s .step; limit = standardLimit; scales = scaled
 abbrev pub epfOver : ℕ → Layout → EpfStep → ℕ → List Float → List Float → Picture
 epfOver n l s top sigmas src = epfPass (settingsOf n s) (l .width) (l .height) top (sigmaOf (blockColumns l) sigmas) (inner l src)
 
--- The checks of a filter region inside the image region (Specification 9.4): 6 for its corner, 7 for the two sets and the sigmas, 9 for the
--- step, for the flag `preserve_outside`, and for the rows, which are checked only if the flag is in range.
+-- ---- the checks of a filter region inside the image region (Specification 9.4)
+
+abbrev pub cornerCheck : Region → Check
+cornerCheck filter = always notOnBlocks (not (onBlocks filter))
+
+-- the two sets and the sigmas
+abbrev pub stepLengths : ℕ → Layout → ℕ → ℕ → ℕ → Check
+stepLengths n l sigmas src dst =
+    always wrongLength (not (eqb src (n * l .image .height * l .image .width) && (eqb dst (n * l .image .height * l .image .width) && eqb sigmas (blockRows l * blockColumns l))))
+
+abbrev pub stepInRange : ℕ → Check
+stepInRange step = always outOfRange (ltb 2 step)
+
+-- the rows, which are checked only if the flag `preserve_outside` is in range
+abbrev pub stepRows : Layout → ℕ → ℕ → ℕ → Check
+stepRows l full from to = given (flagFits full) outOfRange (not (rowsFit l from to))
+
+-- 6, 7, then 9
 unfoldable pub stepChecks : ℕ → Layout → Region → ℕ → ℕ → ℕ → ℕ → ℕ → ℕ → ℕ → List Check
 stepChecks n l filter full step from to sigmas src dst =
-    always notOnBlocks (not (onBlocks filter))
-    ∷ always wrongLength (not (eqb src (n * l .image .height * l .image .width) && (eqb dst (n * l .image .height * l .image .width) && eqb sigmas (blockRows l * blockColumns l))))
-    ∷ always outOfRange (ltb 2 step)
-    ∷ always outOfRange (not (flagFits full))
-    ∷ given (flagFits full) outOfRange (not (rowsFit l from to)) ∷ []
+    cornerCheck filter
+    ∷ stepLengths n l sigmas src dst
+    ∷ stepInRange step
+    ∷ flagCheck full
+    ∷ stepRows l full from to
+    ∷ []
 
 -- all checks: 4 and 5, then those above
 unfoldable pub epfChecks : Region → Region → ℕ → EpfStep → List Float → ℕ → ℕ → List Float → List Float → List Check

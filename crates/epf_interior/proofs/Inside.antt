@@ -164,8 +164,8 @@ row-room l q r len f g R =
     let wide : l .left + (q .x - 1) + q .cols + 1 ≤ w = omega (arith, f .left, f .right, g .layout .across) in
     record {
       stride-pos = omega (arith, f .right, g .layout .across);
-      plane-le = mul-le-mul (g .layout .high) (g .layout .wide);
-      start-le = omega (arith, all, three, mul-le-mul (g .layout .high) (g .layout .wide));
+      plane-le = mul-le-mul (g .layout .height-le) (g .layout .width-le);
+      start-le = omega (arith, all, three, mul-le-mul (g .layout .height-le) (g .layout .width-le));
       cols-le = omega (arith, all, three, wide);
       first-index = rw next (omega (arith, one, f .left));
       end-le = omega (arith, all, three, wide, g .set, mul-assoc 3 h w);

@@ -38,11 +38,11 @@ plane-room l n c q len f p =
     let few : c ≤ 2 = omega (arith, f .planes-le) in
     let g = f .layout in
     let y = q .y in
-    let a : c * l .image .height ≤ 2 * 16384 = mul-le-mul few (g .high) in
-    let b : c * l .image .height + (l .top + y) ≤ 65536 = omega (arith, g .down, g .high, f .down) in
+    let a : c * l .image .height ≤ 2 * 16384 = mul-le-mul few (g .height-le) in
+    let b : c * l .image .height + (l .top + y) ≤ 65536 = omega (arith, g .down, g .height-le, f .down) in
     record {
       rows-above-le = omega arith;
-      start-le = mul-le-mul b (g .wide);
+      start-le = mul-le-mul b (g .width-le);
       rows-fit = λ r h.
           let t : c * l .image .height + (l .top + y) + r + 1 ≤ n * l .image .height = omega (arith, g .down, f .down, suc-mul c (l .image .height), mul-le-mul-right (l .image .height) p) in
           omega (arith, f .set, g .across, f .across, add-mul (c * l .image .height + (l .top + y)) r (l .image .width), add-mul (c * l .image .height + (l .top + y) + r) 1 (l .image .width), mul-le-mul-right (l .image .width) t);
@@ -83,10 +83,10 @@ pub record SourceRoom (l : Layout) (n : ℕ) (q : Rect) (len : ℕ) : Type 0 whe
 pub source-room : (l : Layout) (n : ℕ) (q : Rect) (len : ℕ) → RectFits l n q len → SourceRoom l n q len
 source-room l n q len f =
     let g = f .layout in
-    let t : l .top + q .y ≤ 16384 = omega (arith, g .down, g .high, f .down) in
+    let t : l .top + q .y ≤ 16384 = omega (arith, g .down, g .height-le, f .down) in
     record {
-      start-le = mul-le-mul t (g .wide);
-      plane-le = mul-le-mul (g .high) (g .wide);
+      start-le = mul-le-mul t (g .width-le);
+      plane-le = mul-le-mul (g .height-le) (g .width-le);
       lies = λ c r C R. rw (start-plane l (q .x) (q .y) _ _ c refl refl) (plane-room l n c q len f C .rows-fit r R);
     }
 

@@ -75,8 +75,8 @@ module _ (p : Pass) (src len count y rows x cols : ℕ) (passes : PassFits p src
   strip-sigmas : (y / 8 * blockColumns l + blockColumns l ≤ count) × (y / 8 * blockColumns l ≤ 4194304)
   strip-sigmas =
       let a : y / 8 + 1 ≤ blockRows l = omega (arith, strip .inside, strip .rows-pos) in
-      let b : y / 8 ≤ 2048 = omega (arith, strip .inside, fits .layout .down, fits .layout .high) in
-      let w : blockColumns l ≤ 2048 = omega (arith, fits .layout .across, fits .layout .wide) in
+      let b : y / 8 ≤ 2048 = omega (arith, strip .inside, fits .layout .down, fits .layout .height-le) in
+      let w : blockColumns l ≤ 2048 = omega (arith, fits .layout .across, fits .layout .width-le) in
       let z : y / 8 + 1 ≡ suc (y / 8) = omega arith in
       (omega (arith, fits .sigmas, suc-mul (y / 8) (blockColumns l), rw z at (mul-le-mul-right (blockColumns l) a)), mul-le-mul b w)
 
@@ -175,8 +175,8 @@ pub record BlocksRoom (l : Layout) : Type 0 where
 
 pub blocks-room : (l : Layout) → LayoutFits l → BlocksRoom l
 blocks-room l f =
-    let h : l .height ≤ 16384 = omega (arith, f .down, f .high) in
-    let w : l .width ≤ 16384 = omega (arith, f .across, f .wide) in
+    let h : l .height ≤ 16384 = omega (arith, f .down, f .height-le) in
+    let w : l .width ≤ 16384 = omega (arith, f .across, f .width-le) in
     let a : blockRows l ≤ 2049 = omega arith in
     let b : blockColumns l ≤ 2049 = omega arith in
     record { height-le = h; width-le = w; count-le = mul-le-mul a b }

@@ -80,8 +80,8 @@ plane-fits l n c len p f lt =
     let h : l .height - 1 + 1 ≡ l .height = omega (arith, f .y-lt) in
     record {
       region-le = omega (arith, f .source, g .across, r .ends, add-mul (l .height - 1) 1 (l .image .width), ap (λ (k : ℕ). k * l .image .width) h);
-      width-le = omega (arith, g .across, g .wide);
-      height-le = omega (arith, g .down, g .high);
+      width-le = omega (arith, g .across, g .width-le);
+      height-le = omega (arith, g .down, g .height-le);
       x-lt = f .x-lt;
       y-lt = f .y-lt;
       top-le = omega (arith, f .rows-le);

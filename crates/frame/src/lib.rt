@@ -36,12 +36,14 @@ pub struct GroupSizes {
     pub num_groups: u32,
 }
 
+// The sizes of a frame.
 #[repr(C)]
 pub struct FrameAnswer {
     pub number: u32,
     pub sizes: GroupSizes,
 }
 
+// The group of a column or row of blocks, and the cell in it.
 #[repr(C)]
 pub struct SplitAnswer {
     pub number: u32,

@@ -61,8 +61,8 @@ plane-region l n c f r w h = record {
   width-pos = w;
   height-pos = h;
   width-le-stride = omega (arith, f .across);
-  stride-le = f .wide;
-  height-le = omega (arith, f .down, f .high);
+  stride-le = f .width-le;
+  height-le = omega (arith, f .down, f .height-le);
   end-le = omega (arith, f .across, r .ends, row-above (l .height) (l .image .width) h);
 }
 

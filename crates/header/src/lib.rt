@@ -7,12 +7,14 @@ use header_epf::EdgePreservingFilter;
 use header_epf::Encoding;
 use header_gabor::Gabor;
 
+// Both bundles of a frame header.
 #[repr(C)]
 pub struct RestorationFilter {
     pub gabor: Gabor,
     pub epf: EdgePreservingFilter,
 }
 
+// Both bundles, and the next bit position.
 #[repr(C)]
 pub struct RestorationAnswer {
     pub number: u32,

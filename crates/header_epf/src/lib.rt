@@ -29,6 +29,7 @@ pub struct EdgePreservingFilter {
     pub sigma_for_modular: f32,
 }
 
+// An edge-preserving filter's bundle, and the next bit position.
 #[repr(C)]
 pub struct EpfAnswer {
     pub number: u32,

@@ -17,6 +17,7 @@ pub struct Gabor {
     pub weights: [[f32; 2]; 3],
 }
 
+// A Gabor-like filter's bundle, and the next bit position.
 #[repr(C)]
 pub struct GaborAnswer {
     pub number: u32,

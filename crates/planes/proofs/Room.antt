@@ -54,20 +54,20 @@ pub record SetFits (l : Layout) (n len : ℕ) : Type 0 where
 
 pub set-facts : (l : Layout) (n len : ℕ) → setFits l n len ≡ true → SetFits l n len
 set-facts l n len e =
-    let sizeFits = eqb len (n * l .image .height * l .image .width) in
-    let few = and-second (layoutFits l) (leb n 3 && sizeFits) e in
+    let length-fits = eqb len (n * l .image .height * l .image .width) in
+    let few = and-second (layoutFits l) (leb n 3 && length-fits) e in
     record {
-      layout = layout-fits l (and-first (layoutFits l) (leb n 3 && sizeFits) e);
-      planes = leb-true _ _ (and-first (leb n 3) sizeFits few);
-      size = eqb-true _ _ (and-second (leb n 3) sizeFits few);
+      layout = layout-fits l (and-first (layoutFits l) (leb n 3 && length-fits) e);
+      planes = leb-true _ _ (and-first (leb n 3) length-fits few);
+      size = eqb-true _ _ (and-second (leb n 3) length-fits few);
     }
 
 pub set-true : (l : Layout) (n len : ℕ) → SetFits l n len → setFits l n len ≡ true
 set-true l n len s =
     let f = s .layout in
     rw (
-      le-leb (l .image .width) 16384 (f .wide),
-      le-leb (l .image .height) 16384 (f .high),
+      le-leb (l .image .width) 16384 (f .width-le),
+      le-leb (l .image .height) 16384 (f .height-le),
       le-leb (l .left + l .width) (l .image .width) (f .across),
       le-leb (l .top + l .height) (l .image .height) (f .down),
       le-leb n 3 (s .planes),
@@ -90,4 +90,4 @@ abbrev pub PlaneRoom : Layout → ℕ → ℕ → Type 0
 PlaneRoom l n c = RowsRoom (l .image .width) (l .image .height) n c (l .top) (l .height)
 
 pub plane-room : (l : Layout) (n c : ℕ) → LayoutFits l → n ≤ 3 → c < n → PlaneRoom l n c
-plane-room l n c f = rows-room (l .image .width) (l .image .height) n c (l .top) (l .height) (f .wide) (f .high) (f .down)
+plane-room l n c f = rows-room (l .image .width) (l .image .height) n c (l .top) (l .height) (f .width-le) (f .height-le) (f .down)

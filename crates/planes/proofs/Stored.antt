@@ -37,8 +37,8 @@ layout-fits l e =
     let s = and-first sides inside e in
     let i = and-second sides inside e in
     record {
-      wide = leb-true _ _ (and-first (leb (l .image .width) 16384) (leb (l .image .height) 16384) s);
-      high = leb-true _ _ (and-second (leb (l .image .width) 16384) (leb (l .image .height) 16384) s);
+      width-le = leb-true _ _ (and-first (leb (l .image .width) 16384) (leb (l .image .height) 16384) s);
+      height-le = leb-true _ _ (and-second (leb (l .image .width) 16384) (leb (l .image .height) 16384) s);
       across = leb-true _ _ (and-first (leb (l .left + l .width) (l .image .width)) (leb (l .top + l .height) (l .image .height)) i);
       down = leb-true _ _ (and-second (leb (l .left + l .width) (l .image .width)) (leb (l .top + l .height) (l .image .height)) i);
     }
@@ -290,7 +290,7 @@ module _ (l : Layout) (n from to : ℕ) (src dst : List Float) where
 pub fits-copied : (l : Layout) (n from to : ℕ) (src dst : List Float) → BandFits l n from to src dst → copiedOutside l n from to src dst ≡ passed n l from to (inner l dst) src dst
 fits-copied l n from to src dst f =
     let sides : layoutFits l ≡ true =
-    rw (le-leb (l .image .width) 16384 (f .layout .wide), le-leb (l .image .height) 16384 (f .layout .high), le-leb (l .left + l .width) (l .image .width) (f .layout .across), le-leb (l .top + l .height) (l .image .height) (f .layout .down)) in
+    rw (le-leb (l .image .width) 16384 (f .layout .width-le), le-leb (l .image .height) 16384 (f .layout .height-le), le-leb (l .left + l .width) (l .image .width) (f .layout .across), le-leb (l .top + l .height) (l .image .height) (f .layout .down)) in
     sym (all-fit l n from to src dst
     (rw (sides, le-leb n 3 (f .planes), eq-eqb (length src) (n * l .image .height * l .image .width) (f .source)))
     (rw (sides, le-leb n 3 (f .planes), eq-eqb (length dst) (n * l .image .height * l .image .width) (f .target)))

@@ -8,8 +8,8 @@ use Rattle.planes.specs.declared.Layout.{Layout}
 use Rattle.planes.specs.Band.{resultHeight}
 
 pub record LayoutFits (l : Layout) : Type 0 where
-  pub wide : l .image .width ≤ 16384
-  pub high : l .image .height ≤ 16384
+  pub width-le : l .image .width ≤ 16384
+  pub height-le : l .image .height ≤ 16384
   pub across : l .left + l .width ≤ l .image .width
   pub down : l .top + l .height ≤ l .image .height
 

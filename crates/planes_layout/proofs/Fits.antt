@@ -51,8 +51,8 @@ module _ (image filter : Region) (full : Bool) (ok : firstOf (placedChecks image
       let j = and-r (covers (columns image) (columns filter)) (covers (rows image) (rows filter)) (p .filter-inside) in
       record {
         fits = record {
-          wide = bounds-width image m;
-          high = bounds-height image m;
+          width-le = bounds-width image m;
+          height-le = bounds-height image m;
           across = part-fits (image .left) (filter .left) (image .width) (filter .width)
               (and-l (leZ (image .left) (filter .left)) (leZ (columns filter .end) (columns image .end)) i)
               (and-r (leZ (image .left) (filter .left)) (leZ (columns filter .end) (columns image .end)) i);
@@ -68,7 +68,7 @@ module _ (image filter : Region) (full : Bool) (ok : firstOf (placedChecks image
   layout-true =
       let l = layoutOf image filter full in
       let f = layout-accepted .fits in
-      rw (le-leb (l .image .width) 16384 (f .wide), le-leb (l .image .height) 16384 (f .high), le-leb (l .left + l .width) (l .image .width) (f .across), le-leb (l .top + l .height) (l .image .height) (f .down))
+      rw (le-leb (l .image .width) 16384 (f .width-le), le-leb (l .image .height) 16384 (f .height-le), le-leb (l .left + l .width) (l .image .width) (f .across), le-leb (l .top + l .height) (l .image .height) (f .down))
 
   -- in an accepted layout, whether a slice is a set depends on its length alone
   length-checked : (n len : ℕ) → n ≤ 3 → setFits (layoutOf image filter full) n len ≡ eqb len (n * image .height * image .width)

@@ -40,7 +40,7 @@ part-full l e = rw e
 
 pub part-fits : (l : Layout) → LayoutFits l → LayoutFits (partOf l)
 unfolding partOf
-part-fits l f = record { wide = f .wide; high = f .high; across = go (l .full); down = go-down (l .full) }
+part-fits l f = record { width-le = f .width-le; height-le = f .height-le; across = go (l .full); down = go-down (l .full) }
   where
     go : (b : Bool) → cond b 0 (l .left) + cond b (l .image .width) (l .width) ≤ l .image .width
     go true = omega arith

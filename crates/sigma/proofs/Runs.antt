@@ -27,7 +27,7 @@ use Rattle.sigma.specs.declared.Run.{Run}
 use Rattle.sigma.specs.declared.BlockRow.{BlockRow}
 use Rattle.sigma_grids.specs.Table.{presence, gridWidth, gridHeight, gridStart, badGrid}
 use Rattle.sigma_groups.specs.Measures.{blocksAcross, blocksDown}
-use Rattle.sigma_groups.proofs.Measured.{across-le}
+use Rattle.sigma_groups.proofs.BlocksFit.{across-le}
 use Rattle.sigma_groups.specs.Held.{groupAt, notHeld, someNotHeld}
 use Rattle.sigma.specs.Sigma.{missing, sigmaIn, frameSigma, aboveAt, blockSigma, blockSigmas}
 use Rattle.sigma_groups.proofs.Laws.{entry-lt, entries-le, Held, held, Accepted}
@@ -209,8 +209,8 @@ unfolding someNotHeld
 row-fits f sizes b t grids h n y q l =
     rw q (record {
       grids-of = h .grids-of;
-      left-le = h .measured-blocks .left-le;
-      across-le = across-le b (h .measured-blocks);
+      left-le = h .blocks-fit .left-le;
+      across-le = across-le b (h .blocks-fit);
       held-all = none-below (blocksDown b) y _ (h .held-all) l;
     })
 
@@ -230,6 +230,6 @@ all-fits f b t grids n on answer h o e =
             sides = h .sides;
             cells-are = h .cells-are;
           };
-      measured-blocks = h .blocks;
+      blocks-fit = h .blocks;
       held-all = h .held-all o;
     }

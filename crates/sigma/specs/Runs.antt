@@ -13,7 +13,7 @@ use Rattle.sigma_groups.specs.declared.blocks.Blocks.{Blocks}
 use Rattle.sigma.specs.declared.Run.{Run}
 use Rattle.sigma.specs.declared.BlockRow.{BlockRow}
 use Rattle.sigma_grids.specs.Table.{presence, gridWidth, gridHeight, gridStart, badGrid, someBelow}
-use Rattle.sigma_groups.specs.Measured.{Measured}
+use Rattle.sigma_groups.specs.BlocksFit.{BlocksFit}
 use Rattle.sigma_groups.specs.Held.{groupAt, notHeld, someNotHeld}
 use Rattle.sigma.specs.Sigma.{frameSigma}
 use Rattle.sigma_groups.specs.Fitting.{TableOf}
@@ -70,5 +70,5 @@ pub record RowFits (f : Frame) (sizes : GroupSizes) (t : List ℕ) (grids : List
 -- the conditions for all rows of a filter region
 pub record AllFits (f : Frame) (sizes : GroupSizes) (b : Blocks) (t : List ℕ) (grids : List Float) : Type 0 where
   pub grids-of : GridsOf f sizes t grids
-  pub measured-blocks : Measured b
+  pub blocks-fit : BlocksFit b
   pub held-all : someNotHeld f b t ≡ false

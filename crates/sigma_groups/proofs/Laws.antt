@@ -22,8 +22,8 @@ use Rattle.refusals.specs.Flags.{flagFits, flagSet}
 use Rattle.refusals.proofs.Rows.{here, below, row-passed}
 use Rattle.sigma_groups.specs.declared.blocks.Blocks.{Blocks}
 use Rattle.sigma_groups.specs.Measures.{badBlocks}
-use Rattle.sigma_groups.specs.Measured.{Measured}
-use Rattle.sigma_groups.proofs.Measured.{boundsFit}
+use Rattle.sigma_groups.specs.BlocksFit.{BlocksFit}
+use Rattle.sigma_groups.proofs.BlocksFit.{fits-blocks}
 use Rattle.sigma_grids.specs.Table.{badPresence, badGrid, gridLacksBlock, gridStart}
 use Rattle.sigma_grids.proofs.Laws.{neither}
 use Rattle.sigma_groups.specs.Held.{groupAt, notHeld, someNotHeld}
@@ -96,7 +96,7 @@ settings-fit false false e = (refl, refl)
 -- Accepted inputs: the numbers of frame and filter region are in range, and lengths, grids and blocks fit.
 pub record Accepted (on : ℕ) (f : Frame) (b : Blocks) (t : List ℕ) (grids : List Float) (n : ℕ) : Type 0 where
   pub frame-fits : firstOf (frameChecks f) ≡ accepted
-  pub blocks : Measured b
+  pub blocks : BlocksFit b
   pub entries : length t ≡ 3 * sizesOf f .«num_groups»
   pub sides : someGroup f (badGrid t) ≡ false
   pub presences : someGroup f (badPresence t) ≡ false
@@ -120,7 +120,7 @@ module _ (on : ℕ) (f : Frame) (b : Blocks) (t : List ℕ) (grids : List Float)
       let count = not-false (eqb n (sigmaCount (flagSet on) b)) (rw (region, flag) at (passed (sigmasCounted on b n) (search (here, below) depth 12))) in
       record {
         frame-fits = rw (sides, settings);
-        blocks = boundsFit b region;
+        blocks = fits-blocks b region;
         entries = eqb-true (length t) (3 * sizesOf f .«num_groups») table;
         sides = rw (sides, settings, table) at (passed (gridSides f t) (search (here, below) depth 12));
         presences = clear;

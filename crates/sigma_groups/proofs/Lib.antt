@@ -1,3 +1,3 @@
-pub mod Measured
+pub mod BlocksFit
 mod Number
 pub mod Laws

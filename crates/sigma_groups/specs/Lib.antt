@@ -1,5 +1,5 @@
 pub mod Measures
-pub mod Measured
+pub mod BlocksFit
 pub mod Held
 pub mod Outcome
 pub mod Fitting

@@ -15,13 +15,13 @@ ghost use lib.Dec.{eqb};
 ghost use lib.ListN.{length};
 ghost use Rattle.refusals.specs.Flags.{flagFits, flagSet};
 ghost use Rattle.sigma_grids.specs.Table.{badPresence, gridLacksBlock, someBelow};
-ghost use Rattle.sigma_groups.specs.Measured.{Measured};
+ghost use Rattle.sigma_groups.specs.BlocksFit.{BlocksFit};
 ghost use Rattle.sigma_groups.specs.Held.{notHeld, someNotHeld};
 ghost use Rattle.sigma_groups.specs.Outcome.{sigmaCount, sigmaNumber};
 ghost use Rattle.sigma_groups.specs.Fitting.{TableOf, Fitting};
 
 fn sigma_count(on: bool, blocks: Blocks) -> usize
-    requires { ⌜ Measured blocks ⌝ }
+    requires { ⌜ BlocksFit blocks ⌝ }
     ensures { λ r. ⌜ r ≡ sigmaCount on blocks ⌝ }
 {
     if !on {
@@ -34,7 +34,7 @@ fn sigma_count(on: bool, blocks: Blocks) -> usize
 
 // Whether the number of sigmas is wrong; false if the flag is out of range.
 fn bad_count(on: u32, blocks: Blocks, sigmas: usize) -> bool
-    requires { ⌜ Measured blocks ⌝ }
+    requires { ⌜ BlocksFit blocks ⌝ }
     ensures { λ r. ⌜ r ≡ (flagFits on && not (eqb sigmas (sigmaCount (flagSet on) blocks))) ⌝ }
 {
     if !refusals::flag_fits(on) {
@@ -128,7 +128,7 @@ fn row_not_held(
 }
 
 fn some_not_held(frame: Frame, sizes: GroupSizes, blocks: Blocks, table: &[u32]) -> bool
-    requires { ⌜ TableOf frame sizes (now table) × Measured blocks ⌝ }
+    requires { ⌜ TableOf frame sizes (now table) × BlocksFit blocks ⌝ }
     ensures { λ r. ⌜ r ≡ someNotHeld frame blocks (now (table .entry)) ⌝ }
 {
     let across = blocks_along(blocks.width);
@@ -150,7 +150,7 @@ fn touched_not_held(
     blocks: Blocks,
     table: &[u32],
 ) -> bool
-    requires { ⌜ TableOf frame sizes (now table) × Measured blocks ⌝ }
+    requires { ⌜ TableOf frame sizes (now table) × BlocksFit blocks ⌝ }
     ensures { λ r. ⌜ r ≡ (on && someNotHeld frame blocks (now (table .entry))) ⌝ }
 {
     if on {

@@ -42,16 +42,16 @@ rows-of-spec = tie.close
     (tie.spec
     Inv-loop
     μ-loop
-    (λ c. let g = c .before .before .before .pre .1 .layout in omega (arith, mul-le-mul (g .high) (g .wide)))
+    (λ c. let g = c .before .before .before .pre .1 .layout in omega (arith, mul-le-mul (g .height-le) (g .width-le)))
     (λ c. c .before .before .before .before .pre .0 .above)
-    (λ c. let p = c .before .before .before .before .before .pre in omega (arith, p .1 .layout .high, p .1 .layout .down, p .0 .below))
+    (λ c. let p = c .before .before .before .before .before .pre in omega (arith, p .1 .layout .height-le, p .1 .layout .down, p .0 .below))
     (λ c. (omega arith, refl, rows-none _ _ _ _ _ _ _))
-    (λ c. let p = start c .pre in omega (arith, p .1 .layout .high, p .1 .layout .down, p .0 .below))
+    (λ c. let p = start c .pre in omega (arith, p .1 .layout .height-le, p .1 .layout .down, p .0 .below))
     (λ c. omega (arith, room c))
     (λ c. start (c .before) .pre .0 .left)
-    (λ c. let p = start (c .before .before) .pre in omega (arith, p .1 .layout .wide, p .1 .layout .across, p .0 .right))
-    (λ c. let p = start (c .before .before) .pre in omega (arith, room (c .before .before), p .1 .layout .wide, p .1 .layout .across, p .0 .right))
-    (λ c. let p = start (c .before .before) .pre in omega (arith, c .before .before .loop-test .taken, p .1 .down, p .1 .layout .high, p .1 .layout .down))
+    (λ c. let p = start (c .before .before) .pre in omega (arith, p .1 .layout .width-le, p .1 .layout .across, p .0 .right))
+    (λ c. let p = start (c .before .before) .pre in omega (arith, room (c .before .before), p .1 .layout .width-le, p .1 .layout .across, p .0 .right))
+    (λ c. let p = start (c .before .before) .pre in omega (arith, c .before .before .loop-test .taken, p .1 .down, p .1 .layout .height-le, p .1 .layout .down))
     (λ c κs. search needs)
     (λ c κs. let d = c .before .before .before .before in let p = start d .pre in let r = room d in
     (r .stride-pos, r .cols-le, omega (arith, first-small _ _ (c .before .first-slope .ensures), p .3), omega (arith, d .before .loop .inv .1, p .2), omega (arith, r .end-le, p .2)))

@@ -27,10 +27,10 @@ module _ (c : tie.Else2) where
   fits = layout-fits _ (sym (c .before .before .layout-fits .ensures) ∙ not-false _ (c .before .if1 .left))
 
   rows : c .before .before .before .args .n * c .before .before .before .args .l .image .height ≤ 3 * 16384
-  rows = mul-le-mul (c .if2 .left) (fits .high)
+  rows = mul-le-mul (c .if2 .left) (fits .height-le)
 
   samples : c .before .before .before .args .n * c .before .before .before .args .l .image .height * c .before .before .before .args .l .image .width ≤ 3 * 16384 * 16384
-  samples = mul-le-mul rows (fits .wide)
+  samples = mul-le-mul rows (fits .width-le)
 
 pub set-fits-spec : {M : Type 1} → statement M
 set-fits-spec =

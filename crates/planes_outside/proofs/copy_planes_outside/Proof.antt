@@ -29,7 +29,7 @@ module _ (c : tie.In-loop Inv-loop μ-loop) where
   start = c .before .before .before .before
 
   here : RowsRoom (start .args .l .image .width) (start .args .l .image .height) (start .args .n) (c .before .loop .c) (start .args .from) (start .args .rows)
-  here = rows-room _ _ _ _ _ _ (start .pre .0 .wide) (start .pre .0 .high) (start .pre .1 .3) (start .pre .1 .0) (c .loop-test .taken)
+  here = rows-room _ _ _ _ _ _ (start .pre .0 .width-le) (start .pre .0 .height-le) (start .pre .1 .3) (start .pre .1 .0) (c .loop-test .taken)
 
 loop-again : tie.Need-loop-again Inv-loop μ-loop
 loop-again c =

@@ -35,8 +35,8 @@ record Room (c n : ℕ) (l : Layout) : Type 0 where
 room : (c n : ℕ) (l : Layout) → c < n → n ≤ 3 → LayoutFits l → Room c n l
 room c n l p q f =
     let few : c ≤ 3 = omega arith in
-    let h : l .height ≤ 16384 = omega (arith, f .high, f .down) in
-    let w : l .width ≤ 16384 = omega (arith, f .wide, f .across) in
+    let h : l .height ≤ 16384 = omega (arith, f .height-le, f .down) in
+    let w : l .width ≤ 16384 = omega (arith, f .width-le, f .across) in
     let g : c * l .height ≤ 3 * 16384 = mul-le-mul few h in
     let k : c * l .height + l .height ≤ n * l .height = omega (arith, suc-mul c (l .height), mul-le-mul-right (l .height) p) in
     record {

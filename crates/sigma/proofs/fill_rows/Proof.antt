@@ -9,7 +9,7 @@ use denote.Ref.{now}
 use lib.ListN.{length}
 use Rattle.planes.specs.Fill.{fill}
 use Rattle.sigma_groups.specs.Measures.{blocksAcross, blocksDown}
-use Rattle.sigma_groups.proofs.Measured.{down-le}
+use Rattle.sigma_groups.proofs.BlocksFit.{down-le}
 use Rattle.sigma.proofs.Runs.{flatSigma, row-fits, rows-turn, rows-end}
 use Rattle.sigma.proofs.fill_rows.Statement.{statement}
 use Rattle.sigma.proofs.fill_rows.Tie as tie
@@ -85,11 +85,11 @@ fill-rows-spec =
     (λ c κs. search needs)
     (λ c κs. search needs)
     loop-holds
-    (λ c. omega (arith, start (c .before) .pre .0 .measured-blocks .top-le, down-le _ (start (c .before) .pre .0 .measured-blocks), y-lt (c .before)))
+    (λ c. omega (arith, start (c .before) .pre .0 .blocks-fit .top-le, down-le _ (start (c .before) .pre .0 .blocks-fit), y-lt (c .before)))
     fill-row-requires
     (λ c. omega (arith, room (c .before .before .before .before .before), start (c .before .before .before .before .before) .good))
     (λ c. omega (arith, room (c .before .before .before .before .before), start (c .before .before .before .before .before) .good))
-    (λ c. omega (arith, (c .before .before .before .before .before) .loop-test .taken, down-le _ (start (c .before .before .before .before .before) .pre .0 .measured-blocks), y-lt (c .before .before .before .before .before)))
+    (λ c. omega (arith, (c .before .before .before .before .before) .loop-test .taken, down-le _ (start (c .before .before .before .before .before) .pre .0 .blocks-fit), y-lt (c .before .before .before .before .before)))
     (λ c. omega (arith, (c .before .before .before .before .before) .loop-test .taken))
     loop-again
     (λ c. c .before .loop .inv .2)

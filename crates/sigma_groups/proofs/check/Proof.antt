@@ -13,7 +13,7 @@ use Rattle.frame.proofs.Laws.{frame-sizes}
 use Rattle.sigma_groups.specs.declared.blocks.Blocks.{Blocks}
 use Rattle.frame.specs.Outcome.{badSides, badSettings}
 use Rattle.sigma_groups.specs.Measures.{badBlocks}
-use Rattle.sigma_groups.proofs.Measured.{boundsFit}
+use Rattle.sigma_groups.proofs.BlocksFit.{fits-blocks}
 use Rattle.sigma_groups.proofs.Laws.{sides-bad, sides-fit, settings-bad, settings-fit}
 use Rattle.sigma_groups.proofs.Number as number
 use Rattle.sigma_groups.proofs.check.Statement.{statement}
@@ -51,27 +51,27 @@ returns c =
 
 -- after the test of the frame's sides
 module _ (c : tie.After-bad-blocks) where
-  abbrev sizeFits : tie.After-group-sizes
-  sizeFits = c .before .before .before
+  abbrev sizes-made : tie.After-group-sizes
+  sizes-made = c .before .before .before
 
-  sides-good : badSides (f (start sizeFits)) ≡ false
-  sides-good = sides-fit (badSides (f (start sizeFits))) (badSettings (f (start sizeFits))) (λ e. c .before .if1 .left (number-is sizeFits ∙ e))
+  sides-good : badSides (f (start sizes-made)) ≡ false
+  sides-good = sides-fit (badSides (f (start sizes-made))) (badSettings (f (start sizes-made))) (λ e. c .before .if1 .left (number-is sizes-made ∙ e))
 
 returns-2 : tie.Need-returns-2
 returns-2 c =
     let d = c .before in
-    let s = start (sizeFits d) in
+    let s = start (sizes-made d) in
     number.blocks-out (s .args .on) (f s) (b s) (t s) (grids s) (n s) (sides-good d) (sym (d .bad-blocks .ensures) ∙ c .if2 .taken)
 
 -- after the test of the filter region
 module _ (c : tie.Else2) where
-  blocks-good : badBlocks (b (start (sizeFits (c .before)))) ≡ false
+  blocks-good : badBlocks (b (start (sizes-made (c .before)))) ≡ false
   blocks-good = sym (c .before .bad-blocks .ensures) ∙ c .if2 .left
 
 check-table-requires : tie.Need-check-table-requires
 check-table-requires c κs =
     let e = c .before .before .before in
-    let d = sizeFits (e .before) in
+    let d = sizes-made (e .before) in
     let z = settings-fit (badSides (f (start d))) (badSettings (f (start d))) (sym (number-is d) ∙ c .before .if3 .taken) in
     record {
       sides = z .0;
@@ -88,11 +88,11 @@ module _ (c : tie.Else3) where
   else2 = c .before .before
 
   abbrev start3 : tie.Start
-  start3 = start (sizeFits (else2 .before))
+  start3 = start (sizes-made (else2 .before))
 
   settings-bad3 : badSettings (f start3) ≡ true
   settings-bad3 =
-      let d = sizeFits (else2 .before) in
+      let d = sizes-made (else2 .before) in
       settings-bad (badSides (f start3)) (badSettings (f start3)) (λ e. else2 .before .before .if1 .left (number-is d ∙ e)) (λ e. c .if3 .left (number-is d ∙ e))
 
 returns-4 : tie.Need-returns-4
@@ -119,6 +119,6 @@ check-spec =
     returns-2
     check-table-requires
     (λ c. search needs)
-    (λ c κs. boundsFit (b (start3 c)) (blocks-good (else2 c)))
+    (λ c κs. fits-blocks (b (start3 c)) (blocks-good (else2 c)))
     returns-4
     returns-5)

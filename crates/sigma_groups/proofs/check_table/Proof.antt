@@ -22,8 +22,8 @@ use Rattle.sigma_grids.specs.Table.{someBelow, badGrid, badPresence, gridStart}
 use Rattle.sigma_groups.specs.Held.{someNotHeld}
 use Rattle.sigma_groups.specs.Outcome.{tableFits, someGroup, gridsFit}
 use Rattle.sigma_groups.specs.Fitting.{TableOf}
-use Rattle.sigma_groups.specs.Measured.{Measured}
-use Rattle.sigma_groups.proofs.Measured.{boundsFit}
+use Rattle.sigma_groups.specs.BlocksFit.{BlocksFit}
+use Rattle.sigma_groups.proofs.BlocksFit.{fits-blocks}
 use Rattle.sigma_groups.proofs.Number as number
 use Rattle.sigma_groups.proofs.check_table.Statement.{statement}
 use Rattle.sigma_groups.proofs.check_table.Tie as tie
@@ -44,8 +44,8 @@ module _ (s : tie.Start) where
   abbrev n : ℕ
   n = s .args .sigmas-len
 
-  blocks-bounds : Measured b
-  blocks-bounds = boundsFit b (s .pre .blocks)
+  blocks-bounds : BlocksFit b
+  blocks-bounds = fits-blocks b (s .pre .blocks)
 
 wrong-is : (r p q : Bool) (len k m : ℕ) → r ≡ (not p && not (eqb len k)) → p ≡ q → k ≡ m → r ≡ (not q && not (eqb len m))
 wrong-is r p q len k m e pe ke = e ∙ rw (pe, ke)

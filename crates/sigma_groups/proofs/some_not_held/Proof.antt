@@ -6,7 +6,7 @@ use borrow.Author.Needs.{needs}
 use native.Mathlib.Omega.{arith}
 use Rattle.sigma_grids.specs.Table.{someBelow}
 use Rattle.sigma_groups.specs.Held.{notHeld, someNotHeld}
-use Rattle.sigma_groups.proofs.Measured.{across-le}
+use Rattle.sigma_groups.proofs.BlocksFit.{across-le}
 use Rattle.sigma_grids.proofs.Laws.{some-found, some-turn, some-end}
 use Rattle.sigma_groups.proofs.some_not_held.Statement.{statement}
 use Rattle.sigma_groups.proofs.some_not_held.Tie as tie

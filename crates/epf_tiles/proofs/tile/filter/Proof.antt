@@ -42,11 +42,11 @@ returns c =
 pub filter-spec : {M : Type 1} → statement M
 filter-spec = tie.close
     (tie.spec
-    (λ c κs. let p = c .before .before .before .before .before .before .pre .0 in omega (arith, p .tile .across, p .tile .down, p .room .layout .across, p .room .layout .wide, p .room .layout .down, p .room .layout .high))
+    (λ c κs. let p = c .before .before .before .before .before .before .pre .0 in omega (arith, p .tile .across, p .tile .down, p .room .layout .across, p .room .layout .width-le, p .room .layout .down, p .room .layout .height-le))
     (λ c κs. omega (arith, c .before .before .before .before .before .before .before .before .pre .0 .tile .cols-le))
     (λ c κs. search needs)
     (λ c κs. search needs)
-    (λ c. let p = start (c .before .before .before .before .before .before .before .before .before .before .before) .pre .0 in omega (arith, p .tile .down, p .room .layout .down, p .room .layout .high, p .top-le))
+    (λ c. let p = start (c .before .before .before .before .before .before .before .before .before .before .before) .pre .0 in omega (arith, p .tile .down, p .room .layout .down, p .room .layout .height-le, p .top-le))
     (λ c κs. search needs)
     (λ c. search needs)
     returns

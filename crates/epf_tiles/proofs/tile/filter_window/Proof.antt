@@ -27,7 +27,7 @@ filter-window-spec = tie.close
     (λ c. search needs)
     (λ c κs. search needs)
     (λ c κs. search needs)
-    (λ c. let p = c .before .before .before .before .before .before .before .before .before .before .before .before .before .before .before .before .before .before .pre .0 in omega (arith, p .tile .down, p .room .layout .down, p .room .layout .high, p .top-le))
+    (λ c. let p = c .before .before .before .before .before .before .before .before .before .before .before .before .before .before .before .before .before .before .pre .0 in omega (arith, p .tile .down, p .room .layout .down, p .room .layout .height-le, p .top-le))
     (λ c κs. search needs)
     (λ c κs. search needs)
     (λ c. search needs)

@@ -31,7 +31,7 @@ returns-2 c =
 pub tile-spec : {M : Type 1} → statement M
 tile-spec = tie.close
     (tie.spec
-    (λ c κs. let p = c .before .before .before .before .before .pre .0 in omega (arith, p .tile .across, p .tile .down, p .room .layout .across, p .room .layout .wide, p .room .layout .down, p .room .layout .high))
+    (λ c κs. let p = c .before .before .before .before .before .pre .0 in omega (arith, p .tile .across, p .tile .down, p .room .layout .across, p .room .layout .width-le, p .room .layout .down, p .room .layout .height-le))
     (λ c κs. omega (arith, start c .pre .0 .tile .cols-le))
     (λ c κs. omega (arith, c .before .first-sigma .ensures, c .blocks-of .ensures, start (c .before) .pre .1 .0))
     (λ c κs. search needs)

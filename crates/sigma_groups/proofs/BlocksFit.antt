@@ -10,11 +10,11 @@ use Rattle.frame.specs.Outcome.{badSide}
 use Rattle.sigma_grids.proofs.Laws.{neither, side-range}
 use Rattle.sigma_groups.specs.declared.blocks.Blocks.{Blocks}
 use Rattle.sigma_groups.specs.Measures.{blocksAcross, blocksDown, badBlocks}
-use Rattle.sigma_groups.specs.Measured.{Measured}
+use Rattle.sigma_groups.specs.BlocksFit.{BlocksFit}
 
-pub boundsFit : (b : Blocks) → badBlocks b ≡ false → Measured b
+pub fits-blocks : (b : Blocks) → badBlocks b ≡ false → BlocksFit b
 unfolding badBlocks
-boundsFit b h =
+fits-blocks b h =
     let t = neither _ (ltb 131072 (b .top)) h in
     let l = neither _ (ltb 131072 (b .left)) (t .0) in
     let a = neither _ (ltb 16777216 (b .width * b .height)) (l .0) in
@@ -32,11 +32,11 @@ boundsFit b h =
     }
 
 -- at most 2,048 blocks across and down
-pub across-le : (b : Blocks) → Measured b → blocksAcross b ≤ 2048
+pub across-le : (b : Blocks) → BlocksFit b → blocksAcross b ≤ 2048
 across-le b m = omega (arith, m .width-le)
 
-pub down-le : (b : Blocks) → Measured b → blocksDown b ≤ 2048
+pub down-le : (b : Blocks) → BlocksFit b → blocksDown b ≤ 2048
 down-le b m = omega (arith, m .height-le)
 
-pub count-le : (b : Blocks) → Measured b → blocksDown b * blocksAcross b ≤ 4194304
+pub count-le : (b : Blocks) → BlocksFit b → blocksDown b * blocksAcross b ≤ 4194304
 count-le b m = mul-le-mul (down-le b m) (across-le b m)

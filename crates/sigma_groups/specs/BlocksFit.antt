@@ -3,7 +3,7 @@ use Prim.Native.Nat.{_*_, _≤_}
 use Rattle.sigma_groups.specs.declared.blocks.Blocks.{Blocks}
 
 -- the bounds of a filter region within the limits; left and top in blocks
-pub record Measured (b : Blocks) : Type 0 where
+pub record BlocksFit (b : Blocks) : Type 0 where
   pub width-pos : 1 ≤ b .width
   pub width-le : b .width ≤ 16384
   pub height-pos : 1 ≤ b .height
