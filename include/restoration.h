@@ -37,11 +37,14 @@ enum {
     RESTORATION_OUT_OF_LIMITS = 4, // a side, area, left or top is out of range
     RESTORATION_NOT_INSIDE = 5, // the filter region is not inside the image region
     RESTORATION_NOT_ON_BLOCKS = 6, // the filter region's left or top is negative or no multiple of 8
-    RESTORATION_WRONG_LENGTH = 7, // a slice has a wrong length
+    RESTORATION_WRONG_LENGTH = 7, // a slice has a wrong length, or a cut file is longer than 16,777,216 bytes
     RESTORATION_BLOCK_NOT_HELD = 8, // a block of the filter region has no group, or its group's grid does not hold it
-    RESTORATION_OUT_OF_RANGE = 9, // a setting is out of range, or a run record is not valid
+    RESTORATION_OUT_OF_RANGE = 9, // a setting is out of range, a run record is not valid, or there is no such rectangle
     RESTORATION_BAND_NOT_OPEN = 10, // there is no such band, or it is done already, or the run is finished
     RESTORATION_PASS_NOT_DONE = 11, // an advance with a band missing or after the finish, or a result before the finish
+    RESTORATION_NOT_A_CUT_FILE = 12, // the marker of a cut file is wrong, or its count of rectangles is not 1 to 64
+    RESTORATION_BAD_ENTRY = 13, // an entry of a cut file has a side, area, left or top out of range, or a wrong offset
+    RESTORATION_WRONG_END = 14, // a cut file ends before or after its last rectangle does
 };
 
 // A rectangle of samples: the column and row of its corner, and its sides. It is empty if a side is 0.

@@ -1,5 +1,5 @@
 -- The number that a call returns: that of the first check that applies in an ordered table.
--- Numbers ascend in each table. A check is passed over where its condition needs a value that is itself out of range (Specification 3.2).
+-- Numbers ascend in each table but those of cut files (Specification 16.5, 16.7). A check is passed over where its condition needs a value that is itself out of range (Specification 3.2).
 use mathlib.Core.Bool.{Bool, true, cond, _&&_}
 use mathlib.Core.List.{List, [], _∷_}
 use Prim.Native.Nat.{ℕ}

@@ -47,3 +47,15 @@ bandNotOpen = 10
 -- advance: a band is missing or the run is finished; result: the run is not finished
 abbrev pub passNotDone : ℕ
 passNotDone = 11
+
+-- cut file: a wrong marker, or a count of rectangles that is not 1 to 64
+abbrev pub notACutFile : ℕ
+notACutFile = 12
+
+-- cut file: an entry exceeds the limits of an image region, or its body does not start at the end of what precedes it
+abbrev pub badEntry : ℕ
+badEntry = 13
+
+-- cut file: the file ends inside its marker, count or table, or before or after the end of its last body
+abbrev pub wrongEnd : ℕ
+wrongEnd = 14

@@ -30,6 +30,13 @@ pub const BAND_NOT_OPEN: u32 = 10;
 
 pub const PASS_NOT_DONE: u32 = 11;
 
+// From a cut file.
+pub const NOT_A_CUT_FILE: u32 = 12;
+
+pub const BAD_ENTRY: u32 = 13;
+
+pub const WRONG_END: u32 = 14;
+
 // A flag is a number: 0 is no, 1 is yes, and any other value is out of range (Specification 2.6).
 const YES: u32 = 1;
 

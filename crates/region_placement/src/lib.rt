@@ -33,7 +33,7 @@ fn area_fits(width: u32, height: u32) -> bool
 }
 
 // Whether a region is within the limits of an image or filter region.
-fn picture_fits(r: Region) -> bool
+pub fn picture_fits(r: Region) -> bool
     ensures { λ b. ⌜ b ≡ pictureFits r ⌝ }
 {
     if !bounds_fit(r) {

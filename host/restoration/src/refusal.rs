@@ -50,11 +50,14 @@ refusals! {
     4 OutOfLimits "a side, area, left or top is out of range"
     5 NotInside "the filter region is not inside the image region"
     6 NotOnBlocks "the filter region's left or top is negative or no multiple of 8"
-    7 WrongLength "a slice has a wrong length"
+    7 WrongLength "a slice has a wrong length, or a cut file is longer than 16,777,216 bytes"
     8 BlockNotHeld "a block of the filter region has no group, or its group's grid does not hold it"
-    9 OutOfRange "a setting is out of range, or a run record is not valid"
+    9 OutOfRange "a setting is out of range, a run record is not valid, or there is no such rectangle"
     10 BandNotOpen "there is no such band, or it is done already, or the run is finished"
     11 PassNotDone "an advance with a band missing or after the finish, or a result before the finish"
+    12 NotACutFile "the marker of a cut file is wrong, or its count of rectangles is not 1 to 64"
+    13 BadEntry "an entry of a cut file has a side, area, left or top out of range, or a wrong offset"
+    14 WrongEnd "a cut file ends before or after its last rectangle does"
 }
 
 impl fmt::Display for Refusal {

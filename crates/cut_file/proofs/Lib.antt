@@ -1,0 +1,4 @@
+pub mod Laws
+pub mod FileLaws
+pub mod Written
+pub mod Contents

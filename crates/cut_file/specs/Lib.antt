@@ -1,0 +1,5 @@
+pub mod File
+pub mod Read
+pub mod Write
+pub mod Entry
+pub mod Examples
