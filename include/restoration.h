@@ -240,6 +240,30 @@ typedef struct RestorationRunAnswer {
     RestorationRun run;
 } RestorationRunAnswer;
 
+// The number of rectangles in a file.
+typedef struct RestorationCountAnswer {
+    uint32_t number;
+    uint32_t count;
+} RestorationCountAnswer;
+
+// The region of a rectangle.
+typedef struct RestorationCutAnswer {
+    uint32_t number;
+    RestorationRegion region;
+} RestorationCutAnswer;
+
+// The rectangles of a file: the first `count` of the regions.
+typedef struct RestorationCutTable {
+    uint32_t count;
+    RestorationRegion regions[64];
+} RestorationCutTable;
+
+// The length of a file, in bytes.
+typedef struct RestorationLengthAnswer {
+    uint32_t number;
+    size_t length;
+} RestorationLengthAnswer;
+
 // == The C boundary of regions
 
 // Returns whether a region is empty: its width or height is 0.
@@ -509,6 +533,45 @@ uint32_t restoration_result(
     const float *second, size_t second_len,
     float *out, size_t out_len);
 
+// == The C boundary of cut files
+
+// Returns the number of rectangles in a cut file, after checking all of the file but its samples.
+// Numbers, the first that applies in this order: 7 if the file is longer than 16,777,216 bytes; 14 if it ends inside
+// the marker; 12 if the marker is wrong; 14 if it ends inside the count; 12 if the count is not 1 to 64; for each entry
+// in turn, 14 if the file ends inside it and 13 if its sides, area, left or top exceed the limits of an image region or
+// its offset is not the end of what precedes its body; 14 if the file does not end where its last body does; 0.
+// A refused call returns 0 in every other field.
+RestorationCountAnswer restoration_cut_count(const uint8_t *file, size_t file_len);
+
+// Returns the region of rectangle `k`, counted from 0, of a cut file.
+// Numbers: those of `restoration_cut_count`; then 9 if `k` is not below the number of rectangles. A refused call
+// returns 0 in every other field.
+RestorationCutAnswer restoration_cut_region(const uint8_t *file, size_t file_len, uint32_t k);
+
+// Returns the region of rectangle `k`, counted from 0, of a cut file, and stores its samples: the bits of 3 x width x
+// height binary32 numbers, plane after plane, row after row.
+// Numbers: those of `restoration_cut_region`; then 7 if `samples` does not have exactly that length. A refused call
+// returns 0 in every other field and leaves `samples` unchanged.
+RestorationCutAnswer restoration_read_cut(
+    const uint8_t *file, size_t file_len,
+    uint32_t k,
+    uint32_t *samples, size_t samples_len);
+
+// Returns the length, in bytes, of the cut file with the first `count` regions of a table.
+// Numbers, the first that applies in this order: 12 if the count is not 1 to 64; 4 if the sides, area, left or top of
+// one of these regions exceed the limits of an image region; 7 if the file would be longer than 16,777,216 bytes; 0. A
+// refused call returns 0 in every other field.
+RestorationLengthAnswer restoration_cut_length(RestorationCutTable table);
+
+// Writes the cut file with the first `count` regions of a table and their samples: the bits of binary32 numbers,
+// rectangle after rectangle, each plane after plane, row after row.
+// Numbers: those of `restoration_cut_length`; then 7 if `samples` does not have exactly the samples of these
+// rectangles, or `file` exactly the bytes of the file. A refused call leaves `file` unchanged.
+uint32_t restoration_write_cut(
+    RestorationCutTable table,
+    const uint32_t *samples, size_t samples_len,
+    uint8_t *file, size_t file_len);
+
 // == Sizes and offsets, as the library has them
 
 static_assert(sizeof(RestorationRegion) == 16, "RestorationRegion");
@@ -620,6 +683,18 @@ static_assert(offsetof(RestorationRun, done) == 108, "done");
 static_assert(sizeof(RestorationRunAnswer) == 368, "RestorationRunAnswer");
 static_assert(offsetof(RestorationRunAnswer, number) == 0, "number");
 static_assert(offsetof(RestorationRunAnswer, run) == 4, "run");
+static_assert(sizeof(RestorationCountAnswer) == 8, "RestorationCountAnswer");
+static_assert(offsetof(RestorationCountAnswer, number) == 0, "number");
+static_assert(offsetof(RestorationCountAnswer, count) == 4, "count");
+static_assert(sizeof(RestorationCutAnswer) == 20, "RestorationCutAnswer");
+static_assert(offsetof(RestorationCutAnswer, number) == 0, "number");
+static_assert(offsetof(RestorationCutAnswer, region) == 4, "region");
+static_assert(sizeof(RestorationCutTable) == 1028, "RestorationCutTable");
+static_assert(offsetof(RestorationCutTable, count) == 0, "count");
+static_assert(offsetof(RestorationCutTable, regions) == 4, "regions");
+static_assert(sizeof(RestorationLengthAnswer) == 16, "RestorationLengthAnswer");
+static_assert(offsetof(RestorationLengthAnswer, number) == 0, "number");
+static_assert(offsetof(RestorationLengthAnswer, length) == 8, "length");
 
 #ifdef __cplusplus
 }

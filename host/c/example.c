@@ -1,4 +1,4 @@
-// One refused call of each function of the C boundary, and a whole run of each filter. Prints how many answers were compared; exits with 1 if one differs.
+// One refused call of each function of the C boundary, a whole run of each filter, and a cut file. Prints how many answers were compared; exits with 1 if one differs.
 #include "restoration.h"
 
 #include <stdio.h>
@@ -230,6 +230,38 @@ static void epf_run(void)
     COMPARE(restoration_advance(run).number == RESTORATION_ACCEPTED);
 }
 
+// Specification 16: two rectangles, the second left of the picture; a NaN with bits of its own among the samples.
+static void cuts(void)
+{
+    enum { RECTANGLES = 2, FIRST = PLANES * 2, SECOND = PLANES * 3, FILE_BYTES = 6 + 16 * RECTANGLES + 4 * (FIRST + SECOND) };
+    static const unsigned char entry[] = {0x3E, 0, 0, 0, 0xFD, 0xFF, 0xFF, 0xFF, 7, 0, 0, 0, 1, 0, 3, 0};
+    static const unsigned char nan[] = {1, 0, 0x80, 0xFF};
+    RestorationCutTable cut = {.count = 0, .regions = {{.width = 2, .height = 1}, {.left = -3, .top = 7, .width = 1, .height = 3}}};
+    uint32_t samples[FIRST + SECOND], back[SECOND] = {5};
+    unsigned char file[FILE_BYTES] = {6};
+    for (uint32_t sample = 0; sample < FIRST + SECOND; sample++)
+        samples[sample] = 0xFF800001 - sample;
+
+    REFUSED(RestorationLengthAnswer, restoration_cut_length(cut), RESTORATION_NOT_A_CUT_FILE, a.length == 0);
+    cut.count = RECTANGLES;
+    COMPARE(restoration_cut_length(cut).length == FILE_BYTES);
+    REFUSED_NUMBER(restoration_write_cut(cut, samples, FIRST, file, FILE_BYTES), RESTORATION_WRONG_LENGTH, file);
+    REFUSED_NUMBER(restoration_write_cut(cut, samples, FIRST + SECOND, file, FILE_BYTES - 1), RESTORATION_WRONG_LENGTH, file);
+    COMPARE(restoration_write_cut(cut, samples, FIRST + SECOND, file, FILE_BYTES) == RESTORATION_ACCEPTED);
+    COMPARE(memcmp(file, "KCUT\x02\0\x26\0\0", 10) == 0 && memcmp(file + 22, entry, sizeof entry) == 0 && memcmp(file + 38, nan, sizeof nan) == 0);
+
+    COMPARE(restoration_cut_count(file, FILE_BYTES).count == RECTANGLES);
+    REFUSED(RestorationCountAnswer, restoration_cut_count(file, FILE_BYTES - 1), RESTORATION_WRONG_END, a.count == 0);
+    REFUSED(RestorationCutAnswer, restoration_cut_region(file, FILE_BYTES, RECTANGLES), RESTORATION_OUT_OF_RANGE, ZEROS(a.region));
+    REFUSED(RestorationCutAnswer, restoration_read_cut(file, FILE_BYTES, 1, back, FIRST), RESTORATION_WRONG_LENGTH, ZEROS(a.region) && back[0] == 5);
+    RestorationCutAnswer answer = restoration_read_cut(file, FILE_BYTES, 1, back, SECOND);
+    COMPARE(answer.number == RESTORATION_ACCEPTED && memcmp(&answer.region, &cut.regions[1], sizeof answer.region) == 0);
+    COMPARE(memcmp(back, samples + FIRST, sizeof back) == 0);
+    file[22] ^= 1;
+    REFUSED(RestorationCutAnswer, restoration_read_cut(file, FILE_BYTES, 1, back, SECOND), RESTORATION_BAD_ENTRY, ZEROS(a.region));
+    COMPARE(memcmp(back, samples + FIRST, sizeof back) == 0);
+}
+
 int main(void)
 {
     regions();
@@ -238,6 +270,7 @@ int main(void)
     passes();
     gabor_run();
     epf_run();
-    printf("from C: %u refused calls and two whole runs, %u answers compared; differing: %u\n", refused, compared, differing);
+    cuts();
+    printf("from C: %u refused calls, two whole runs and a cut file, %u answers compared; differing: %u\n", refused, compared, differing);
     return differing > 0;
 }

@@ -9,6 +9,7 @@ macro_rules! say {
     }};
 }
 
+mod cut;
 mod engraving;
 mod error;
 mod lettering;
@@ -31,8 +32,9 @@ use std::{
     process::ExitCode,
 };
 
+use cut::Cut;
 use error::{Error, Of, quoted};
-use options::{Chosen, Command, Job, Rect};
+use options::{Command, Job, Output, Rect};
 use picture::Picture;
 use restoration::{Refusal, Region};
 use smooth::Filters;
@@ -58,32 +60,66 @@ fn run() -> Result<bool, Error> {
     match options::parse(env::args_os().skip(1))? {
         Command::Help => say!("{}", options::HELP.trim_end()),
         Command::Version => say!("demo {}", env!("CARGO_PKG_VERSION")),
-        Command::Show(folder) => return show::show(&folder),
-        Command::Smooth(job) => smooth_file(job)?,
+        Command::Show(folder, cut) => return show::show(&folder, cut),
+        Command::Smooth(job) => return smooth_file(job),
     }
     Ok(true)
 }
 
-fn smooth_file(job: Job) -> Result<(), Error> {
+fn smooth_file(job: Job) -> Result<bool, Error> {
     let name = job.input.input_name();
     let invalid = |what| Error::invalid(format!("{name}: {what}"));
     let file = pfm::parse(job.input.read()?).map_err(invalid)?;
     smooth::check_regions(file.region, file.region).of(|| format!("{name} ({})", file.sides))?;
     let (picture, scale) = file.picture().map_err(invalid)?;
-    let part = part(picture.region, job.rect)?;
-    let smooth = smoothed(picture, part, &job.filters).of(|| name.clone())?;
-    job.output.write(pfm::bytes(&smooth, &scale))?;
-    if let Stream::File(path) = &job.output {
-        let Region {
-            left,
-            top,
-            width,
-            height,
-        } = part;
-        let path = quoted(path);
-        say!("wrote {path}: {width} x {height} at {left}, {top}");
+    let filters = Filters::of_one_sigma(picture.region, smooth::settings(&job.filters));
+    let filters = filters.of(|| name.clone())?;
+    match job.output {
+        Output::Picture(output, rect) => {
+            let part = part(picture.region, rect)?;
+            let smooth = smoothed(picture, part, &filters).of(|| name.clone())?;
+            output.write(pfm::bytes(&smooth, &scale))?;
+            say_written(&output, part);
+            Ok(true)
+        }
+        Output::Cut(path, rects) => {
+            let parts = parts(picture.region, rects)?;
+            let subject = || format!("{} ({})", quoted(&path), cut::counted(parts.len()));
+            cut::check(&parts).of(subject)?;
+            let smooth = rectangles::smoothed(&picture, &filters, &parts).of(|| name.clone())?;
+            let cut = Cut::new(&smooth).of(subject)?;
+            let said = format!("wrote {}: {}", quoted(&path), cut.summary());
+            let agrees = cut.agrees();
+            Stream::File(path).write(cut.bytes)?;
+            say!("{said}");
+            Ok(agrees)
+        }
     }
-    Ok(())
+}
+
+fn say_written(output: &Stream, part: Region) {
+    let Stream::File(path) = output else {
+        return;
+    };
+    let Region {
+        left,
+        top,
+        width,
+        height,
+    } = part;
+    let path = quoted(path);
+    say!("wrote {path}: {width} x {height} at {left}, {top}");
+}
+
+/// The rectangles of a picture to smooth, or all of it.
+fn parts(picture: Region, rects: Vec<Rect>) -> Result<Vec<Region>, Error> {
+    if rects.is_empty() {
+        return Ok(vec![picture]);
+    }
+    rects
+        .into_iter()
+        .map(|rect| part(picture, Some(rect)))
+        .collect()
 }
 
 /// The part of a picture to smooth.
@@ -95,8 +131,7 @@ fn part(picture: Region, rect: Option<Rect>) -> Result<Region, Error> {
     Ok(rect.region)
 }
 
-fn smoothed(picture: Picture, part: Region, chosen: &Chosen) -> Result<Picture, Refusal> {
-    let filters = Filters::of_one_sigma(picture.region, smooth::settings(chosen))?;
+fn smoothed(picture: Picture, part: Region, filters: &Filters) -> Result<Picture, Refusal> {
     let widened = filters.widened(picture.region, part, filters.margin()?);
     Ok(filters.smooth(picture.into_part(widened))?.into_part(part))
 }

@@ -23,17 +23,24 @@ const MOST_ITERS: u32 = 3;
 pub enum Command {
     Help,
     Version,
-    /// Smooth the built-in picture and write its files to this folder.
-    Show(PathBuf),
+    /// Smooth the built-in picture and write its files to this folder, and its rectangles to this cut
+    /// file.
+    Show(PathBuf, Option<PathBuf>),
     Smooth(Job),
 }
 
 /// A picture to smooth.
 pub struct Job {
     pub input: Stream,
-    pub output: Stream,
-    pub rect: Option<Rect>,
+    pub output: Output,
     pub filters: Chosen,
+}
+
+pub enum Output {
+    /// The picture, or a rectangle of it.
+    Picture(Stream, Option<Rect>),
+    /// These rectangles, or if there are none the whole picture, in a cut file.
+    Cut(PathBuf, Vec<Rect>),
 }
 
 /// A rectangle, and the text that it was given as.
@@ -59,7 +66,8 @@ pub enum GaborChoice {
 struct Given {
     picture: Option<OsString>,
     output: Option<OsString>,
-    rect: Option<Rect>,
+    cut: Option<OsString>,
+    rects: Vec<Rect>,
     filters: Chosen,
 }
 
@@ -99,7 +107,8 @@ impl Given {
         };
         match name.as_bytes() {
             b"-o" | b"--output" => self.output = Some(value()?),
-            b"--rect" => self.rect = Some(read(name, &value()?, RECT)?),
+            b"--cut" => self.cut = Some(value()?),
+            b"--rect" => self.rects.push(read(name, &value()?, RECT)?),
             b"--gabor" => self.filters.gabor = Some(read(name, &value()?, WEIGHTS)?),
             b"--iters" => self.filters.iters = Some(read(name, &value()?, ITERS)?),
             b"--sigma" => self.filters.sigma = Some(read(name, &value()?, SIGMA)?),
@@ -113,21 +122,39 @@ impl Given {
         Ok(())
     }
 
-    fn command(self) -> Result<Command, Error> {
-        let Some(picture) = self.picture else {
-            return self.show();
+    fn command(mut self) -> Result<Command, Error> {
+        let cut = self.cut_file()?;
+        let Some(picture) = self.picture.take() else {
+            return self.show(cut);
         };
         let input = Stream::from(picture);
-        let output = self.output.map(Stream::from);
+        let output = match (self.output.map(Stream::from), cut) {
+            (Some(_), Some(_)) => {
+                return Err(Error::usage("--cut and -o: a picture has one output"));
+            }
+            (None, Some(file)) => Output::Cut(file, self.rects),
+            // The last rectangle counts.
+            (output, None) => {
+                let output = output.unwrap_or_else(|| input.default_output());
+                Output::Picture(output, self.rects.pop())
+            }
+        };
         Ok(Command::Smooth(Job {
-            output: output.unwrap_or_else(|| input.default_output()),
             input,
-            rect: self.rect,
+            output,
             filters: self.filters,
         }))
     }
 
-    fn show(self) -> Result<Command, Error> {
+    /// The cut file, which is read back and so is no stream.
+    fn cut_file(&mut self) -> Result<Option<PathBuf>, Error> {
+        match self.cut.take() {
+            Some(file) if file == "-" => Err(Error::usage("--cut -: must be a file")),
+            file => Ok(file.map(PathBuf::from)),
+        }
+    }
+
+    fn show(self, cut: Option<PathBuf>) -> Result<Command, Error> {
         if let Some(option) = self.picture_option() {
             return Err(Error::usage(format!("{option} needs a picture")));
         }
@@ -135,7 +162,10 @@ impl Given {
             Some(output) if output == "-" => Err(Error::usage(
                 "-o -: must be a folder if no picture is given",
             )),
-            output => Ok(Command::Show(output.unwrap_or("demo-out".into()).into())),
+            output => {
+                let folder = output.unwrap_or("demo-out".into());
+                Ok(Command::Show(folder.into(), cut))
+            }
         }
     }
 
@@ -147,7 +177,7 @@ impl Given {
             sigma,
         } = &self.filters;
         let options = [
-            ("--rect", self.rect.is_some()),
+            ("--rect", !self.rects.is_empty()),
             ("--no-gabor", matches!(gabor, Some(GaborChoice::Off))),
             ("--gabor", gabor.is_some()),
             ("--iters", iters.is_some()),

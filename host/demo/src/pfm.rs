@@ -6,7 +6,7 @@ use restoration::{CHANNELS, Region};
 use crate::{
     error::quoted,
     number,
-    picture::{Picture, at_corner, sample_count},
+    picture::{Picture, at_corner},
 };
 
 const COLOUR: &[u8] = b"PF";
@@ -129,7 +129,7 @@ impl Pfm {
     }
 
     fn check_length(&self, samples: usize, left_over: usize) -> Result<(), String> {
-        let (expected, sides) = (sample_count(self.region), &self.sides);
+        let (expected, sides) = (self.region.sample_count(), &self.sides);
         if samples < expected {
             return Err(format!(
                 "has {samples} of the {expected} samples of {sides}"

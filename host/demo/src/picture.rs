@@ -76,12 +76,6 @@ pub fn at_corner(width: u32, height: u32) -> Region {
     }
 }
 
-/// How many samples the planes of a region have, or the largest number where it does not fit.
-pub fn sample_count(region: Region) -> usize {
-    let area = (region.width as usize).saturating_mul(region.height as usize);
-    CHANNELS.saturating_mul(area)
-}
-
 /// The same bits, or two NaNs.
 fn agree(a: f32, b: f32) -> bool {
     a.to_bits() == b.to_bits() || a.is_nan() && b.is_nan()

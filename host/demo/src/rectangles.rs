@@ -15,10 +15,30 @@ pub fn lay(picture: &Picture, filters: &Filters, margin: u32) -> Result<Picture,
         planes: vec![f32::NAN; picture.planes.len()],
     };
     for part in rectangles(picture.region) {
-        let given = picture.cut(filters.widened(picture.region, part, margin));
-        laid.lay(&filters.smooth(given)?.into_part(part));
+        laid.lay(&rectangle(picture, filters, margin, part)?);
     }
     Ok(laid)
+}
+
+/// Parts of a picture, smoothed one by one with the margin that they need.
+pub fn smoothed(
+    picture: &Picture,
+    filters: &Filters,
+    parts: &[Region],
+) -> Result<Vec<Picture>, Refusal> {
+    let margin = filters.margin()?;
+    let smooth = |part: &Region| rectangle(picture, filters, margin, *part);
+    parts.iter().map(smooth).collect()
+}
+
+fn rectangle(
+    picture: &Picture,
+    filters: &Filters,
+    margin: u32,
+    part: Region,
+) -> Result<Picture, Refusal> {
+    let given = picture.cut(filters.widened(picture.region, part, margin));
+    Ok(filters.smooth(given)?.into_part(part))
 }
 
 pub fn rectangles(picture: Region) -> Vec<Region> {

@@ -1,17 +1,22 @@
 //! The built-in picture, smoothed whole and in rectangles laid edge to edge.
 
-use std::{hint::black_box, path::Path, time::Instant};
+use std::{
+    hint::black_box,
+    path::{Path, PathBuf},
+    time::Instant,
+};
 
 use restoration::{CHANNELS, Refusal, Region};
 
 use crate::{
+    cut::Cut,
     engraving,
     error::{Error, Of, quoted},
     number::grouped,
     options::Chosen,
     picture::{Picture, differing},
     png,
-    rectangles::{SIDES, lay, rectangles},
+    rectangles::{SIDES, lay, rectangles, smoothed},
     smooth::{self, Filters},
     store,
 };
@@ -26,10 +31,17 @@ const FAINT: f32 = 0.4;
 type Files = Vec<(&'static str, Vec<u8>)>;
 
 /// Whether all compared samples agree. Nothing is printed before all files are written.
-pub fn show(folder: &Path) -> Result<bool, Error> {
+pub fn show(folder: &Path, cut: Option<PathBuf>) -> Result<bool, Error> {
     let mut shown = Shown::new();
-    let (agree, files) = shown.files().of(|| "built-in picture".into())?;
-    store::all_in(folder, files)?;
+    let (mut agree, files) = shown.files().of(|| "built-in picture".into())?;
+    let mut others = Vec::new();
+    if let Some(path) = cut {
+        let file = shown.cut_file().of(|| quoted(&path))?;
+        agree &= file.agrees();
+        shown.say(format!("cut file    {}: {}", quoted(&path), file.summary()));
+        others.push((path, file.bytes));
+    }
+    store::all_in(folder, files, others)?;
     shown.say(format!(
         "written     before.png, after.png, seams.png (wrong samples in red) in {}",
         quoted(folder)
@@ -115,6 +127,12 @@ impl Shown {
         ));
         self.say("            each extended by the margin, aligned to blocks, and cropped".into());
         Ok(self.compare("compared", "whole picture", &laid?, whole))
+    }
+
+    /// The smoothed rectangles in a cut file.
+    fn cut_file(&self) -> Result<Cut, Refusal> {
+        let parts = rectangles(self.picture.region);
+        Cut::new(&smoothed(&self.picture, &self.filters, &parts)?)
     }
 
     /// Counts the samples that differ; none should.

@@ -4,7 +4,7 @@ use restoration::{BLOCK, Frame, Refusal, Region, Settings, Setup, Smoothing};
 
 use crate::{
     options::{Chosen, GaborChoice},
-    picture::{MOST_SAMPLES, Picture, at_corner, sample_count},
+    picture::{MOST_SAMPLES, Picture, at_corner},
 };
 
 /// Rows of a band: 256 bands hold the tallest picture.
@@ -103,7 +103,7 @@ fn header(bits: u8) -> Settings {
 pub fn check_regions(picture: Region, part: Region) -> Result<(), Refusal> {
     let setup = setup(picture, part, header(OFF));
     // Sides out of range are refused before lengths are compared.
-    let count = sample_count(picture);
+    let count = picture.sample_count();
     let samples = if count <= MOST_SAMPLES { count } else { 0 };
     let (mut first, second) = (vec![0.0; samples], vec![0.0; samples]);
     let (frame, table) = (frame(at_corner(1, 1)), [0; 3]);

@@ -19,15 +19,20 @@ pub fn all(files: &[(PathBuf, Vec<u8>)]) -> Result<(), Error> {
     name(parts.collect::<Result<_, _>>()?)
 }
 
-/// All files in a folder, which is created if absent.
-pub fn all_in(folder: &Path, files: Vec<(&str, Vec<u8>)>) -> Result<(), Error> {
+/// All files in a folder, which is created if absent, and others elsewhere.
+pub fn all_in(
+    folder: &Path,
+    files: Vec<(&str, Vec<u8>)>,
+    others: impl IntoIterator<Item = (PathBuf, Vec<u8>)>,
+) -> Result<(), Error> {
     let made = fs::create_dir(folder);
     match &made {
         Err(error) if !folder.is_dir() => return Err(not_written(folder, error)),
         _ => {}
     }
     let inside = |(name, bytes): (&str, _)| (folder.join(name), bytes);
-    let stored = all(&files.into_iter().map(inside).collect::<Vec<_>>());
+    let files: Vec<_> = files.into_iter().map(inside).chain(others).collect();
+    let stored = all(&files);
     if stored.is_err() && made.is_ok() {
         // The first error is the one to report.
         let _ = fs::remove_dir(folder);

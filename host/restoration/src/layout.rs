@@ -115,4 +115,16 @@ const _: () = {
     assert!(size_of::<RunAnswer>() == 368);
     assert!(offset_of!(RunAnswer, number) == 0);
     assert!(offset_of!(RunAnswer, run) == 4);
+    assert!(size_of::<CountAnswer>() == 8);
+    assert!(offset_of!(CountAnswer, number) == 0);
+    assert!(offset_of!(CountAnswer, count) == 4);
+    assert!(size_of::<CutAnswer>() == 20);
+    assert!(offset_of!(CutAnswer, number) == 0);
+    assert!(offset_of!(CutAnswer, region) == 4);
+    assert!(size_of::<CutTable>() == 1028);
+    assert!(offset_of!(CutTable, count) == 0);
+    assert!(offset_of!(CutTable, regions) == 4);
+    assert!(size_of::<LengthAnswer>() == 16);
+    assert!(offset_of!(LengthAnswer, number) == 0);
+    assert!(offset_of!(LengthAnswer, length) == 8);
 };

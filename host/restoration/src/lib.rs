@@ -21,6 +21,7 @@
 //! ```
 
 mod boundary;
+mod cut;
 mod frame;
 mod header;
 mod layout;
@@ -32,5 +33,5 @@ mod run;
 mod smoothing;
 
 pub use self::{
-    frame::*, header::*, limits::*, pass::*, refusal::*, region::*, run::*, smoothing::*,
+    cut::*, frame::*, header::*, limits::*, pass::*, refusal::*, region::*, run::*, smoothing::*,
 };

@@ -37,3 +37,7 @@ pub const MAX_HEADER_BYTES: usize = 65_536;
 pub const MAX_ITERS: u32 = 3;
 /// Most bands of a run.
 pub const MAX_BANDS: usize = 256;
+/// Most rectangles of a cut file.
+pub const MAX_RECTANGLES: usize = 64;
+/// Longest cut file, in bytes.
+pub const MAX_CUT_FILE: usize = 16_777_216;

@@ -1,6 +1,9 @@
 //! Regions of a picture.
 
-use crate::boundary::{answers, entries};
+use crate::{
+    CHANNELS,
+    boundary::{answers, entries},
+};
 
 /// ```
 /// # use restoration::*;
@@ -34,6 +37,13 @@ impl Region {
             width,
             height,
         }
+    }
+
+    /// How many samples the three planes of this region have, or the largest number where it does not
+    /// fit.
+    pub const fn sample_count(self) -> usize {
+        let area = (self.width as usize).saturating_mul(self.height as usize);
+        CHANNELS.saturating_mul(area)
     }
 }
 

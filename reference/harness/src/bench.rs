@@ -1,6 +1,7 @@
 //! Times of the proved library and of the original, on the same buffers in one process, and the memory
 //! of a run. Each section prints tables of docs/BENCHMARKS.md.
 
+mod cut;
 mod growth;
 mod memory;
 mod passes;
@@ -24,12 +25,13 @@ const FEWEST_RUNS: u32 = 9;
 const FILTERED: f32 = 1.5;
 
 /// Memory is measured first, before the other sections allocate.
-const SECTIONS: [(&str, fn()); 5] = [
+const SECTIONS: [(&str, fn()); 6] = [
     ("memory", memory::print),
     ("passes", passes::print),
     ("cases", passes::print_cases),
     ("runs", run::print),
     ("growth", growth::print),
+    ("cut", cut::print),
 ];
 
 /// Prints the named sections, or all of them; false if there is no such section.

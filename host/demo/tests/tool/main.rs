@@ -1,5 +1,6 @@
 //! The built tool, run in a temporary folder.
 
+mod cut;
 mod refused;
 mod shown;
 mod smoothed;

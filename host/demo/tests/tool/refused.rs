@@ -228,7 +228,7 @@ fn values_out_of_form_or_range() {
 }
 
 /// Command lines that `--help` explains.
-const USAGE: [(&[&str], &str); 16] = [
+const USAGE: [(&[&str], &str); 21] = [
     (&[PICTURE, "--foo"], "unknown option '--foo'"),
     (&[PICTURE, "--foo=bar"], "unknown option '--foo'"),
     (&[PICTURE, "--=bar"], "unknown option '--'"),
@@ -245,6 +245,17 @@ const USAGE: [(&[&str], &str); 16] = [
     (&[PICTURE, "--sigma"], "option '--sigma' needs a value"),
     (&[PICTURE, "-o"], "option '-o' needs a value"),
     (&[PICTURE, "--output"], "option '--output' needs a value"),
+    (&[PICTURE, "--cut"], "option '--cut' needs a value"),
+    (&[PICTURE, "--cut", "-"], "--cut -: must be a file"),
+    (&["--cut=-"], "--cut -: must be a file"),
+    (
+        &[PICTURE, "--cut=a.kcut", "-o", "b.pfm"],
+        "--cut and -o: a picture has one output",
+    ),
+    (
+        &["--cut=a.kcut", "--rect=0,0,1,1"],
+        "--rect needs a picture",
+    ),
     (
         &[PICTURE, "--no-gabor=1"],
         "option '--no-gabor' takes no value",

@@ -1,0 +1,88 @@
+//! The longest files. A file has 6 + 16 n + 12 samples per plane bytes, which leave 2, 6 or 10 when divided by 12;
+//! 16,777,216 leaves 4. So the longest file has 16,777,214 bytes, and the next longer one 16,777,218.
+
+use restoration::{CutTable, MAX_CUT_FILE, Region, cut_count, cut_region, read_cut};
+
+use crate::{
+    expected::{self, written},
+    random::Random,
+    report::{Function, Report},
+    writing,
+};
+
+/// Lengths past the limit that are read.
+const PAST: usize = 1_100;
+
+pub fn longest(report: &mut Report) {
+    let mut random = Random::new(7);
+    let most = [Region::with_size(1024, 1365), Region::with_size(338, 1)];
+    let over = [
+        Region::with_size(1024, 1365),
+        Region::with_size(336, 1),
+        Region::with_size(1, 1),
+    ];
+    for (rectangles, length) in [(&most[..], MAX_CUT_FILE - 2), (&over, MAX_CUT_FILE + 2)] {
+        let samples = rectangles.iter().map(|r| r.sample_count()).sum();
+        let samples = random.patterns(samples);
+        let mut file = written(rectangles, &samples);
+        assert_eq!(file.len(), length);
+        let table = CutTable::new(rectangles);
+        writing::compare(report, &table, &samples, vec![0; length]);
+        writing::compare(report, &table, &samples, vec![0; MAX_CUT_FILE]);
+        for k in 0..=rectangles.len() as u32 {
+            read(report, &file, k);
+        }
+        // Up to the limit by its end, past it by its length.
+        for length in MAX_CUT_FILE - 1..MAX_CUT_FILE + 3 {
+            file.resize(length, 0);
+            read(report, &file, 0);
+        }
+        file.resize(MAX_CUT_FILE + PAST, 0);
+        for length in (MAX_CUT_FILE + 1..=file.len())
+            .filter(|_| report.takes())
+            .collect::<Vec<_>>()
+        {
+            read_past(report, &file[..length]);
+        }
+        read_past(report, &vec![0; MAX_CUT_FILE + 1]);
+    }
+}
+
+/// Compares what is read of rectangle k, into a slice of its samples.
+fn read(report: &mut Report, file: &[u8], k: u32) {
+    report.input();
+    let shown = || format!("rectangle {k} of {} bytes", file.len());
+    let found = expected::read(file);
+    let read = found.as_deref().map_err(|number| *number);
+    let expected = expected::count(read);
+    report.call(
+        Function::Count,
+        expected.number,
+        (cut_count(file), expected),
+        shown,
+    );
+    let expected = expected::region(read, k);
+    report.call(
+        Function::Region,
+        expected.number,
+        (cut_region(file, k), expected),
+        shown,
+    );
+    let mut left = vec![5; expected.region.sample_count()];
+    let mut given = left.clone();
+    let expected = expected::samples(file, read, k, &mut left);
+    let answer = read_cut(file, k, &mut given);
+    let same = (answer, given == left);
+    report.call(
+        Function::Read,
+        expected.number,
+        (same, (expected, true)),
+        shown,
+    );
+}
+
+/// A file that is too long, whatever is in it.
+fn read_past(report: &mut Report, file: &[u8]) {
+    assert_eq!(expected::read(file).err(), Some(7));
+    read(report, file, 0);
+}
