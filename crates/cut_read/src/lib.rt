@@ -1,6 +1,7 @@
 // Reading a cut file: how many rectangles it has, the region of one, and its samples (Specification 16).
 use cut_bytes::u16_at;
 use cut_bytes::u32_at;
+use cut_file::MARKER_LENGTH;
 use cut_file::check_file;
 use cut_file::entry_at;
 use cut_file::region_in;
@@ -30,8 +31,6 @@ pub struct CutAnswer {
     pub number: u32,
     pub region: Region,
 }
-
-const MARKER_LENGTH: usize = 4;
 
 // Zeros beside a refusal.
 fn refused(number: u32) -> CutAnswer
