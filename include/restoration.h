@@ -240,7 +240,7 @@ typedef struct RestorationRunAnswer {
     RestorationRun run;
 } RestorationRunAnswer;
 
-// The number of rectangles in a file.
+// How many rectangles a file has; 0 in a refused call.
 typedef struct RestorationCountAnswer {
     uint32_t number;
     uint32_t count;
@@ -536,10 +536,11 @@ uint32_t restoration_result(
 // == The C boundary of cut files
 
 // Returns the number of rectangles in a cut file, after checking all of the file but its samples.
-// Numbers, the first that applies in this order: 7 if the file is longer than 16,777,216 bytes; 14 if it ends inside
-// the marker; 12 if the marker is wrong; 14 if it ends inside the count; 12 if the count is not 1 to 64; for each entry
-// in turn, 14 if the file ends inside it and 13 if its sides, area, left or top exceed the limits of an image region or
-// its offset is not the end of what precedes its body; 14 if the file does not end where its last body does; 0.
+// Numbers, the first that applies in this order: 7 if the file is longer than 16,777,216 bytes; 14 if it ends before
+// the marker does; 12 if the first four bytes are not 4B 43 55 54 (hexadecimal); 14 if it ends before the count does;
+// 12 if the count is not 1 to 64; for each entry in turn, 14 if the file ends before the entry does, and 13 if a side is
+// outside 1 to 16,384, the area over 16,777,216, or left or top outside -1,048,576 to 1,048,576, or if its offset is
+// not the end of what precedes its body; 14 if the file does not end where its last body does; 0.
 // A refused call returns 0 in every other field.
 RestorationCountAnswer restoration_cut_count(const uint8_t *file, size_t file_len);
 
@@ -558,9 +559,9 @@ RestorationCutAnswer restoration_read_cut(
     uint32_t *samples, size_t samples_len);
 
 // Returns the length, in bytes, of the cut file with the first `count` regions of a table.
-// Numbers, the first that applies in this order: 12 if the count is not 1 to 64; 4 if the sides, area, left or top of
-// one of these regions exceed the limits of an image region; 7 if the file would be longer than 16,777,216 bytes; 0. A
-// refused call returns 0 in every other field.
+// Numbers, the first that applies in this order: 12 if the count is not 1 to 64; 4 if one of these regions has a side
+// outside 1 to 16,384, an area over 16,777,216, or a left or top outside -1,048,576 to 1,048,576; 7 if the file would
+// be longer than 16,777,216 bytes; 0. A refused call returns 0 in every other field.
 RestorationLengthAnswer restoration_cut_length(RestorationCutTable table);
 
 // Writes the cut file with the first `count` regions of a table and their samples: the bits of binary32 numbers,

@@ -74,6 +74,11 @@ pub three-bytes : firstOf (fileChecks (1 ∷ 2 ∷ 3 ∷ [])) ≡ 14
 unfolding fileChecks
 three-bytes = refl
 
+-- no bytes at all
+pub empty-file : firstOf (fileChecks []) ≡ 14
+unfolding fileChecks
+empty-file = refl
+
 pub four-wrong-bytes : firstOf (fileChecks (0x4b ∷ 0x43 ∷ 0x55 ∷ 0x55 ∷ [])) ≡ 12
 unfolding fileChecks
 four-wrong-bytes = refl
@@ -102,6 +107,11 @@ inside-bad-entry = refl
 pub longer : firstOf (fileChecks (file ++ (0 ∷ []))) ≡ 14
 unfolding fileOf tableBytes bytesOf bodyAt sampleBytes fileChecks entryChecks numberAt pictureFits boundsFit cornerFits sideFits
 longer = refl
+
+-- entry 0 has a wrong offset, and the bodies are not there: the entry comes first
+pub bad-entry-no-bodies : firstOf (fileChecks (take 38 (set file 6 39))) ≡ 13
+unfolding fileOf tableBytes bytesOf bodyAt sampleBytes fileChecks entryChecks numberAt pictureFits boundsFit cornerFits sideFits
+bad-entry-no-bodies = refl
 
 -- a count of 0, of 65
 pub no-rectangles : firstOf (fileChecks (set file 4 0)) ≡ 12

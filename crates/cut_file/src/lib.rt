@@ -72,7 +72,7 @@ fn has_marker(file: &[u8]) -> bool
     ensures { λ r. ⌜ r ≡ hasMarker (now (file .entry)) ⌝ }
 {
     let mut i = 0;
-    while i < 4 {
+    while i < MARKER_LENGTH {
         if file[i] != MARKER[i] {
             return false;
         }

@@ -18,7 +18,7 @@ ghost use Rattle.cut_bytes.specs.Bytes.{numberAt};
 ghost use Rattle.cut_file.specs.Read.{samplesAt};
 ghost use Rattle.cut_read.specs.Outcome.{countOutcome, regionOutcome, ReadOutcome, readOutcome};
 
-// The number of rectangles in a file.
+// How many rectangles a file has; 0 in a refused call.
 #[repr(C)]
 pub struct CountAnswer {
     pub number: u32,
@@ -47,6 +47,7 @@ fn refused(number: u32) -> CutAnswer
     }
 }
 
+// The number of rectangles in a file.
 pub fn cut_count(file: &[u8]) -> CountAnswer
     ensures { λ r. ⌜ r ≡ countOutcome (now (file .entry)) ⌝ }
 {

@@ -26,9 +26,10 @@ use Rattle.cut_file.proofs.Laws.{body-ends, count-range, file-numbered, FileAcc
 use Rattle.cut_file.proofs.FileLaws.{body-at, body-same, before-same, body-back, length-read, file-same}
 use Rattle.cut_file.proofs.Written.{WriteAccepted, count-in, region-in, body-in, written-accepted}
 use Rattle.cut_file.proofs.Contents.{file-again}
-use Rattle.cut_read.specs.Outcome.{ReadOutcome, cutAnswer, readOutcome}
+use Rattle.cut_read.specs.declared.CountAnswer.{CountAnswer}
+use Rattle.cut_read.specs.Outcome.{ReadOutcome, countOutcome, cutAnswer, readOutcome}
 use Rattle.cut_write.specs.Outcome.{WriteOutcome, writeOutcome}
-use Rattle.cut_round.specs.RoundTrip.{EachBelow, samplesOf, readBack, RoundTrip, WrittenRead, SamplesKept, allSamplesIn, OneFile, WrittenAgain}
+use Rattle.cut_round.specs.RoundTrip.{EachBelow, samplesOf, readBack, RoundTrip, WrittenRead, WrittenCount, SamplesKept, allSamplesIn, OneFile, WrittenAgain}
 
 -- ---- bounds of elements, past the end too
 
@@ -126,6 +127,16 @@ pub written-read : WrittenRead
 written-read t samples file b z k h slice l =
     let e : firstOf (writeChecks t (length samples) (length file)) ≡ 0 = sym (number-is t samples file) ∙ z in
     rw (writes t samples file e) (round-trip t samples file b e k h slice l)
+
+count-is : (s : List ℕ) (n : ℕ) → firstOf (fileChecks s) ≡ 0 → countIn s ≡ n → countOutcome s ≡ record { number = 0; count = n }
+unfolding countOutcome
+count-is s n z e = ap {B = CountAnswer} (λ (k : ℕ). record { number = k; count = cond (eqb k 0) (countIn s) 0 }) z ∙ (λ j. record { number = 0; count = e j })
+
+pub written-count : WrittenCount
+written-count t samples file z =
+    let e : firstOf (writeChecks t (length samples) (length file)) ≡ 0 = sym (number-is t samples file) ∙ z in
+    let a = accepted t samples (length file) e in
+    rw (writes t samples file e) (count-is (fileOf (rectangle t) (t .count) samples) (t .count) (written-accepted (rectangle t) (t .count) samples a) (count-in (rectangle t) (t .count) samples a))
 
 pub samples-kept : SamplesKept
 samples-kept t samples file b z k h slice l j m =

@@ -10,7 +10,7 @@ use Rattle.cut_file.specs.declared.CutTable.{CutTable}
 use Rattle.cut_file.specs.File.{sampleCount, entryAt, fileOf}
 use Rattle.cut_file.specs.Read.{countIn, regionIn, samplesAt, fileChecks}
 use Rattle.cut_file.specs.Write.{rectangle, samplesBefore, writeChecks}
-use Rattle.cut_read.specs.Outcome.{ReadOutcome, readOutcome}
+use Rattle.cut_read.specs.Outcome.{ReadOutcome, countOutcome, readOutcome}
 use Rattle.cut_write.specs.Outcome.{WriteOutcome, writeOutcome}
 
 -- every element is below m
@@ -37,6 +37,11 @@ abbrev pub WrittenRead : Type 0
 WrittenRead = (t : CutTable) (samples file : List ℕ) → EachBelow 4294967296 samples → writeOutcome t samples file .number ≡ 0
     → (k : ℕ) → k < t .count → (slice : List ℕ) → length slice ≡ sampleCount (rectangle t k)
     → readOutcome (writeOutcome t samples file .file) k slice ≡ readBack t k samples
+
+-- and it has as many rectangles as the table
+abbrev pub WrittenCount : Type 0
+WrittenCount = (t : CutTable) (samples file : List ℕ) → writeOutcome t samples file .number ≡ 0
+    → countOutcome (writeOutcome t samples file .file) ≡ record { number = 0; count = t .count }
 
 -- as numbers (binary32 of IEEE 754), the samples read back are those written
 abbrev pub SamplesKept : Type 0

@@ -8,10 +8,11 @@ ghost use Rattle.cut_read.specs.Outcome.{countOutcome, regionOutcome, ReadOutco
 ghost use Rattle.cut_write.specs.Outcome.{lengthOutcome, WriteOutcome, writeOutcome};
 
 // Returns the number of rectangles in a cut file, after checking all of the file but its samples.
-// Numbers, the first that applies in this order: 7 if the file is longer than 16,777,216 bytes; 14 if it ends inside
-// the marker; 12 if the marker is wrong; 14 if it ends inside the count; 12 if the count is not 1 to 64; for each entry
-// in turn, 14 if the file ends inside it and 13 if its sides, area, left or top exceed the limits of an image region or
-// its offset is not the end of what precedes its body; 14 if the file does not end where its last body does; 0.
+// Numbers, the first that applies in this order: 7 if the file is longer than 16,777,216 bytes; 14 if it ends before
+// the marker does; 12 if the first four bytes are not 4B 43 55 54 (hexadecimal); 14 if it ends before the count does;
+// 12 if the count is not 1 to 64; for each entry in turn, 14 if the file ends before the entry does, and 13 if a side is
+// outside 1 to 16,384, the area over 16,777,216, or left or top outside -1,048,576 to 1,048,576, or if its offset is
+// not the end of what precedes its body; 14 if the file does not end where its last body does; 0.
 // A refused call returns 0 in every other field.
 #[no_mangle]
 pub extern "C" fn restoration_cut_count(file: &[u8]) -> CountAnswer
@@ -43,9 +44,9 @@ pub extern "C" fn restoration_read_cut(file: &[u8], k: u32, samples: &mut [u32])
 }
 
 // Returns the length, in bytes, of the cut file with the first `count` regions of a table.
-// Numbers, the first that applies in this order: 12 if the count is not 1 to 64; 4 if the sides, area, left or top of
-// one of these regions exceed the limits of an image region; 7 if the file would be longer than 16,777,216 bytes; 0. A
-// refused call returns 0 in every other field.
+// Numbers, the first that applies in this order: 12 if the count is not 1 to 64; 4 if one of these regions has a side
+// outside 1 to 16,384, an area over 16,777,216, or a left or top outside -1,048,576 to 1,048,576; 7 if the file would
+// be longer than 16,777,216 bytes; 0. A refused call returns 0 in every other field.
 #[no_mangle]
 pub extern "C" fn restoration_cut_length(table: CutTable) -> LengthAnswer
     ensures { λ a. ⌜ a ≡ lengthOutcome table ⌝ }

@@ -23,10 +23,15 @@ use Rattle.run_record.specs.Record.{isDone, started, bandMissing, badDone, runF
 use Rattle.run_outcomes.specs.Start.{pictureChecks, startChecks, startOutcome}
 use Rattle.run_outcomes.specs.Band.{bandChecks, bandOutcome, advanceOutcome}
 use Rattle.run_outcomes.specs.Result.{resultChecks, resultOutcome}
+use Rattle.cut_file.specs.File.{bodyAt}
+use Rattle.cut_file.specs.Read.{entryChecks, fileChecks, regionChecks, readChecks}
+use Rattle.cut_file.specs.Write.{rectanglesFit, tableChecks, writeChecks}
+use Rattle.cut_read.specs.Outcome.{countOutcome}
+use Rattle.cut_write.specs.Outcome.{lengthOutcome}
 use Rattle.instances.specs.Limits.{Limits, numbersOf}
 
 pub limits : Limits
-unfolding u mirror powerBelow cornerFits sideFits regionOf inside boundsFit pictureFits shrunkBy alignedTo regionAnswer sizesOf badSides badSettings badBlocks badGrid cells gridStart gridLacksBlock someBelow noEntries notHeld someNotHeld tableFits gridsFit layoutOf passOutcome stepChecks epfChecks epfOutcome steps plan stepMargin marginChecks marginOutcome bandCount sizeFits numbersFit setupFits isDone started bandMissing badDone runFits pictureChecks startChecks startOutcome bandChecks bandOutcome advanceOutcome resultChecks resultOutcome passChecks numbersOf
+unfolding u mirror powerBelow cornerFits sideFits regionOf inside boundsFit pictureFits shrunkBy alignedTo regionAnswer sizesOf badSides badSettings badBlocks badGrid cells gridStart gridLacksBlock someBelow noEntries notHeld someNotHeld tableFits gridsFit layoutOf passOutcome stepChecks epfChecks epfOutcome steps plan stepMargin marginChecks marginOutcome bandCount sizeFits numbersFit setupFits isDone started bandMissing badDone runFits pictureChecks startChecks startOutcome bandChecks bandOutcome advanceOutcome resultChecks resultOutcome passChecks numbersOf bodyAt entryChecks fileChecks regionChecks readChecks rectanglesFit tableChecks writeChecks countOutcome lengthOutcome
 limits = record {
   regionSide = (refl, refl);
   regionRight = (refl, refl);
@@ -83,6 +88,11 @@ limits = record {
   marginsGabor = (refl, refl, refl, refl);
   marginIterations = (refl, refl);
   marginGabor = (refl, refl);
+  cutBytesMost = λ s e z. rw (e, z) refl;
+  cutBytesPast = λ s e. rw e refl;
+  cutLeast = (refl, refl);
+  cutMost = (refl, refl);
+  cutLongest = (refl, refl);
   levels = (refl, refl, refl);
   startNumbers = λ h. refl;
   bandNumbers = λ t k. refl;
@@ -91,4 +101,6 @@ limits = record {
   sigmaNumbers = λ on f b t grids n. refl;
   passNumbers = λ image filter full from to src dst. refl;
   epfNumbers = λ image filter full s sigmas from to src dst. refl;
+  readNumbers = λ s k n e. rw e refl;
+  writeNumbers = λ t samples file. refl;
 }

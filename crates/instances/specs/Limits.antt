@@ -2,10 +2,10 @@
 -- that the contracts cite. Definitions only.
 use mathlib.Core.Path.{_≡_}
 use mathlib.Core.Bool.{true, false}
-use mathlib.Core.List.{List, [], _∷_}
+use mathlib.Core.List.{List, [], _∷_, _++_}
 use Prim.Native.Nat.{ℕ}
 use lib.IntN.{ℤ, pos, negsuc}
-use lib.ListN.{length, replicate}
+use lib.ListN.{length, getD, replicate}
 use lib.Ieee.{Float}
 use Rattle.refusals.specs.Checks.{Check}
 use Rattle.header_bits.specs.Outcome.{accepted, refused}
@@ -36,6 +36,11 @@ use Rattle.run_record.specs.Record.{started, overChecks}
 use Rattle.run_outcomes.specs.Start.{Handed, startChecks, startOutcome}
 use Rattle.run_outcomes.specs.Band.{State, bandChecks, bandOutcome, advanceOutcome}
 use Rattle.run_outcomes.specs.Result.{resultChecks, resultOutcome}
+use Rattle.cut_file.specs.declared.CutTable.{CutTable}
+use Rattle.cut_file.specs.Read.{countIn, readChecks}
+use Rattle.cut_file.specs.Write.{writeChecks}
+use Rattle.cut_read.specs.Outcome.{countOutcome}
+use Rattle.cut_write.specs.Outcome.{lengthOutcome}
 use Rattle.instances.specs.Instances.{begun}
 
 -- a value that is accepted and one that is refused with k
@@ -126,6 +131,12 @@ sigmasNumber left on presence =
     sigmasOutcome on (record { width = 16; height = 8; upsampling = 1; «lf_level» = 0; «group_size_shift» = 0 }) (record { left = left; top = 0; width = 8; height = 8 }) (presence ∷ 1 ∷ 1 ∷ []) (b1 ∷ []) b1 (b0 ∷ [])
     .number
 
+-- ---- cut files
+
+-- the length of the file of the first n of these regions, then regions of one position
+abbrev pub cutNumber : ℕ → List Region → ℕ
+cutNumber n rs = lengthOutcome (record { count = n; regions = rs ++ replicate 64 (sides 1 1) }) .number
+
 -- ---- the margin, with Gabor's flag and the iterations
 
 abbrev pub marginOf : ℕ → ℕ → MarginAnswer
@@ -214,9 +225,15 @@ pub record Limits : Type 0 where
   pub marginsGabor : (marginOf 1 0 .margin ≡ 1) × (marginOf 1 1 .margin ≡ 3) × (marginOf 1 2 .margin ≡ 4) × (marginOf 1 3 .margin ≡ 7)
   pub marginIterations : Limit (λ i. marginOf 0 i .number) 3 4 9
   pub marginGabor : Limit (λ g. marginOf g 0 .number) 1 2 9
+  -- cut files: 16,777,216 bytes, of which the first is wrong; 1 to 64 rectangles; the longest file and one of four bytes more
+  pub cutBytesMost : (s : List ℕ) → length s ≡ 16777216 → getD s 0 0 ≡ 0 → countOutcome s .number ≡ 12
+  pub cutBytesPast : (s : List ℕ) → length s ≡ 16777217 → countOutcome s .number ≡ 7
+  pub cutLeast : Limit (λ n. cutNumber n []) 1 0 12
+  pub cutMost : Limit (λ n. cutNumber n []) 64 65 12
+  pub cutLongest : Limit (cutNumber 3) (sides 1024 1365 ∷ sides 335 1 ∷ []) (sides 1024 1365 ∷ sides 336 1 ∷ []) 7
   -- an LF level divides sides by 8: 1,000, 125 and 16 samples
   pub levels : (columnsAt 0 ≡ 1000) × (columnsAt 1 ≡ 125) × (columnsAt 2 ≡ 16)
-  -- the numbers of the tables, in their order: where more than one check applies, the lowest number is returned (Specification 3.2)
+  -- the numbers of the tables, in their order: where more than one check applies, the number of the first is returned (Specification 3.2)
   pub startNumbers : (h : Handed) → numbersOf (startChecks 3 h) ≡ 4 ∷ 4 ∷ 4 ∷ 5 ∷ 6 ∷ 7 ∷ 7 ∷ 7 ∷ 7 ∷ 8 ∷ 9 ∷ 9 ∷ 9 ∷ 9 ∷ 9 ∷ 9 ∷ 9 ∷ []
   pub bandNumbers : (t : State) (k : ℕ) → numbersOf (bandChecks 3 t k) ≡ 7 ∷ 7 ∷ 9 ∷ 10 ∷ []
   pub advanceNumbers : (r : Run) → numbersOf (overChecks r) ≡ 9 ∷ 11 ∷ []
@@ -226,3 +243,5 @@ pub record Limits : Type 0 where
   pub passNumbers : (image filter : Region) (full from to : ℕ) (src dst : List Float) → numbersOf (passChecks image filter full 3 from to src dst) ≡ 4 ∷ 5 ∷ 7 ∷ 9 ∷ 9 ∷ []
   pub epfNumbers : (image filter : Region) (full : ℕ) (s : EpfStep) (sigmas : List Float) (from to : ℕ) (src dst : List Float)
       → numbersOf (epfChecks image filter full s sigmas from to src dst) ≡ 4 ∷ 5 ∷ 6 ∷ 7 ∷ 9 ∷ 9 ∷ 9 ∷ []
+  pub readNumbers : (s : List ℕ) (k n : ℕ) → countIn s ≡ 1 → numbersOf (readChecks s k n) ≡ 7 ∷ 14 ∷ 12 ∷ 14 ∷ 12 ∷ 14 ∷ 13 ∷ 14 ∷ 9 ∷ 7 ∷ []
+  pub writeNumbers : (t : CutTable) (samples file : ℕ) → numbersOf (writeChecks t samples file) ≡ 12 ∷ 4 ∷ 7 ∷ 7 ∷ 7 ∷ []
