@@ -15,7 +15,11 @@ pub struct Cut {
 impl Cut {
     /// Writes these rectangles and reads them back.
     pub fn new(rectangles: &[Picture]) -> Result<Self, Refusal> {
-        let bytes = bytes(rectangles)?;
+        Self::read_back(bytes(rectangles)?, rectangles)
+    }
+
+    /// Reads a file that was written of these rectangles.
+    fn read_back(bytes: Vec<u8>, rectangles: &[Picture]) -> Result<Self, Refusal> {
         let back = rectangles_of(&bytes)?;
         Ok(Self {
             bytes,
@@ -83,4 +87,80 @@ fn differing(given: &[Picture], back: &[Picture]) -> usize {
     };
     assert_eq!(given.len(), back.len());
     given.iter().zip(back).map(differ).sum()
+}
+
+#[cfg(test)]
+mod tests {
+    use super::*;
+    use crate::picture::at_corner;
+
+    /// A quiet NaN with a payload.
+    const NAN: u32 = 0x7FC0_0001;
+    /// In the file: the left of the second rectangle, the first sample, the end.
+    const LEFT: usize = 6 + 16 + 4;
+    const BODIES: usize = 6 + 2 * 16;
+    const LENGTH: usize = BODIES + 4 * 9;
+
+    /// 1 × 1 and 2 × 1, whose first sample is a NaN.
+    fn rectangles() -> [Picture; 2] {
+        let picture = |width, bits: &[u32]| Picture {
+            region: at_corner(width, 1),
+            planes: bits.iter().copied().map(f32::from_bits).collect(),
+        };
+        [
+            picture(1, &[0, 1, 2]),
+            picture(2, &[NAN, 0, 0x3F80_0000, 3, 4, 5]),
+        ]
+    }
+
+    /// Their file with these bits of a byte changed, read back.
+    fn with(at: usize, bits: u8) -> Cut {
+        let mut file = bytes(&rectangles()).unwrap();
+        file[at] ^= bits;
+        Cut::read_back(file, &rectangles()).unwrap()
+    }
+
+    fn expect(cut: &Cut, differing: usize) {
+        assert_eq!(cut.differing, differing);
+        assert_eq!(cut.agrees(), differing == 0);
+        let summary = format!(
+            "2 rectangles, {LENGTH} bytes; 9 samples read back, bit by bit: {differing} differ"
+        );
+        assert_eq!(cut.summary(), summary);
+    }
+
+    #[test]
+    fn none_of_equal_ones_counts() {
+        expect(&Cut::new(&rectangles()).unwrap(), 0);
+        assert_eq!(differing(&rectangles(), &rectangles()), 0);
+    }
+
+    #[test]
+    fn one_bit_of_one_sample_counts() {
+        for at in BODIES..LENGTH {
+            for bit in 0..8 {
+                expect(&with(at, 1 << bit), 1);
+            }
+        }
+    }
+
+    #[test]
+    fn a_nan_with_another_payload_counts() {
+        let mut back = rectangles();
+        back[1].planes[0] = f32::from_bits(NAN ^ 2);
+        assert!(back[1].planes[0].is_nan());
+        assert_eq!(differing(&rectangles(), &back), 1);
+        expect(&with(BODIES + 12, 2), 1);
+    }
+
+    /// Elsewhere, or with other sides, as many samples as it has.
+    #[test]
+    fn another_region_counts() {
+        expect(&with(LEFT, 1), 6);
+        let mut back = rectangles();
+        back[0].region.top = -1;
+        assert_eq!(differing(&rectangles(), &back), 3);
+        back[1].region = at_corner(1, 2);
+        assert_eq!(differing(&rectangles(), &back), 9);
+    }
 }

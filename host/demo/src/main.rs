@@ -85,6 +85,9 @@ fn smooth_file(job: Job) -> Result<bool, Error> {
         Output::Cut(path, rects) => {
             let parts = parts(picture.region, rects)?;
             let subject = || format!("{} ({})", quoted(&path), cut::counted(parts.len()));
+            if let Stream::File(input) = &job.input {
+                store::check_cut(&path, input)?;
+            }
             cut::check(&parts).of(subject)?;
             let smooth = rectangles::smoothed(&picture, &filters, &parts).of(|| name.clone())?;
             let cut = Cut::new(&smooth).of(subject)?;

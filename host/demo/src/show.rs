@@ -27,11 +27,19 @@ const RUNS: u32 = 10;
 const DARK: f32 = 0.3;
 const FAINT: f32 = 0.4;
 
+/// The files that are written.
+const NAMES: [&str; 3] = ["before.png", "after.png", "seams.png"];
+
 /// Names and bytes.
 type Files = Vec<(&'static str, Vec<u8>)>;
 
 /// Whether all compared samples agree. Nothing is printed before all files are written.
 pub fn show(folder: &Path, cut: Option<PathBuf>) -> Result<bool, Error> {
+    if let Some(cut) = &cut {
+        NAMES
+            .iter()
+            .try_for_each(|name| store::check_cut(cut, &folder.join(name)))?;
+    }
     let mut shown = Shown::new();
     let (mut agree, files) = shown.files().of(|| "built-in picture".into())?;
     let mut others = Vec::new();
@@ -43,7 +51,8 @@ pub fn show(folder: &Path, cut: Option<PathBuf>) -> Result<bool, Error> {
     }
     store::all_in(folder, files, others)?;
     shown.say(format!(
-        "written     before.png, after.png, seams.png (wrong samples in red) in {}",
+        "written     {} (wrong samples in red) in {}",
+        NAMES.join(", "),
         quoted(folder)
     ));
     say!("{}", shown.lines.join("\n"));
@@ -85,12 +94,9 @@ impl Shown {
         let rectangles = self.in_rectangles(&whole)?;
         let original = self.by_original(&whole);
         let seams = self.seams(&whole)?;
-        let file = |name, pixels: &[_]| (name, png::bytes(whole.region.width, pixels));
-        let files = vec![
-            file("before.png", &pixels(&self.picture)),
-            file("after.png", &pixels(&whole)),
-            file("seams.png", &seams),
-        ];
+        let pictures = [pixels(&self.picture), pixels(&whole), seams];
+        let file = |pixels: Vec<_>| png::bytes(whole.region.width, &pixels);
+        let files = NAMES.into_iter().zip(pictures.map(file)).collect();
         Ok((rectangles && original, files))
     }
 

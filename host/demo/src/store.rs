@@ -3,7 +3,7 @@
 use std::{
     fs::{self, File, OpenOptions, Permissions},
     io::{self, ErrorKind, Write},
-    path::{Path, PathBuf},
+    path::{self, Path, PathBuf},
     process,
 };
 
@@ -38,6 +38,31 @@ pub fn all_in(
         let _ = fs::remove_dir(folder);
     }
     stored
+}
+
+/// Rejects a cut file that would replace a file that is to be kept.
+pub fn check_cut(cut: &Path, kept: &Path) -> Result<(), Error> {
+    let place = |file| path::absolute(file).ok().and_then(|path| followed(&path));
+    let (at, kept_at) = (place(cut), place(kept));
+    if at.is_none() || at != kept_at {
+        return Ok(());
+    }
+    let (cut, kept) = (quoted(cut), quoted(kept));
+    let what = format!("{cut}: the cut file must not replace {kept}");
+    Err(Error::invalid(what))
+}
+
+/// Where a path leads, its links followed. What is absent is to be made under its own name.
+fn followed(path: &Path) -> Option<PathBuf> {
+    let absent = || {
+        let folder = followed(path.parent()?)?;
+        match path.file_name() {
+            Some(name) => Some(folder.join(name)),
+            // It ends in `..`.
+            None => folder.parent().map(Path::to_path_buf),
+        }
+    };
+    path.canonicalize().ok().or_else(absent)
 }
 
 /// A written file that is to get its target's name. Dropped before `Stays`, it leaves the folder as it

@@ -1,5 +1,7 @@
 //! Cut files that the tool writes.
 
+use std::{fs, os::unix::fs::symlink};
+
 use crate::{Folder, pfm, refused::expect};
 
 const PICTURE: &str = "picture.pfm";
@@ -133,6 +135,98 @@ fn rectangles_outside_and_files_that_cannot_be_written() {
         &["--cut", ""],
         "cannot write '': No such file or directory",
     );
+}
+
+/// Its own name, another path to it, and links to it or to its folder.
+#[test]
+fn the_picture_is_not_replaced() {
+    let folder = Folder::new("the_picture_is_not_replaced");
+    let picture = pfm(3, 2, 0..18);
+    folder.write(PICTURE, &picture);
+    fs::create_dir(folder.0.join("inner")).unwrap();
+    symlink(PICTURE, folder.0.join("link")).unwrap();
+    symlink("..", folder.0.join("inner/outer")).unwrap();
+    let absolute = folder.0.join(PICTURE);
+    let names = [
+        PICTURE,
+        "./picture.pfm",
+        "inner/../picture.pfm",
+        "inner/outer/picture.pfm",
+        "link",
+        absolute.to_str().unwrap(),
+    ];
+    for input in names {
+        for cut in names {
+            let line = format!("'{cut}': the cut file must not replace '{input}'");
+            expect(&folder, &[input, "--cut", cut], &line);
+        }
+    }
+    // Before the library is asked, after the rectangles.
+    let line = format!("'{PICTURE}': the cut file must not replace '{PICTURE}'");
+    let rects = ["--rect", "0,0,1,1"].repeat(65);
+    let words = [&[PICTURE, "--cut", PICTURE][..], &rects].concat();
+    expect(&folder, &words, &line);
+    assert_eq!(folder.read(PICTURE), picture);
+    assert!(folder.0.join("link").is_symlink());
+}
+
+/// A file of the same name in another folder, and another name of the same bytes: the picture stays.
+#[test]
+fn other_files_are_replaced() {
+    let folder = Folder::new("other_files_are_replaced");
+    let picture = pfm(3, 2, 0..18);
+    folder.write(PICTURE, &picture);
+    fs::create_dir(folder.0.join("inner")).unwrap();
+    folder.write("inner/picture.pfm", b"old");
+    fs::hard_link(folder.0.join(PICTURE), folder.0.join(CUT)).unwrap();
+    for cut in ["inner/picture.pfm", CUT] {
+        let output = folder.run(&[PICTURE, "--cut", cut]);
+        assert_eq!(output.status.code(), Some(0), "{cut}");
+        assert_eq!(folder.read(cut)[..4], *b"KCUT", "{cut}");
+    }
+    assert_eq!(folder.read(PICTURE), picture);
+}
+
+/// In a folder that is there, and in one that is not and is not left.
+#[test]
+fn the_built_in_pictures_files_are_not_replaced() {
+    let folder = Folder::new("the_built_in_pictures_files_are_not_replaced");
+    let names = ["before.png", "after.png", "seams.png"];
+    for name in names {
+        let (given, default) = (format!("new/{name}"), format!("demo-out/{name}"));
+        let round = format!("new/../new/{name}");
+        for (words, cut, kept) in [
+            (&["-o", "new", "--cut"][..], &given, &given),
+            (&["-o", "new", "--cut"], &round, &given),
+            (&["--cut"], &default, &default),
+        ] {
+            let line = format!("'{cut}': the cut file must not replace '{kept}'");
+            expect(&folder, &[words, &[cut]].concat(), &line);
+        }
+    }
+    assert!(folder.names().is_empty());
+
+    fs::create_dir(folder.0.join("files")).unwrap();
+    folder.write("files/after.png", b"old");
+    symlink("files", folder.0.join("to-files")).unwrap();
+    symlink("files/after.png", folder.0.join("link")).unwrap();
+    for cut in ["files/after.png", "to-files/after.png", "link"] {
+        let line = format!("'{cut}': the cut file must not replace 'files/after.png'");
+        expect(&folder, &["-o", "files", "--cut", cut], &line);
+    }
+    let line = "'files/seams.png': the cut file must not replace 'to-files/seams.png'";
+    let words = ["-o", "to-files", "--cut", "files/seams.png"];
+    expect(&folder, &words, line);
+    assert_eq!(folder.read("files/after.png"), b"old");
+    assert_eq!(Folder::names_in(&folder.0.join("files")), ["after.png"]);
+
+    // The same name elsewhere, and another name there.
+    for cut in ["after.png", "files/cut.kcut"] {
+        let output = folder.run(&["-o", "files", "--cut", cut]);
+        assert_eq!(output.status.code(), Some(0), "{cut}");
+        assert_eq!(folder.read(cut)[..4], *b"KCUT", "{cut}");
+        assert_eq!(folder.read("files/after.png")[..4], *b"\x89PNG");
+    }
 }
 
 #[test]

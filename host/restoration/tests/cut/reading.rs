@@ -74,10 +74,10 @@ fn three() -> Vec<u8> {
 pub fn damaged(report: &mut Report) {
     let mut random = Random::new(5);
     for _ in 0..DAMAGED {
-        let file = damage::file(&mut random);
         if !report.takes() {
             continue;
         }
+        let file = damage::file(&mut random);
         let count = file.get(4).map_or(0, |&count| u32::from(count));
         let inside = random.below(count.max(1) as usize) as u32;
         let k = match random.below(16) {

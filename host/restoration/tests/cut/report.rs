@@ -4,7 +4,7 @@ use std::{fmt::Debug, time::Instant};
 
 /// How many differences are printed.
 const SHOWN: u64 = 5;
-/// How often each number of a function must be expected.
+/// How often each number of a function must be expected, if all inputs are compared.
 const SEEN: u64 = 1_000;
 /// Numbers are below this.
 const NUMBERS: usize = 15;
@@ -17,6 +17,16 @@ pub enum Amount {
 }
 
 const THINNED: u64 = 50;
+
+impl Amount {
+    /// How often each number of a function must be expected.
+    fn least(&self) -> u64 {
+        match self {
+            Self::All => SEEN,
+            Self::Some => SEEN / THINNED,
+        }
+    }
+}
 
 #[derive(Clone, Copy, Debug)]
 pub enum Function {
@@ -107,22 +117,21 @@ impl Report {
         }
     }
 
-    /// Prints how often each number was expected, and answers whether nothing differs and, if all inputs
-    /// were taken, each was often enough.
+    /// Prints how often each number was expected, and answers whether nothing differs and each was often
+    /// enough.
     pub fn finish(&self) -> bool {
-        println!("function      numbers expected (0 is accepted; each at least {SEEN} times)");
+        let least = self.amount.least();
+        println!("function      numbers expected (0 is accepted; each at least {least} times)");
         let mut enough = true;
         for ((name, possible), seen) in FUNCTIONS.iter().zip(&self.numbers) {
             let times = |number: &u32| seen[*number as usize];
-            enough &= possible.iter().all(|number| times(number) >= SEEN);
+            enough &= possible.iter().all(|number| times(number) >= least);
             let counts = possible
                 .iter()
                 .map(|number| format!("{number}: {}", times(number)));
             println!("{name:<13} {}", counts.collect::<Vec<_>>().join(", "));
         }
-        if matches!(self.amount, Amount::Some) {
-            enough = true;
-        } else if !enough {
+        if !enough {
             println!("a number was expected too seldom");
         }
         let seconds = self.started.elapsed().as_secs_f64();
