@@ -1,5 +1,5 @@
--- A formula's exact value is the sum of its expansion. So in exact arithmetic each row that is not the only one has the samples of the mirrored kernel: both expansions
--- have the same terms in a different order, which is checked by computation. Assumes nothing.
+-- A formula's exact value is the sum of its expansion. So in exact arithmetic each formula but that of a single sample has the value of the mirrored kernel: both
+-- expansions have the same terms in a different order, which is checked by computation. Assumes nothing.
 use mathlib.Core.Path.{_≡_, refl, sym, _∙_, ap, subst}
 use mathlib.Core.Bool.{Bool, true, false, cond, _&&_}
 use mathlib.Core.List.{List, [], _∷_, _++_, map}
@@ -9,9 +9,10 @@ use lib.Dec.{T, eqb, eqb→eq}
 use lib.Ieee.Fits.{and-l, and-r}
 use lib.IntN.{ℤ, pos, negsuc, sucℤ, predℤ, _+ℤ_, _*ℤ_, _-ℤ_, negℤ, ℤ-ind, +ℤ-idl, +ℤ-one, -ℤ-one, +ℤ-assoc, +ℤ-comm, +ℤ-invl, +ℤ-negℤ-cancel, sucℤ-+ℤ, predℤ-+ℤ, zero-*ℤ, *ℤ-comm, sucℤ-*ℤ, predℤ-*ℤ}
 use Rattle.gabor_kernel.specs.Ends.{End, only, first, last, inner}
+use Rattle.gabor_kernel.specs.Gabor.{alone}
 use Rattle.gabor_kernel.specs.Formula.{Formula, one, two, three, w0, w1, sample, _⊞_, _⊠_, formula}
 use Rattle.gabor_kernel.specs.Mirrored.{Term, constant, times, products, expand, same, fold, mirroredKernel, Coefficient, coefficient}
-use Rattle.gabor_kernel.specs.Exact.{Arithmetic, Exact, integers, exactly, power, multiple, nineOffsets, readProduct, termValue, sumOf, weighted, weightedSum, Weighs, AsMirrored, ExpansionSums, CoefficientsWeigh, RowsMirrored, IntegersExact}
+use Rattle.gabor_kernel.specs.Exact.{Arithmetic, Exact, integers, exactly, power, multiple, nineOffsets, readProduct, termValue, sumOf, weighted, weightedSum, Weighs, AsMirrored, ExpansionSums, CoefficientsWeigh, FormulasMirrored, IntegersExact}
 
 -- ---- the same terms in a different order
 
@@ -250,12 +251,24 @@ coefficients-weigh R x a b v inner first = (weighs R x a b v (formula inner firs
 coefficients-weigh R x a b v inner last = (weighs R x a b v (formula inner last) tt, weighs R x a b v (mirroredKernel inner last) tt)
 coefficients-weigh R x a b v inner inner = (weighs R x a b v (formula inner inner) tt, weighs R x a b v (mirroredKernel inner inner) tt)
 
-pub rows-mirrored : RowsMirrored
-unfolding fold expand formula reordered among without sameTerm sameReads
-rows-mirrored R x a b v only = (mirrored R x a b v only first tt, mirrored R x a b v only last tt, mirrored R x a b v only inner tt)
-rows-mirrored R x a b v first = (mirrored R x a b v first first tt, mirrored R x a b v first last tt, mirrored R x a b v first inner tt)
-rows-mirrored R x a b v last = (mirrored R x a b v last first tt, mirrored R x a b v last last tt, mirrored R x a b v last inner tt)
-rows-mirrored R x a b v inner = (mirrored R x a b v inner first tt, mirrored R x a b v inner last tt, mirrored R x a b v inner inner tt)
+pub formulas-mirrored : FormulasMirrored
+unfolding fold expand formula alone reordered among without sameTerm sameReads
+formulas-mirrored R x a b v only only h = absurd h
+formulas-mirrored R x a b v only first h = mirrored R x a b v only first tt
+formulas-mirrored R x a b v only last h = mirrored R x a b v only last tt
+formulas-mirrored R x a b v only inner h = mirrored R x a b v only inner tt
+formulas-mirrored R x a b v first only h = mirrored R x a b v first only tt
+formulas-mirrored R x a b v first first h = mirrored R x a b v first first tt
+formulas-mirrored R x a b v first last h = mirrored R x a b v first last tt
+formulas-mirrored R x a b v first inner h = mirrored R x a b v first inner tt
+formulas-mirrored R x a b v last only h = mirrored R x a b v last only tt
+formulas-mirrored R x a b v last first h = mirrored R x a b v last first tt
+formulas-mirrored R x a b v last last h = mirrored R x a b v last last tt
+formulas-mirrored R x a b v last inner h = mirrored R x a b v last inner tt
+formulas-mirrored R x a b v inner only h = mirrored R x a b v inner only tt
+formulas-mirrored R x a b v inner first h = mirrored R x a b v inner first tt
+formulas-mirrored R x a b v inner last h = mirrored R x a b v inner last tt
+formulas-mirrored R x a b v inner inner h = mirrored R x a b v inner inner tt
 
 -- ---- the integers
 

@@ -1,4 +1,4 @@
--- Without rounding, the formulas are the standard's mirrored kernel, except for a single row; and `fold` is the mirror. Assumes nothing.
+-- Without rounding, the formulas are the standard's mirrored kernel, and a single sample is copied by it; `fold` is the mirror. Assumes nothing.
 use mathlib.Core.Path.{_≡_, refl, ap}
 use Prim.Native.Nat.{ℕ, _+_, _-_, _<_}
 use native.Mathlib.Decide.{ℕ-discrete}
@@ -8,23 +8,32 @@ use lib.IntN.{pos, negsuc, _+ℤ_}
 use Rattle.mirror.specs.Mirror.{mirror}
 use Rattle.gabor_kernel.specs.Ends.{only, first, last, inner, stands}
 use Rattle.gabor_kernel.proofs.EndLaws.{stands-only, stands-first, stands-last, stands-inner, before-first, before-other, after-last, after-other, itself}
+use Rattle.gabor_kernel.specs.Gabor.{alone}
 use Rattle.gabor_kernel.specs.Formula.{formula}
-use Rattle.gabor_kernel.specs.Mirrored.{fold, expand, KernelMirrored, SingleRowDiffers, AloneCopied, FoldMirrors}
+use Rattle.gabor_kernel.specs.Mirrored.{fold, expand, KernelMirrored, AloneCopied, FoldMirrors}
 
 pub kernel-mirrored : KernelMirrored
-unfolding fold expand formula
-kernel-mirrored only = ((refl, refl), (refl, refl), (refl, refl))
-kernel-mirrored first = ((refl, refl), (refl, refl), (refl, refl))
-kernel-mirrored last = ((refl, refl), (refl, refl), (refl, refl))
-kernel-mirrored inner = ((refl, refl), (refl, refl), (refl, refl))
-
-pub single-row-differs : SingleRowDiffers
-unfolding fold expand formula
-single-row-differs = (refl, refl, refl, refl, refl, refl, refl, refl, refl)
+unfolding fold expand formula alone
+kernel-mirrored only only h = absurd h
+kernel-mirrored only first h = (refl, refl)
+kernel-mirrored only last h = (refl, refl)
+kernel-mirrored only inner h = (refl, refl)
+kernel-mirrored first only h = (refl, refl)
+kernel-mirrored first first h = (refl, refl)
+kernel-mirrored first last h = (refl, refl)
+kernel-mirrored first inner h = (refl, refl)
+kernel-mirrored last only h = (refl, refl)
+kernel-mirrored last first h = (refl, refl)
+kernel-mirrored last last h = (refl, refl)
+kernel-mirrored last inner h = (refl, refl)
+kernel-mirrored inner only h = (refl, refl)
+kernel-mirrored inner first h = (refl, refl)
+kernel-mirrored inner last h = (refl, refl)
+kernel-mirrored inner inner h = (refl, refl)
 
 pub alone-copied : AloneCopied
 unfolding fold expand
-alone-copied = refl
+alone-copied = (refl, refl)
 
 plus-0 : (x : ℕ) → x + 0 ≡ x
 plus-0 x = omega arith

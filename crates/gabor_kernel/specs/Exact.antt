@@ -1,10 +1,13 @@
 -- The meaning of the formulas and their expansions in exact arithmetic, compared with the standard's mirrored kernel (ISO/IEC 18181-1, Gabor-like filter).
 -- proofs/Exact.antt proves the statements.
 use mathlib.Core.Path.{_≡_}
+use mathlib.Core.Bool.{not}
 use mathlib.Core.List.{List, [], _∷_}
 use Prim.Native.Nat.{ℕ, zero, suc}
+use lib.Dec.{T}
 use lib.IntN.{ℤ, pos, _+ℤ_, _*ℤ_}
-use Rattle.gabor_kernel.specs.Ends.{End, first, last, inner}
+use Rattle.gabor_kernel.specs.Ends.{End}
+use Rattle.gabor_kernel.specs.Gabor.{alone}
 use Rattle.gabor_kernel.specs.Formula.{Formula, one, two, three, w0, w1, sample, _⊞_, _⊠_, up, down, left, right, formula}
 use Rattle.gabor_kernel.specs.Mirrored.{Term, expand, mirroredKernel, Coefficient, coefficient}
 
@@ -98,10 +101,9 @@ abbrev pub CoefficientsWeigh : Type 1
 CoefficientsWeigh = (R : Arithmetic) → Exact R → (a b : R .Number) (v : ℤ → ℤ → R .Number) (col row : End)
     → Weighs R a b v (formula col row) × Weighs R a b v (mirroredKernel col row)
 
--- without rounding, each row that is not the only one has the samples of the mirrored kernel
-abbrev pub RowsMirrored : Type 1
-RowsMirrored = (R : Arithmetic) → Exact R → (a b : R .Number) (v : ℤ → ℤ → R .Number) (col : End)
-    → AsMirrored R a b v col first × AsMirrored R a b v col last × AsMirrored R a b v col inner
+-- without rounding, each formula but that of a single sample, which is copied, has the value of the mirrored kernel
+abbrev pub FormulasMirrored : Type 1
+FormulasMirrored = (R : Arithmetic) → Exact R → (a b : R .Number) (v : ℤ → ℤ → R .Number) (col row : End) → T (not (alone col row)) → AsMirrored R a b v col row
 
 -- the integers satisfy these laws
 abbrev pub IntegersExact : Type 0

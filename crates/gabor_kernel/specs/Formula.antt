@@ -1,5 +1,6 @@
 -- The sixteen formulas of Specification 10.4, one for each case of the column and of the row, in the original's order of sums:
--- `run_gabor_row_generic` for inner rows, `gabor_row_edge` for the first, the last and the only row.
+-- `run_gabor_row_generic` for inner rows, `gabor_row_edge` for the first, the last and the only row. In a single row the centre's weight is the
+-- standard's, not the original's.
 use lib.IntN.{ℤ, pos, negsuc}
 use lib.Ieee.{Float}
 use Rattle.planes.specs.Samples.{_⊕_, _⊗_, b1, b2, b3}
@@ -71,9 +72,9 @@ edgeRow a inner =
 
 -- ---- the only row
 
--- the weight of the centre, (1 + 2) + w0; the standard's mirrored kernel has 1 + 2 w0
+-- the weight of the centre: the rows above and below are mirrored to this one
 abbrev pub soloCentre : Formula
-soloCentre = one ⊞ two ⊞ w0
+soloCentre = one ⊞ two ⊠ w0
 
 -- the weight of a neighbour
 abbrev pub soloSide : Formula

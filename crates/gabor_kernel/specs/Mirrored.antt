@@ -1,12 +1,13 @@
 -- The standard's rule for the Gabor-like filter (ISO/IEC 18181-1), a mirrored 3 × 3 kernel, compared with the sixteen formulas in exact arithmetic: the coefficient of each sample.
 use mathlib.Core.Path.{_≡_}
-use mathlib.Core.Bool.{Bool, false, cond, _&&_}
+use mathlib.Core.Bool.{Bool, false, cond, not, _&&_}
 use mathlib.Core.List.{List, [], _∷_, _++_, map}
 use Prim.Native.Nat.{ℕ, suc, _+_, _<_}
-use lib.Dec.{eqb}
+use lib.Dec.{T, eqb}
 use lib.IntN.{ℤ, pos, negsuc, _+ℤ_}
 use Rattle.mirror.specs.Mirror.{mirror}
 use Rattle.gabor_kernel.specs.Ends.{End, only, first, last, inner, stands}
+use Rattle.gabor_kernel.specs.Gabor.{alone}
 use Rattle.gabor_kernel.specs.Formula.{Formula, one, two, three, w0, w1, sample, _⊞_, _⊠_, up, down, left, right, formula}
 
 -- ---- the standard's kernel (ISO/IEC 18181-1, Gabor-like filter): the centre has weight 1, side neighbours w0, diagonal neighbours w1; neighbours are mirrored
@@ -111,25 +112,17 @@ Linear f = counted (coefficients f) ≡ number (expand f)
 
 -- ---- the statements, proved in proofs/Mirrored.antt
 
--- a row that is not the only one: the formula has the coefficients of the mirrored kernel, and no other terms
+-- the formula has the coefficients of the mirrored kernel, and no other terms
 abbrev pub IsMirrored : End → End → Type 0
 IsMirrored col row = (coefficients (formula col row) ≡ coefficients (mirroredKernel col row)) × Linear (formula col row)
 
+-- in each case of the column and of the row but that of a single sample
 abbrev pub KernelMirrored : Type 0
-KernelMirrored = (col : End) → IsMirrored col first × IsMirrored col last × IsMirrored col inner
-
--- a single row: the coefficients of the left neighbour, the centre and the right neighbour, first ours, then the mirrored kernel's.
--- The centre has 3 + w0 instead of 1 + 2 w0 (at an end each plus w0 + 2 w1); the neighbours agree.
-abbrev pub middle3 : Formula → List Coefficient
-middle3 f = coefficient f left (pos 0) ∷ coefficient f (pos 0) (pos 0) ∷ coefficient f right (pos 0) ∷ []
-
-abbrev pub SingleRowDiffers : Type 0
-SingleRowDiffers =
-    (middle3 (formula inner only) ≡ (0, 1, 2) ∷ (3, 1, 0) ∷ (0, 1, 2) ∷ []) × (middle3 (mirroredKernel inner only) ≡ (0, 1, 2) ∷ (1, 2, 0) ∷ (0, 1, 2) ∷ [])
-    × (middle3 (formula first only) ≡ (0, 0, 0) ∷ (3, 2, 2) ∷ (0, 1, 2) ∷ []) × (middle3 (mirroredKernel first only) ≡ (0, 0, 0) ∷ (1, 3, 2) ∷ (0, 1, 2) ∷ [])
-    × (middle3 (formula last only) ≡ (0, 1, 2) ∷ (3, 2, 2) ∷ (0, 0, 0) ∷ []) × (middle3 (mirroredKernel last only) ≡ (0, 1, 2) ∷ (1, 3, 2) ∷ (0, 0, 0) ∷ [])
-    × Linear (formula inner only) × Linear (formula first only) × Linear (formula last only)
+KernelMirrored = (col row : End) → T (not (alone col row)) → IsMirrored col row
 
 -- a single sample: the mirrored kernel gives it the weight 1 + 4 w0 + 4 w1, which is the divisor too, so it is copied
 abbrev pub AloneCopied : Type 0
-AloneCopied = middle3 (mirroredKernel only only) ≡ (0, 0, 0) ∷ (1, 4, 4) ∷ (0, 0, 0) ∷ []
+AloneCopied = (coefficients (mirroredKernel only only) ≡ none ∷ none ∷ none ∷ none ∷ (1, 4, 4) ∷ none ∷ none ∷ none ∷ none ∷ []) × Linear (mirroredKernel only only)
+  where
+    none : Coefficient
+    none = (0, 0, 0)

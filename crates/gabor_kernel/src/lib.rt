@@ -77,7 +77,7 @@ pub fn edge2(a: f32, c: f32, k: Kernel) -> f32
 fn solo_centre(k: Kernel) -> f32
     ensures { λ r. ⌜ r ≡ evaluate (k .w0) (k .w1) (λ (dx dy : ℤ). nan) soloCentre ⌝ }
 {
-    1.0 + 2.0 + k.w0
+    1.0 + 2.0 * k.w0
 }
 
 fn solo_side(k: Kernel) -> f32

@@ -37,15 +37,15 @@ use Rattle.instances.specs.Any.{oneQuarter, CopiedBelow, NanSigma}
 abbrev oneHalf : Float
 oneHalf = bits 0x3f00_0000
 
--- 6.0, 12.0, 14.0 and 16.0
+-- 6.0, 8.0, 12.0 and 16.0
 abbrev b6 : Float
 b6 = bits 0x40c0_0000
 
+abbrev b8 : Float
+b8 = bits 0x4100_0000
+
 abbrev b12 : Float
 b12 = bits 0x4140_0000
-
-abbrev b14 : Float
-b14 = bits 0x4160_0000
 
 abbrev b16 : Float
 b16 = bits 0x4180_0000
@@ -92,10 +92,14 @@ customHeader w0 w1 = bytesOf 13 (3 + 4 * ((w0 + w1 * 2 ^ 16) * (1 + 2 ^ 32 + 2 ^
 abbrev pub evenly : Float → Float → Gabor
 evenly w0 w1 = gaborWith (w0 ∷ w1 ∷ []) (w0 ∷ w1 ∷ []) (w0 ∷ w1 ∷ [])
 
--- ---- the Gabor-like filter over one plane of w columns and h rows, weights 1/2 and 1/4
+-- ---- the Gabor-like filter over one plane of w columns and h rows
 
+abbrev pub smoothedBy : Float → Float → ℕ → ℕ → List Float → List Float
+smoothedBy w0 w1 w h s = setOf 1 w h (gaborPass ((w0 ∷ w1 ∷ []) ∷ []) w h (of w h s))
+
+-- with weights 1/2 and 1/4
 abbrev pub smoothed : ℕ → ℕ → List Float → List Float
-smoothed w h s = setOf 1 w h (gaborPass ((oneHalf ∷ oneQuarter ∷ []) ∷ []) w h (of w h s))
+smoothed w h s = smoothedBy oneHalf oneQuarter w h s
 
 -- ---- steps of the EPF over one plane of w columns and h rows, top 0
 
@@ -229,9 +233,14 @@ pub record Table : Type 0 where
   -- ★ left −3, width 5: downsample 1 gives −2, 3; aligned to 8 gives −8, 16
   pub downsampled : downsampleOutcome square 1 ≡ record { number = 0; region = record { left = negsuc 1; top = negsuc 1; width = 3; height = 3 } }
   pub aligned : alignedOutcome square 8 ≡ record { number = 0; region = record { left = negsuc 7; top = negsuc 7; width = 16; height = 16 } }
-  -- ★ weights 1/2, 1/4 on 0 0 0 / 0 16 0 / 0 0 0: 1 2 1 / 2 4 2 / 1 2 1; on the single row 0 16 0: 4 14 4
+  -- ★ weights 1/2, 1/4 on 0 0 0 / 0 16 0 / 0 0 0: 1 2 1 / 2 4 2 / 1 2 1; on the single row 0 16 0: 4 8 4
   pub impulse : smoothed 3 3 (b0 ∷ b0 ∷ b0 ∷ b0 ∷ b16 ∷ b0 ∷ b0 ∷ b0 ∷ b0 ∷ []) ≡ b1 ∷ b2 ∷ b1 ∷ b2 ∷ b4 ∷ b2 ∷ b1 ∷ b2 ∷ b1 ∷ []
-  pub singleRow : smoothed 3 1 (b0 ∷ b16 ∷ b0 ∷ []) ≡ b4 ∷ b14 ∷ b4 ∷ []
+  pub singleRow : smoothed 3 1 (b0 ∷ b16 ∷ b0 ∷ []) ≡ b4 ∷ b8 ∷ b4 ∷ []
+  -- a flat single row stays as it is, at its ends too; an end adds w0 + 2 × w1 to the centre's weight
+  pub singleRowFlat : smoothed 3 1 (b16 ∷ b16 ∷ b16 ∷ []) ≡ b16 ∷ b16 ∷ b16 ∷ []
+  pub singleRowEnd : smoothed 3 1 (b16 ∷ b0 ∷ b0 ∷ []) ≡ b12 ∷ b4 ∷ b0 ∷ []
+  -- weights 2^-24 and 0: 1 + 2 × w0 is rounded once; with w0 added twice it would be 1, and the sample 3F7FFFFC
+  pub singleRowRounded : getD (smoothedBy tiny b0 3 1 (b0 ∷ b1 ∷ b0 ∷ [])) 1 nan ≡ bits 0x3f7f_fffe
   -- ★ step 2, one block sigma 0.25: copied; sigma NaN, finite samples, centre 5: 5
   pub copiedBelow : CopiedBelow
   pub nanSigma : NanSigma

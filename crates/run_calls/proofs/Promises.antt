@@ -3,8 +3,8 @@ use Rattle.mirror.proofs.Statements.{mirror-inside, mirror-periodic, mirror-low
 use Rattle.region_arithmetic.proofs.Laws.{intersection-inside, intersection-greatest, aligned-contains, aligned-smallest, shrunk-has, shrunk-touched}
 use Rattle.header_fields.proofs.Order.{too-long, runs-out}
 use Rattle.frame.proofs.Statements.{divided-up-covers, divided-up-least, split-whole, inner-below, group-below}
-use Rattle.gabor_kernel.proofs.Mirrored.{fold-mirrors, kernel-mirrored, single-row-differs, alone-copied}
-use Rattle.gabor_kernel.proofs.Exact.{expansion-sums, coefficients-weigh, rows-mirrored, integers-exact}
+use Rattle.gabor_kernel.proofs.Mirrored.{fold-mirrors, kernel-mirrored, alone-copied}
+use Rattle.gabor_kernel.proofs.Exact.{expansion-sums, coefficients-weigh, formulas-mirrored, integers-exact}
 use Rattle.epf_step.proofs.Offsets.{kernel-offsets, distance-offsets}
 use Rattle.epf_step.proofs.Bounds.{distance-not-negative, slope-not-positive, weight-bounds, divisor-bounds, multiplier-not-negative, pass-bounds}
 use Rattle.epf_lanes.proofs.Divisors.{lane-divisor-bounds}
@@ -76,11 +76,10 @@ promises = record {
   distance-offsets = distance-offsets;
   fold-mirrors = fold-mirrors;
   kernel-mirrored = kernel-mirrored;
-  single-row-differs = single-row-differs;
   alone-copied = alone-copied;
   expansion-sums = expansion-sums;
   coefficients-weigh = coefficients-weigh;
-  rows-mirrored = rows-mirrored;
+  formulas-mirrored = formulas-mirrored;
   integers-exact = integers-exact;
   mirror-inside = mirror-inside;
   mirror-periodic = mirror-periodic;

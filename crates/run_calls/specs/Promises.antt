@@ -4,8 +4,8 @@ use Rattle.mirror.specs.Statements.{MirrorInside, MirrorPeriodic, MirrorLow, Mi
 use Rattle.region_arithmetic.specs.Laws.{IntersectionInside, IntersectionGreatest, AlignedContains, AlignedLeast, ShrunkHas, ShrunkTouched}
 use Rattle.header_fields.specs.Order.{TooLong, RunsOut}
 use Rattle.frame.specs.Statements.{DividedUpCovers, DividedUpLeast, SplitWhole, InnerBelow, GroupBelow}
-use Rattle.gabor_kernel.specs.Mirrored.{FoldMirrors, KernelMirrored, SingleRowDiffers, AloneCopied}
-use Rattle.gabor_kernel.specs.Exact.{ExpansionSums, CoefficientsWeigh, RowsMirrored, IntegersExact}
+use Rattle.gabor_kernel.specs.Mirrored.{FoldMirrors, KernelMirrored, AloneCopied}
+use Rattle.gabor_kernel.specs.Exact.{ExpansionSums, CoefficientsWeigh, FormulasMirrored, IntegersExact}
 use Rattle.epf_step.specs.Offsets.{KernelOffsets, DistanceOffsets}
 use Rattle.epf_step.specs.Bounds.{DistanceNotNegative, SlopeNotPositive, WeightBounds, DivisorBounds, MultiplierNotNegative, PassBounds}
 use Rattle.epf_lanes.specs.Divisors.{LaneDivisorBounds}
@@ -82,15 +82,14 @@ pub record Promises : Type 1 where
   -- the EPF's offsets follow the standard's rule
   pub kernel-offsets : KernelOffsets
   pub distance-offsets : DistanceOffsets
-  -- the Gabor-like filter's formulas have the coefficients of the standard's mirrored kernel, except for a single row
+  -- the Gabor-like filter's formulas have the coefficients of the standard's mirrored kernel, which copies a single sample
   pub fold-mirrors : FoldMirrors
   pub kernel-mirrored : KernelMirrored
-  pub single-row-differs : SingleRowDiffers
   pub alone-copied : AloneCopied
   -- without rounding they are the sums of these coefficients times the samples
   pub expansion-sums : ExpansionSums
   pub coefficients-weigh : CoefficientsWeigh
-  pub rows-mirrored : RowsMirrored
+  pub formulas-mirrored : FormulasMirrored
   pub integers-exact : IntegersExact
   -- the mirrored index: in range, periodic in twice the length, symmetric about both edges; away from cut edges that of the larger picture
   pub mirror-inside : MirrorInside

@@ -15,8 +15,8 @@
 //! let (frame, table, grids) = (Frame::with_size(3, 1), [0, 0, 0], []);
 //! let planes = [[0.0, 16.0, 0.0]; 3].concat();
 //! let smooth = Smoothing::start(setup, frame, &table, &grids, planes)?.finish()?;
-//! // Specification 14.7: 4 14 4.
-//! assert_eq!(smooth, [[4.0, 14.0, 4.0]; 3].concat());
+//! // Specification 14.7: 4 8 4.
+//! assert_eq!(smooth, [[4.0, 8.0, 4.0]; 3].concat());
 //! # Ok::<(), restoration::Refusal>(())
 //! ```
 

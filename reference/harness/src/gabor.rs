@@ -1,5 +1,8 @@
 //! The Gabor-like pass: small pictures of all sizes and placements, band by band, random pictures, and
-//! refusals. Samples that are not written must keep their bits.
+//! refusals. Samples that are not written must keep their bits. A filter region of one row is judged by
+//! the rule and the standard's kernel, any other by the original.
+
+pub mod one_row;
 
 use restoration::{GaborSettings, MAX_OFFSET};
 
@@ -59,7 +62,7 @@ impl pass::Pass for Pass {
     }
 
     fn original(&self, source: &[f32]) -> oracle::Planes {
-        oracle::gabor(self.place, self.weights, picture::planes(source))
+        one_row::judge(self.place, self.weights, picture::planes(source))
     }
 
     fn number(&self, rows: Rows, sets: [usize; 2]) -> u32 {
@@ -98,6 +101,7 @@ pub fn compare(amount: Amount, report: &mut Report) {
         }
         report.add(row);
     }
+    one_row::compare(amount, &mut random, report);
     refusals(amount, &mut random, report);
 }
 

@@ -78,7 +78,7 @@ fn subjects() -> Vec<&'static Subject> {
 const SECTIONS: [Section; 7] = [
     (compare_subjects, 41),
     (header::compare, 23),
-    (gabor::compare, 5),
+    (gabor::compare, 7),
     (sigma::compare, 5),
     (epf::compare, 23),
     (runs::compare, 16),
@@ -105,7 +105,8 @@ fn compare(amount: Amount, sections: &[Section]) -> ExitCode {
     for (section, _) in sections {
         section(amount, &mut report);
     }
-    if report.finish(sections.iter().map(|(_, rows)| rows).sum()) {
+    let none_asked = gabor::one_row::none_asked();
+    if report.finish(sections.iter().map(|(_, rows)| rows).sum()) && none_asked {
         ExitCode::SUCCESS
     } else {
         ExitCode::FAILURE

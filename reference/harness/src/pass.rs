@@ -22,7 +22,7 @@ pub trait Pass: Debug {
         &[]
     }
 
-    /// The planes of the result, by the original.
+    /// The planes of the result, by the original or, for one row of the Gabor-like pass, by the rule.
     fn original(&self, source: &[f32]) -> oracle::Planes;
 
     /// The expected number, with sets of these lengths.

@@ -1,5 +1,5 @@
-//! Whole runs against the original's `apply_gabor_like` and `apply_epf` on one picture: bands in
-//! random order, with refused calls of every number interleaved.
+//! Whole runs against the original's `apply_gabor_like` (on one row the rule, `gabor::one_row`) and
+//! `apply_epf` on one picture: bands in random order, with refused calls of every number interleaved.
 
 mod calls;
 mod damage;
@@ -61,7 +61,7 @@ pub fn compare(amount: Amount, report: &mut Report) {
     tally.report(report);
 }
 
-/// A run from start to result; the result must be the original's.
+/// A run from start to result; the result must be that of [`Input::original`].
 fn whole(mut input: Input, random: &mut Random, row: &mut Row, tally: &mut Tally) {
     let original = input.original();
     damaged_start(&input, random, tally);

@@ -4,6 +4,7 @@ mod filters;
 mod headers;
 mod sizes;
 
+pub(crate) use filters::count_one_row;
 pub use filters::*;
 pub use headers::*;
 pub use sizes::*;

@@ -10,7 +10,7 @@ use super::{
     gabor::GaborRow,
     impls::generic::{self, epf, gabor},
 };
-use crate::util;
+use crate::{ask::count_one_row, util};
 
 /// Samples along a side of a block.
 const BLOCK: usize = 8;
@@ -18,6 +18,7 @@ const BLOCK: usize = 8;
 /// One plane of the Gabor-like filter.
 pub fn gabor_plane(source: &[f32], target: &mut [f32], width: usize, weights: [f32; 2]) {
     let height = source.len() / width;
+    count_one_row(height as u32);
     let row = |y: usize| &source[y * width..][..width];
     for (y, output_row) in target.chunks_exact_mut(width).enumerate() {
         if height == 1 {

@@ -8,6 +8,7 @@ use crate::{
     bits,
     convert::{edge, frame, original, wide, wide_frame},
     expected::{self, runs as rule},
+    gabor::one_row::judge_run,
     picture, sigma,
 };
 
@@ -71,8 +72,8 @@ impl Input {
         expected::sigma::sigmas(input.sigmas_of(), &self.grids, modular)
     }
 
-    /// The result of a whole run by the original. A run without passes is not compared with it: its
-    /// result is a part of the first set.
+    /// The result of a whole run by the original, on one row after the rule's Gabor-like pass. A run
+    /// without passes is not compared with it: its result is a part of the first set.
     pub fn original(&self) -> Vec<f32> {
         if setup_rule(&self.setup).passes() == 0 {
             return result_part(&self.setup, &self.first);
@@ -80,7 +81,8 @@ impl Input {
         self.original_run()().concat()
     }
 
-    /// A whole run by the original on its own copies of planes and grids.
+    /// A whole run by the original, on one row after the rule's Gabor-like pass, on its own copies of planes
+    /// and grids.
     pub fn original_run(&self) -> impl FnOnce() -> oracle::Planes + use<> {
         let Settings { gabor, epf, .. } = self.setup.settings;
         let weights = (gabor.enabled == 1).then_some(gabor.weights);
@@ -90,7 +92,7 @@ impl Input {
         let planes = picture::planes(&self.first);
         move || {
             let edge = edge.map(|edge| (edge, frame, &grids[..]));
-            oracle::filters(place, weights, edge, planes)
+            judge_run(place, weights, edge, planes)
         }
     }
 }

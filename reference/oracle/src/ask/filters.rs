@@ -1,5 +1,6 @@
 use alloc::collections::BTreeMap;
 use core::marker::PhantomData;
+use core::sync::atomic::{AtomicU64, Ordering::Relaxed};
 
 use jxl_frame::data::LfGroup;
 use jxl_frame::filter::{EpfParams, EpfSigma};
@@ -28,8 +29,23 @@ pub struct Place {
     pub preserve_outside: bool,
 }
 
+/// Gabor-like passes over a filter region of one row so far.
+static ONE_ROW: AtomicU64 = AtomicU64::new(0);
+
+/// How many Gabor-like passes over a filter region of one row the original was asked for.
+pub fn one_row_gabor_passes() -> u64 {
+    ONE_ROW.load(Relaxed)
+}
+
+pub(crate) fn count_one_row(height: u32) {
+    if height == 1 {
+        ONE_ROW.fetch_add(1, Relaxed);
+    }
+}
+
 /// `apply_gabor_like` on planes of the image region. The filter region must lie in it.
 pub fn gabor(place: Place, weights: Weights, planes: Planes) -> Planes {
+    count_one_row(place.filter.height);
     through(place, planes, |input| {
         block_on(apply_gabor_like(input, weights, &Tasks))
     })
@@ -63,6 +79,7 @@ pub fn filters(
 ) -> Planes {
     through(place, planes, |mut input| {
         if let Some(weights) = weights {
+            count_one_row(place.filter.height);
             input = block_on(apply_gabor_like(input, weights, &Tasks))?;
         }
         if let Some((settings, frame, grids)) = edge {
