@@ -45,6 +45,7 @@ enum {
     RESTORATION_NOT_A_CUT_FILE = 12, // the marker of a cut file is wrong, or its count of rectangles is not 1 to 64
     RESTORATION_BAD_ENTRY = 13, // an entry of a cut file has a side, area, left or top out of range, or a wrong offset
     RESTORATION_WRONG_END = 14, // a cut file ends before or after its last rectangle does
+    RESTORATION_WANTED_OUTSIDE = 15, // the wanted rectangle is empty or not inside the whole filter region
 };
 
 // A rectangle of samples: the column and row of its corner, and its sides. It is empty if a side is 0.
@@ -239,6 +240,14 @@ typedef struct RestorationRunAnswer {
     uint32_t number;
     RestorationRun run;
 } RestorationRunAnswer;
+
+// What the loupe shows: the filter region of a whole picture, the wanted rectangle of it, and the settings of the
+// filters.
+typedef struct RestorationLoupeSetup {
+    RestorationRegion whole;
+    RestorationRegion wanted;
+    RestorationSettings settings;
+} RestorationLoupeSetup;
 
 // How many rectangles a file has; 0 in a refused call.
 typedef struct RestorationCountAnswer {
@@ -533,6 +542,40 @@ uint32_t restoration_result(
     const float *second, size_t second_len,
     float *out, size_t out_len);
 
+// == The C boundary of the loupe
+
+// Returns the rectangle whose samples `restoration_loupe_smooth` takes: the wanted one, extended on each side by the
+// margin of the settings, left and top then moved down to multiples of 8, and all clipped to the whole filter region.
+// Numbers, the first that applies in this order: 4 if the whole is outside the limits of a filter region, or the
+// wanted rectangle has a side over 16,384, an area over 16,777,216, or a left or top outside the limits (sides of 0
+// are within them); 15 if the wanted rectangle is empty or not inside the whole; 6 if `epf.iters` is 1 to 3 and the
+// whole's left or top is negative or not a multiple of 8; 9 if `gabor.enabled` is neither 0 nor 1 or `epf.iters` is
+// over 3; 0. A refused call returns 0 in every other field.
+RestorationRegionAnswer restoration_loupe_widened(RestorationLoupeSetup setup);
+
+// Filters the wanted rectangle of a picture: stores in `out` what a run over the whole filter region gives there, if
+// the samples and block sigmas of the widened rectangle are the whole picture's (Specification 17.6).
+// `first` has three planes of the widened rectangle (`restoration_loupe_widened`), `second` is of the same length, and
+// `sigmas` has one place per block (8 x 8 samples) of the widened rectangle, or length 0 if `epf.iters` is 0. `table`
+// and `grids` are those of `restoration_start`. `out` has 3 x width x height samples of the wanted rectangle, plane
+// by plane and row by row.
+// Numbers, the first that applies in this order: 4 as in `restoration_loupe_widened`, or if a frame side or a side of
+// a present grid is outside the limits; 15 and 6 as there; 7 if a slice has the wrong length; 8 if the edge-preserving
+// filter is on and the group of a block of the widened rectangle is not in the frame, or its grid is present but
+// lacks the block; 9 if `epf.iters`, `gabor.enabled`, a setting of the frame or a presence is out of range; 0.
+// A check is passed over if it needs a value that is itself out of range (Specification 17.5).
+// An accepted call uses `first`, `second` and `sigmas` as a run does: they hold the last two passes and the block
+// sigmas. A refused call leaves every slice unchanged.
+uint32_t restoration_loupe_smooth(
+    RestorationLoupeSetup setup,
+    RestorationFrame frame,
+    const uint32_t *table, size_t table_len,
+    const float *grids, size_t grids_len,
+    float *first, size_t first_len,
+    float *second, size_t second_len,
+    float *sigmas, size_t sigmas_len,
+    float *out, size_t out_len);
+
 // == The C boundary of cut files
 
 // Returns the number of rectangles in a cut file, after checking all of the file but its samples.
@@ -684,6 +727,10 @@ static_assert(offsetof(RestorationRun, done) == 108, "done");
 static_assert(sizeof(RestorationRunAnswer) == 368, "RestorationRunAnswer");
 static_assert(offsetof(RestorationRunAnswer, number) == 0, "number");
 static_assert(offsetof(RestorationRunAnswer, run) == 4, "run");
+static_assert(sizeof(RestorationLoupeSetup) == 96, "RestorationLoupeSetup");
+static_assert(offsetof(RestorationLoupeSetup, whole) == 0, "whole");
+static_assert(offsetof(RestorationLoupeSetup, wanted) == 16, "wanted");
+static_assert(offsetof(RestorationLoupeSetup, settings) == 32, "settings");
 static_assert(sizeof(RestorationCountAnswer) == 8, "RestorationCountAnswer");
 static_assert(offsetof(RestorationCountAnswer, number) == 0, "number");
 static_assert(offsetof(RestorationCountAnswer, count) == 4, "count");

@@ -1,4 +1,4 @@
-// One refused call of each function of the C boundary, a whole run of each filter, and a cut file. Prints how many answers were compared; exits with 1 if one differs.
+// One refused call of each function of the C boundary, a whole run of each filter, rectangles by the loupe, and a cut file. Prints how many answers were compared; exits with 1 if one differs.
 #include "restoration.h"
 
 #include <stdio.h>
@@ -127,6 +127,10 @@ static void passes(void)
     REFUSED(RestorationMarginAnswer, restoration_margin(settings), RESTORATION_OUT_OF_RANGE, a.margin == 0);
     settings.epf.iters = 3;
     COMPARE(restoration_margin(settings).margin == 7);
+    // 20 - 7 is 13, moved down to 8, and 26 + 7 is 33; 30 - 7 is 23, moved down to 16, and 75 + 7 is past the whole's 80 (Specification 17.2).
+    RestorationLoupeSetup setup = {.whole = {.width = 100, .height = 80}, .wanted = {.left = 20, .top = 30, .width = 6, .height = 45}, .settings = settings};
+    RestorationRegion widened = restoration_loupe_widened(setup).region;
+    COMPARE(widened.left == 8 && widened.top == 16 && widened.width == 25 && widened.height == 64);
     REFUSED_NUMBER(restoration_gabor_pass(corner, image, 1, gabor, 0, SIDE, from, SAMPLES, to, SAMPLES), RESTORATION_NOT_INSIDE, to);
     REFUSED_NUMBER(restoration_epf_pass(image, image, 1, step, &sigma, 1, 0, SIDE, from, SAMPLES, to, SAMPLES), RESTORATION_OUT_OF_RANGE, to);
     for (step.step = 0; step.step < 3; step.step++) {
@@ -205,6 +209,32 @@ static void run_calls(RestorationSettings settings, size_t sigmas_len, float mid
         COMPARE(b.out[sample] == expected[sample % (SIDE * SIDE)]);
 }
 
+// The loupe shows the middle row of the same picture (Specification 17). One pass reads the first set and writes the second.
+static void loupe_calls(RestorationSettings settings, size_t sigmas_len, float middle, const float *expected)
+{
+    enum { WANTED = PLANES * SIDE };
+    static const uint32_t present[GROUP] = {1, 1, 1};
+    RestorationLoupeSetup setup = {.whole = image, .wanted = {.top = 1, .width = SIDE, .height = 1}, .settings = settings}, outside = setup;
+    outside.wanted.left = 1;
+    Buffers b[1], was = buffers_with(middle);
+    b[0] = was;
+
+    REFUSED(RestorationRegionAnswer, restoration_loupe_widened(outside), RESTORATION_WANTED_OUTSIDE, ZEROS(a.region));
+    RestorationRegionAnswer widened = restoration_loupe_widened(setup);
+    COMPARE(widened.number == RESTORATION_ACCEPTED && memcmp(&widened.region, &image, sizeof image) == 0);
+    REFUSED_NUMBER(restoration_loupe_smooth(outside, frame, present, GROUP, grid, 1, b->first, SAMPLES, b->second, SAMPLES, b->sigmas, sigmas_len, b->out, WANTED),
+        RESTORATION_WANTED_OUTSIDE, b);
+    REFUSED_NUMBER(restoration_loupe_smooth(setup, frame, present, GROUP, grid, 1, b->first, SAMPLES, b->second, SAMPLES, b->sigmas, sigmas_len, b->out, SAMPLES),
+        RESTORATION_WRONG_LENGTH, b);
+    COMPARE(restoration_loupe_smooth(setup, frame, present, GROUP, grid, 1, b->first, SAMPLES, b->second, SAMPLES, b->sigmas, sigmas_len, b->out, WANTED)
+        == RESTORATION_ACCEPTED);
+    for (int sample = 0; sample < WANTED; sample++)
+        was.out[sample] = expected[SIDE + sample % SIDE];
+    was.sigmas[0] = sigmas_len == 1 ? grid[0] : was.sigmas[0];
+    memcpy(was.second, b->second, sizeof was.second);
+    COMPARE(same_buffers(b[0], was));
+}
+
 // Specification 14.6: weights 1/2, 1/4 on a single sample of 16.
 static void gabor_run(void)
 {
@@ -215,6 +245,7 @@ static void gabor_run(void)
         settings.gabor.weights[plane][1] = 0.25f;
     }
     run_calls(settings, 0, 16, smooth);
+    loupe_calls(settings, 0, 16, smooth);
 }
 
 // One iteration is step 1 (Specification 11.1). Channel scales of 0 make every distance 0 and every weight 1 (11.6, 11.7), so a sample becomes the mean of itself
@@ -224,6 +255,7 @@ static void epf_run(void)
     static const float means[] = {0, 8, 0, 8, 8, 8, 0, 8, 0};
     RestorationSettings settings = {.epf = {.iters = 1, .sigma = {.border_sad_mul = 1}}};
     run_calls(settings, 1, 40, means);
+    loupe_calls(settings, 1, 40, means);
     // No frame holds a block at column 16,384, but the record is valid: 8 is not among its checks (Specification 12.8).
     RestorationRegion far = {.left = 16384, .width = SIDE, .height = SIDE};
     RestorationRun run = {.setup = {.image = far, .filter = far, .settings = settings, .band_height = SIDE}, .done = {1}};
@@ -271,6 +303,6 @@ int main(void)
     gabor_run();
     epf_run();
     cuts();
-    printf("from C: %u refused calls, two whole runs and a cut file, %u answers compared; differing: %u\n", refused, compared, differing);
+    printf("from C: %u refused calls, two whole runs, two rectangles by the loupe and a cut file, %u answers compared; differing: %u\n", refused, compared, differing);
     return differing > 0;
 }

@@ -59,3 +59,7 @@ badEntry = 13
 -- cut file: the file ends inside its marker, count or table, or before or after the end of its last body
 abbrev pub wrongEnd : ℕ
 wrongEnd = 14
+
+-- a wanted rectangle is empty or reaches outside the whole filter region
+abbrev pub wantedOutside : ℕ
+wantedOutside = 15

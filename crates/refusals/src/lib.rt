@@ -37,6 +37,9 @@ pub const BAD_ENTRY: u32 = 13;
 
 pub const WRONG_END: u32 = 14;
 
+// From a wanted rectangle.
+pub const WANTED_OUTSIDE: u32 = 15;
+
 // A flag is a number: 0 is no, 1 is yes, and any other value is out of range (Specification 2.6).
 const YES: u32 = 1;
 

@@ -16,3 +16,7 @@ areaFits w h = leb 1 w && (leb 1 h && leb (w * h) 16777216)
 -- the limits of an image or filter region
 unfoldable pub pictureFits : Region → Bool
 pictureFits r = boundsFit r && areaFits (r .width) (r .height)
+
+-- the limits of a rectangle that a caller asks for, which may be empty: as in region arithmetic, and an area of at most 16,777,216
+unfoldable pub rectangleFits : Region → Bool
+rectangleFits r = boundsFit r && leb (r .width * r .height) 16777216

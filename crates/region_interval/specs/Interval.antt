@@ -22,6 +22,10 @@ moved d s = record { start = s .start +ℤ d; end = s .end +ℤ d }
 abbrev pub padded : ℕ → Span → Span
 padded n s = record { start = s .start -ℤ pos n; end = s .end +ℤ pos n }
 
+-- n more positions at each end, and the start then moved down to a multiple of m
+abbrev pub reaching : ℕ → ℕ → Span → Span
+reaching n m s = record { start = floorDiv (s .start -ℤ pos n) m *ℤ pos m; end = s .end +ℤ pos n }
+
 -- the cells of m positions that s touches
 abbrev pub shrunk : ℕ → Span → Span
 shrunk m s = record { start = floorDiv (s .start) m; end = ceilDiv (s .end) m }

@@ -7,7 +7,7 @@ ghost use Prim.Native.Nat.{_+_, _≤_, _<_, _^_, min};
 ghost use lib.IntN.{pos, negℤ, _+ℤ_, _*ℤ_};
 ghost use lib.Signed.{mag};
 ghost use Rattle.region_interval.specs.Integers.{floorDiv, ceilDiv};
-ghost use Rattle.region_interval.specs.Interval.{spanOf, moved, padded, shrunk, aligned};
+ghost use Rattle.region_interval.specs.Interval.{spanOf, moved, padded, reaching, shrunk, aligned};
 
 pub struct Span {
     pub start: i64,
@@ -16,6 +16,9 @@ pub struct Span {
 
 // Alignments are 2^0 to 2^13.
 pub const LARGEST_EXPONENT: u32 = 13;
+
+// A block is 2^3 samples wide.
+const BLOCK_EXPONENT: u32 = 3;
 
 fn wide(x: i32) -> i64
     ensures { λ r. ⌜ (r ≡ x) × (mag r < 0x8000_0000) ⌝ }
@@ -103,6 +106,19 @@ pub fn padded(start: i32, len: u32, n: u32) -> Span
     Span {
         start: sum(wide(start), negated(by)),
         end: sum(end_of(start, len), by),
+    }
+}
+
+// n more positions at each end, and the start then moved down to a multiple of 8.
+pub fn reaching(start: i32, len: u32, n: u32) -> Span
+    ensures { λ r. ⌜ r ≡ reaching n 8 (spanOf start len) ⌝ }
+{
+    let by = length(n);
+    let from = sum(wide(start), negated(by));
+    let to = sum(end_of(start, len), by);
+    Span {
+        start: multiple(floor_shift(from, BLOCK_EXPONENT), BLOCK_EXPONENT),
+        end: to,
     }
 }
 

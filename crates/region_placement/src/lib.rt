@@ -7,7 +7,7 @@ use refusals::OUT_OF_LIMITS;
 use region::Region;
 use region::bounds_fit;
 ghost use mathlib.Core.Path.{_≡_};
-ghost use Rattle.region.specs.Measures.{pictureFits, areaFits};
+ghost use Rattle.region.specs.Measures.{pictureFits, areaFits, rectangleFits};
 ghost use Prim.Native.Nat.{_≤_};
 ghost use Rattle.region_placement.specs.Placed.{placedOutcome};
 ghost use Rattle.region_placement.specs.Blocks.{clampToZero, onBlock, onBlocks};
@@ -40,6 +40,16 @@ pub fn picture_fits(r: Region) -> bool
         return false;
     }
     area_fits(r.width, r.height)
+}
+
+// Whether a region is within the limits of a rectangle that a caller asks for: it may be empty.
+pub fn rectangle_fits(r: Region) -> bool
+    ensures { λ b. ⌜ b ≡ rectangleFits r ⌝ }
+{
+    if !bounds_fit(r) {
+        return false;
+    }
+    (r.width as u64) * (r.height as u64) <= MAX_AREA_U64
 }
 
 fn unplaced(number: u32) -> PlacedAnswer

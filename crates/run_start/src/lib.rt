@@ -188,7 +188,8 @@ fn no_edge_filter() -> EpfSettings
     }
 }
 
-fn no_settings() -> Settings
+// Settings of zeros: both filters are off.
+pub fn no_settings() -> Settings
     ensures { λ r. ⌜ r ≡ noSettings ⌝ }
 {
     let gabor = gabor_settings(0, [[0.0; 2]; 3]);

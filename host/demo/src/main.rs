@@ -135,6 +135,8 @@ fn part(picture: Region, rect: Option<Rect>) -> Result<Region, Error> {
 }
 
 fn smoothed(picture: Picture, part: Region, filters: &Filters) -> Result<Picture, Refusal> {
-    let widened = filters.widened(picture.region, part, filters.margin()?);
-    Ok(filters.smooth(picture.into_part(widened))?.into_part(part))
+    if part == picture.region {
+        return filters.smooth(picture);
+    }
+    filters.part(&picture, part)
 }

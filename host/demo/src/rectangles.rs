@@ -5,40 +5,32 @@ use restoration::{Refusal, Region};
 use crate::{picture::Picture, smooth::Filters};
 
 /// Sides of a rectangle. All start at blocks, so a margin one too few shows only at the right and
-/// bottom: at the left and top, aligning down to a block adds the missing sample.
+/// bottom: at the left and top, moving down to a block adds the missing sample.
 pub const SIDES: (u32, u32) = (128, 96);
 
 /// All rectangles of a picture, smoothed one by one and laid edge to edge.
-pub fn lay(picture: &Picture, filters: &Filters, margin: u32) -> Result<Picture, Refusal> {
+pub fn lay(
+    picture: &Picture,
+    smooth: impl Fn(Region) -> Result<Picture, Refusal>,
+) -> Result<Picture, Refusal> {
     let mut laid = Picture {
         region: picture.region,
         planes: vec![f32::NAN; picture.planes.len()],
     };
     for part in rectangles(picture.region) {
-        laid.lay(&rectangle(picture, filters, margin, part)?);
+        laid.lay(&smooth(part)?);
     }
     Ok(laid)
 }
 
-/// Parts of a picture, smoothed one by one with the margin that they need.
+/// Parts of a picture, smoothed one by one.
 pub fn smoothed(
     picture: &Picture,
     filters: &Filters,
     parts: &[Region],
 ) -> Result<Vec<Picture>, Refusal> {
-    let margin = filters.margin()?;
-    let smooth = |part: &Region| rectangle(picture, filters, margin, *part);
+    let smooth = |part: &Region| filters.part(picture, *part);
     parts.iter().map(smooth).collect()
-}
-
-fn rectangle(
-    picture: &Picture,
-    filters: &Filters,
-    margin: u32,
-    part: Region,
-) -> Result<Picture, Refusal> {
-    let given = picture.cut(filters.widened(picture.region, part, margin));
-    Ok(filters.smooth(given)?.into_part(part))
 }
 
 pub fn rectangles(picture: Region) -> Vec<Region> {

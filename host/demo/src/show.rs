@@ -124,8 +124,8 @@ impl Shown {
     }
 
     fn in_rectangles(&mut self, whole: &Picture) -> Result<bool, Refusal> {
-        let margin = self.filters.margin()?;
-        let (laid, time) = timed(|| lay(&self.picture, &self.filters, margin));
+        let part = |part| self.filters.part(&self.picture, part);
+        let (laid, time) = timed(|| lay(&self.picture, part));
         let count = rectangles(self.picture.region).len();
         let (width, height) = SIDES;
         self.say(format!(
@@ -169,7 +169,8 @@ impl Shown {
     /// The samples that a margin one too few gets wrong, over the darkened smoothed picture.
     fn seams(&mut self, whole: &Picture) -> Result<Vec<[u8; CHANNELS]>, Refusal> {
         let margin = self.filters.margin()? - 1;
-        let laid = lay(&self.picture, &self.filters, margin)?;
+        let less = |part| self.filters.part_with_less(&self.picture, part);
+        let laid = lay(&self.picture, less)?;
         let apart: Vec<f32> = laid.pixels().zip(whole.pixels()).map(apart).collect();
         let most = apart.iter().copied().fold(0.0, f32::max);
         let differing = grouped(differing(&laid.planes, &whole.planes));

@@ -1,6 +1,6 @@
 //! Whole pictures and rectangles smoothed by the proved library.
 
-use restoration::{BLOCK, Frame, Refusal, Region, Settings, Setup, Smoothing};
+use restoration::{Frame, Loupe, LoupeSetup, Refusal, Region, Settings, Setup, Smoothing};
 
 use crate::{
     options::{Chosen, GaborChoice},
@@ -52,29 +52,39 @@ impl Filters {
         })
     }
 
-    /// The region to smooth for a part of a picture: the part extended by a margin, left and top
-    /// aligned down to blocks if the edge-preserving filter runs, clipped to the picture, whose corner
-    /// is 0, 0.
-    pub fn widened(&self, picture: Region, part: Region, margin: u32) -> Region {
-        let unit = if self.settings.epf.iters > 0 {
-            BLOCK
-        } else {
-            1
+    /// A part of a picture, smoothed with what it needs around it.
+    pub fn part(&self, picture: &Picture, part: Region) -> Result<Picture, Refusal> {
+        let loupe = Loupe {
+            whole: picture.region,
+            settings: self.settings,
+            frame: self.frame,
+            table: &self.table,
+            grids: &self.grids,
         };
-        let along = |start: i32, length: u32, side: u32| {
-            let start = start as u32;
-            let from = start.saturating_sub(margin) / unit * unit;
-            let to = (start + length + margin).min(side);
-            (from as i32, to - from)
+        Ok(Picture {
+            region: part,
+            planes: loupe.smooth(part, |widened| picture.cut(widened).planes)?,
+        })
+    }
+
+    /// The same with a margin one too few at the right and at the bottom.
+    pub fn part_with_less(&self, picture: &Picture, part: Region) -> Result<Picture, Refusal> {
+        let setup = LoupeSetup {
+            whole: picture.region,
+            wanted: part,
+            settings: self.settings,
         };
-        let (left, width) = along(part.left, part.width, picture.width);
-        let (top, height) = along(part.top, part.height, picture.height);
-        Region {
-            left,
-            top,
-            width,
-            height,
+        let mut given = restoration::loupe_widened(setup).value()?;
+        let margin = self.margin()?;
+        let past = |start: i32, side: u32| i64::from(start) + i64::from(side);
+        // An edge of the picture is no cut edge and stays.
+        if past(given.left, given.width) == past(part.left, part.width + margin) {
+            given.width -= 1;
         }
+        if past(given.top, given.height) == past(part.top, part.height + margin) {
+            given.height -= 1;
+        }
+        Ok(self.smooth(picture.cut(given))?.into_part(part))
     }
 }
 
@@ -144,25 +154,5 @@ mod tests {
         for sides in [(0, 1), (4097, 4096), (16_385, 1), (u32::MAX, u32::MAX)] {
             assert_eq!(check_regions(sides), Err(Refusal::OutOfLimits), "{sides:?}");
         }
-    }
-
-    /// 20 - 7 and 30 - 7 are 13 and 23; 26 + 7 is 33, and 75 + 7 is past the picture's 80.
-    #[test]
-    fn right_and_bottom_stay_where_the_margin_puts_them() {
-        let region = |left, top, right: i32, bottom: i32| Region {
-            left,
-            top,
-            width: (right - left) as u32,
-            height: (bottom - top) as u32,
-        };
-        let (picture, part) = (at_corner(100, 80), region(20, 30, 26, 75));
-        let widened = |iters: u32| {
-            let mut settings = header(DEFAULTS);
-            settings.epf.iters = iters;
-            let filters = Filters::of_one_sigma(picture, settings).unwrap();
-            filters.widened(picture, part, 7)
-        };
-        assert_eq!(widened(3), region(8, 16, 33, 80));
-        assert_eq!(widened(0), region(13, 23, 33, 80));
     }
 }

@@ -115,6 +115,10 @@ const _: () = {
     assert!(size_of::<RunAnswer>() == 368);
     assert!(offset_of!(RunAnswer, number) == 0);
     assert!(offset_of!(RunAnswer, run) == 4);
+    assert!(size_of::<LoupeSetup>() == 96);
+    assert!(offset_of!(LoupeSetup, whole) == 0);
+    assert!(offset_of!(LoupeSetup, wanted) == 16);
+    assert!(offset_of!(LoupeSetup, settings) == 32);
     assert!(size_of::<CountAnswer>() == 8);
     assert!(offset_of!(CountAnswer, number) == 0);
     assert!(offset_of!(CountAnswer, count) == 4);

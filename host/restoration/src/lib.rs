@@ -2,7 +2,8 @@
 //!
 //! Each function has the parameters and the answer of an entry point. The library checks its inputs
 //! itself and answers a number for what it refuses, so nothing is checked here; `value` turns an
-//! answer into a `Result`, whose error is a [`Refusal`]. [`Smoothing`] is a run with its buffers:
+//! answer into a `Result`, whose error is a [`Refusal`]. [`Loupe`] filters rectangles of a picture, and
+//! [`Smoothing`] is a run with its buffers:
 //!
 //! ```
 //! use restoration::{Frame, GaborSettings, Region, Settings, Setup, Smoothing};
@@ -26,6 +27,7 @@ mod frame;
 mod header;
 mod layout;
 mod limits;
+mod loupe;
 mod pass;
 mod refusal;
 mod region;
@@ -33,5 +35,6 @@ mod run;
 mod smoothing;
 
 pub use self::{
-    cut::*, frame::*, header::*, limits::*, pass::*, refusal::*, region::*, run::*, smoothing::*,
+    cut::*, frame::*, header::*, limits::*, loupe::*, pass::*, refusal::*, region::*, run::*,
+    smoothing::*,
 };

@@ -58,6 +58,7 @@ refusals! {
     12 NotACutFile "the marker of a cut file is wrong, or its count of rectangles is not 1 to 64"
     13 BadEntry "an entry of a cut file has a side, area, left or top out of range, or a wrong offset"
     14 WrongEnd "a cut file ends before or after its last rectangle does"
+    15 WantedOutside "the wanted rectangle is empty or not inside the whole filter region"
 }
 
 impl fmt::Display for Refusal {

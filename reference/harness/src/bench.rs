@@ -3,6 +3,7 @@
 
 mod cut;
 mod growth;
+mod loupe;
 mod memory;
 mod passes;
 mod plot;
@@ -25,12 +26,13 @@ const FEWEST_RUNS: u32 = 9;
 const FILTERED: f32 = 1.5;
 
 /// Memory is measured first, before the other sections allocate.
-const SECTIONS: [(&str, fn()); 6] = [
+const SECTIONS: [(&str, fn()); 7] = [
     ("memory", memory::print),
     ("passes", passes::print),
     ("cases", passes::print_cases),
     ("runs", run::print),
     ("growth", growth::print),
+    ("loupe", loupe::print),
     ("cut", cut::print),
 ];
 

@@ -15,6 +15,7 @@ mod frame;
 mod gabor;
 mod header;
 mod kinds;
+mod loupe;
 mod mirror;
 mod pass;
 mod picture;
@@ -75,7 +76,7 @@ fn subjects() -> Vec<&'static Subject> {
 
 /// What is compared, in the order of the table, and how many rows each section has: a row that is left
 /// out is a fault.
-const SECTIONS: [Section; 7] = [
+const SECTIONS: [Section; 8] = [
     (compare_subjects, 41),
     (header::compare, 23),
     (gabor::compare, 7),
@@ -83,6 +84,7 @@ const SECTIONS: [Section; 7] = [
     (epf::compare, 23),
     (runs::compare, 16),
     (rectangles::compare, 2),
+    (loupe::compare, 2),
 ];
 
 type Section = (fn(Amount, &mut Report), usize);

@@ -207,6 +207,11 @@ fn tight(passes: Passes, random: &mut Random, row: &mut Row) {
     }
 }
 
+/// The larger picture's sigmas in a part of its filter region, on blocks.
+pub fn sigmas_within(larger: &Input, part: Region) -> Vec<f32> {
+    regroup::Sigmas::of(larger, part).cells
+}
+
 /// A part of the filter region, on blocks if the edge filter runs.
 fn part(larger: &Input, random: &mut Random) -> Region {
     let filter = larger.setup.filter;

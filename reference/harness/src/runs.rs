@@ -14,7 +14,7 @@ use restoration::{MAX_BANDS, MAX_ITERS};
 
 use calls::Tally;
 use damage::MOST_SAMPLES;
-pub use draw::{Passes, around, band_height, defaults, passes, settings, with_passes};
+pub use draw::{Passes, around, band_height, defaults, passes, settings, with_passes, with_sides};
 pub use input::{Input, State, place, setup_rule};
 
 use crate::{
@@ -86,6 +86,11 @@ fn whole(mut input: Input, random: &mut Random, row: &mut Row, tally: &mut Tally
     } else if number != 0 {
         row.differs(&input, &number, &0);
     }
+}
+
+/// The same samples, with the same bits or both NaN.
+pub fn same_samples(a: &[f32], b: &[f32]) -> bool {
+    a.len() == b.len() && a.iter().zip(b).all(|(a, b)| agree(*a, *b))
 }
 
 /// The numbers of the bands in random order.

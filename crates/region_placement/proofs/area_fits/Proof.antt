@@ -1,17 +1,8 @@
 -- `area_fits` meets its contract. Assumes nothing.
-use mathlib.Core.Path.{_≡_, _∙_}
-use Prim.Native.Nat.{ℕ, _*_, _<_, _≤_}
-use native.Mathlib.Omega.{arith}
-use native.Mathlib.Nat.{mul-le-mul-left, mul-le-mul-right}
 use borrow.Author.Tests.{lt-leb, le-leb}
+use Rattle.region_placement.proofs.Areas.{product}
 use Rattle.region_placement.proofs.area_fits.Statement.{statement}
 use Rattle.region_placement.proofs.area_fits.Tie as tie
-
-product : (w h : ℕ) → w < 4294967296 → h < 4294967296 → w * h < 18446744073709551616
-product w h p q =
-    let a : w ≤ 4294967295 = omega arith in
-    let b : h ≤ 4294967295 = omega arith in
-    omega (arith, mul-le-mul-right h a, mul-le-mul-left 4294967295 b)
 
 returns : tie.Need-returns
 returns c = rw (lt-leb 1 (c .before .args .width) (c .if1 .taken))

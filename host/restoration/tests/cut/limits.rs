@@ -4,9 +4,10 @@
 use restoration::{CutTable, MAX_CUT_FILE, Region, cut_count, cut_region, read_cut};
 
 use crate::{
+    COUNT, READ, REGION,
     expected::{self, written},
     random::Random,
-    report::{Function, Report},
+    report::Report,
     writing,
 };
 
@@ -55,15 +56,10 @@ fn read(report: &mut Report, file: &[u8], k: u32) {
     let found = expected::read(file);
     let read = found.as_deref().map_err(|number| *number);
     let expected = expected::count(read);
-    report.call(
-        Function::Count,
-        expected.number,
-        (cut_count(file), expected),
-        shown,
-    );
+    report.call(COUNT, expected.number, (cut_count(file), expected), shown);
     let expected = expected::region(read, k);
     report.call(
-        Function::Region,
+        REGION,
         expected.number,
         (cut_region(file, k), expected),
         shown,
@@ -73,12 +69,7 @@ fn read(report: &mut Report, file: &[u8], k: u32) {
     let expected = expected::samples(file, read, k, &mut left);
     let answer = read_cut(file, k, &mut given);
     let same = (answer, given == left);
-    report.call(
-        Function::Read,
-        expected.number,
-        (same, (expected, true)),
-        shown,
-    );
+    report.call(READ, expected.number, (same, (expected, true)), shown);
 }
 
 /// A file that is too long, whatever is in it.

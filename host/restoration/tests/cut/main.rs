@@ -6,35 +6,32 @@
 mod damage;
 mod expected;
 mod limits;
+#[path = "../common/random.rs"]
 mod random;
 mod reading;
+mod rectangles;
+#[path = "../common/report.rs"]
 mod report;
 mod writing;
 
-use std::{env, process::ExitCode};
+use std::process::ExitCode;
 
-use report::{Amount, Report};
+use report::{Amount, Function, Report};
+
+const COUNT: Function = Function::new("cut_count", &[0, 7, 12, 13, 14]);
+const REGION: Function = Function::new("cut_region", &[0, 7, 9, 12, 13, 14]);
+const READ: Function = Function::new("read_cut", &[0, 7, 9, 12, 13, 14]);
+const LENGTH: Function = Function::new("cut_length", &[0, 4, 7, 12]);
+const WRITE: Function = Function::new("write_cut", &[0, 4, 7, 12]);
 
 fn main() -> ExitCode {
-    let some = env::args().any(|argument| argument == "--some");
-    if cfg!(debug_assertions) {
-        println!("debug build: one input in fifty is compared; with --release all are");
-    }
-    let amount = if some || cfg!(debug_assertions) {
-        Amount::Some
-    } else {
-        Amount::All
-    };
-    let mut report = Report::new(amount);
+    let functions = [COUNT, REGION, READ, LENGTH, WRITE];
+    let mut report = Report::new("cut files", &functions, Amount::of_arguments());
     report.section("files of 1 to 64 rectangles", reading::whole);
     report.section("lengths 0 to 200 of files", reading::lengths);
     report.section("a byte of a file replaced", reading::bytes);
     report.section("damaged files", reading::damaged);
     report.section("tables and slices", writing::tables);
     report.section("files about the longest", limits::longest);
-    if report.finish() {
-        ExitCode::SUCCESS
-    } else {
-        ExitCode::FAILURE
-    }
+    report.finish()
 }

@@ -3,10 +3,10 @@
 use restoration::{CutTable, Region, cut_count, cut_region, read_cut, read_cut_samples};
 
 use crate::{
-    damage,
+    COUNT, READ, REGION, WRITE, damage,
     expected::{self, written},
     random::Random,
-    report::{Function, Report},
+    report::Report,
     writing,
 };
 
@@ -97,15 +97,10 @@ fn compare(report: &mut Report, random: &mut Random, file: &[u8], k: u32) {
     let read = found.as_deref().map_err(|number| *number);
 
     let expected = expected::count(read);
-    report.call(
-        Function::Count,
-        expected.number,
-        (cut_count(file), expected),
-        shown,
-    );
+    report.call(COUNT, expected.number, (cut_count(file), expected), shown);
     let expected = expected::region(read, k);
     report.call(
-        Function::Region,
+        REGION,
         expected.number,
         (cut_region(file, k), expected),
         shown,
@@ -117,23 +112,13 @@ fn compare(report: &mut Report, random: &mut Random, file: &[u8], k: u32) {
     let expected = expected::samples(file, read, k, &mut left);
     let answer = read_cut(file, k, &mut given);
     let number = expected.number;
-    report.call(
-        Function::Read,
-        number,
-        ((answer, &given), (expected, &left)),
-        shown,
-    );
+    report.call(READ, number, ((answer, &given), (expected, &left)), shown);
 
     // The same into floats.
     let mut floats: Vec<f32> = samples.into_iter().map(f32::from_bits).collect();
     let answer = read_cut_samples(file, k, &mut floats);
     let given: Vec<u32> = floats.into_iter().map(f32::to_bits).collect();
-    report.call(
-        Function::Read,
-        number,
-        ((answer, &given), (expected, &left)),
-        shown,
-    );
+    report.call(READ, number, ((answer, &given), (expected, &left)), shown);
 
     if let Ok(rectangles) = read {
         // An accepted file is the one that is written of its contents (Specification 16.9).
@@ -145,7 +130,7 @@ fn compare(report: &mut Report, random: &mut Random, file: &[u8], k: u32) {
         let samples: Vec<u32> = samples.iter().copied().map(u32::from_le_bytes).collect();
         let table = CutTable::new(&regions);
         let again = writing::compare(report, &table, &samples, vec![0; file.len()]);
-        report.call(Function::Write, 0, (&again[..], file), shown);
+        report.call(WRITE, 0, (&again[..], file), shown);
     }
 }
 

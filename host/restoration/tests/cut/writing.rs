@@ -2,11 +2,7 @@
 
 use restoration::{CutTable, MAX_RECTANGLES, Region, cut_length, write_cut, write_cut_samples};
 
-use crate::{
-    expected,
-    random::Random,
-    report::{Function, Report},
-};
+use crate::{LENGTH, WRITE, expected, random::Random, report::Report};
 
 const TABLES: u32 = 200_000;
 
@@ -89,7 +85,7 @@ pub fn compare(report: &mut Report, table: &CutTable, samples: &[u32], file: Vec
     };
     let expected = expected::length(table);
     report.call(
-        Function::Length,
+        LENGTH,
         expected.number,
         (cut_length(*table), expected),
         shown,
@@ -99,22 +95,12 @@ pub fn compare(report: &mut Report, table: &CutTable, samples: &[u32], file: Vec
     let number = expected::write(table, samples, &mut left);
     let mut given = file.clone();
     let answer = write_cut(*table, samples, &mut given);
-    report.call(
-        Function::Write,
-        number,
-        ((answer, &given), (number, &left)),
-        shown,
-    );
+    report.call(WRITE, number, ((answer, &given), (number, &left)), shown);
 
     // The same from floats.
     let floats: Vec<f32> = samples.iter().copied().map(f32::from_bits).collect();
     let mut given = file.clone();
     let answer = write_cut_samples(*table, &floats, &mut given);
-    report.call(
-        Function::Write,
-        number,
-        ((answer, &given), (number, &left)),
-        shown,
-    );
+    report.call(WRITE, number, ((answer, &given), (number, &left)), shown);
     given
 }

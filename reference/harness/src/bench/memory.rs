@@ -127,7 +127,7 @@ fn stacks(side: u32) -> [usize; CALLS.len()] {
 /// Bytes of stack that a call uses: the stack below is painted, and after the call the lowest byte that
 /// was overwritten is searched.
 #[inline(never)]
-fn stack_of(call: impl FnOnce()) -> usize {
+pub fn stack_of(call: impl FnOnce()) -> usize {
     let here: usize;
     // SAFETY: only reads the stack pointer.
     unsafe { asm!("mov {}, rsp", out(reg) here, options(nomem, nostack, preserves_flags)) };

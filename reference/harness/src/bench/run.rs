@@ -15,7 +15,7 @@ use crate::{
 };
 
 const SIDE: u32 = 504;
-const BAND: u32 = 64;
+pub const BAND: u32 = 64;
 /// With this group size shift the largest picture, 4080 × 4080, has one group.
 const ONE_GROUP: u32 = 2;
 /// The Gabor-like pass and all iterations.
@@ -76,15 +76,21 @@ pub fn beside_original(side: u32) -> Times {
 
 /// The inputs of start for the Gabor-like pass and three iterations over a whole image of one group.
 pub fn input(side: u32) -> Input {
-    let plane = (side * side) as usize;
+    part_input(side, Region::with_size(side, side))
+}
+
+/// The same over a part of such an image, as an image of its own.
+pub fn part_input(side: u32, part: Region) -> Input {
+    let plane = (part.width * part.height) as usize;
     let blocks = side.div_ceil(BLOCK);
     let cells = (blocks * blocks) as usize;
+    let own = part.width.div_ceil(BLOCK) * part.height.div_ceil(BLOCK);
     Input {
         setup: Setup {
             preserve_outside: 1,
             settings: defaults(ALL),
             band_height: BAND,
-            ..Setup::whole(Region::with_size(side, side))
+            ..Setup::whole(part)
         },
         frame: oracle::Frame {
             width: side,
@@ -97,7 +103,7 @@ pub fn input(side: u32) -> Input {
         grids: vec![FILTERED; cells],
         first: smooth(plane),
         second: vec![0.0; CHANNELS * plane],
-        sigmas: vec![FILTERED; cells],
+        sigmas: vec![FILTERED; own as usize],
     }
 }
 
@@ -106,11 +112,11 @@ pub fn result_slice(side: u32) -> Vec<f32> {
 }
 
 /// Start, and all bands and advances.
-fn to_the_finish(input: &mut Input) -> Run {
+pub fn to_the_finish(input: &mut Input) -> Run {
     let answer = input.start();
     assert_eq!(answer.number, 0);
     let mut run = answer.run;
-    let bands = run.setup.image.height.div_ceil(BAND);
+    let bands = run.setup.image.height.div_ceil(run.setup.band_height);
     for _ in 0..PASSES {
         for k in 0..bands {
             let sets = (&mut input.first, &mut input.second);

@@ -16,17 +16,17 @@ pub struct Groups {
 }
 
 /// The sigmas of the blocks of a filter region. Blocks are counted from the corner of the frame.
-struct Sigmas {
+pub struct Sigmas {
     left: u32,
     top: u32,
     across: u32,
     down: u32,
-    cells: Vec<f32>,
+    pub cells: Vec<f32>,
 }
 
 impl Sigmas {
     /// The sigmas in a part, on blocks, of the larger picture's filter region.
-    fn of(larger: &Input, filter: Region) -> Self {
+    pub fn of(larger: &Input, filter: Region) -> Self {
         let whole = larger.setup.filter;
         let all = larger.expected_sigmas();
         let stride = whole.width.div_ceil(BLOCK);

@@ -1,0 +1,10 @@
+pub mod Positions
+pub mod Passes
+pub mod Samples
+pub mod Early
+pub mod Numbers
+pub mod Copy
+pub mod Theorem
+pub mod Answers
+pub mod Example
+pub mod Promises

@@ -1,0 +1,4 @@
+pub mod Widened
+pub mod Fits
+pub mod Outcome
+pub mod Examples

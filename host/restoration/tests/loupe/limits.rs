@@ -1,0 +1,103 @@
+//! Pictures whose corners, sides or area are at the limits.
+
+use restoration::{MAX_OFFSET, Region};
+
+use crate::{
+    SMOOTH,
+    calls::{Nans, compare, same},
+    pictures::{PASSES, Picture},
+    random::Random,
+    rectangles::{Tally, inside, of_the_whole},
+    report::Report,
+};
+
+const SIDES: [(u32, u32); 5] = [(40, 30), (1, 1), (9, 17), (16_384, 1), (1, 16_384)];
+/// Random rectangles of each picture, beside those at its corners.
+const RECTANGLES: u32 = 4;
+/// Sides of the largest area.
+const LARGEST: [(u32, u32); 2] = [(16_384, 1_024), (4_096, 4_096)];
+
+/// With the EPF off, filter regions at the smallest and at the largest left and top; with it on, regions of
+/// the same sides in a frame, and past every frame (8).
+pub fn corners(report: &mut Report) {
+    let mut random = Random::new(5);
+    let mut tally = Tally::default();
+    let starts = [-MAX_OFFSET, MAX_OFFSET];
+    for (left, top) in starts
+        .into_iter()
+        .flat_map(|left| starts.map(|top| (left, top)))
+    {
+        for (passes, sides) in (0..PASSES).flat_map(|passes| SIDES.map(|sides| (passes, sides))) {
+            let mut picture = Picture::new(passes, sides, &mut random);
+            if !report.takes() {
+                continue;
+            }
+            report.input();
+            let with_epf = picture.settings.epf.iters > 0;
+            if with_epf {
+                beside_whole(report, &picture, &mut random, &mut tally);
+            }
+            (picture.whole.left, picture.whole.top) = (left, top);
+            if with_epf {
+                let wanted = inside(picture.whole, &mut random);
+                compare(report, &picture.call(wanted, &mut random), 64);
+            } else {
+                beside_whole(report, &picture, &mut random, &mut tally);
+            }
+        }
+    }
+    tally.print();
+}
+
+/// All passes over filter regions of 16,777,216 samples: small rectangles, and the whole at once.
+pub fn largest(report: &mut Report) {
+    let mut random = Random::new(6);
+    let mut tally = Tally::default();
+    for sides in LARGEST {
+        report.input();
+        let picture = Picture::new(PASSES - 1, sides, &mut random);
+        let whole = beside_whole(report, &picture, &mut random, &mut tally);
+        let shown = picture
+            .loupe()
+            .smooth(picture.whole, |_| picture.planes.clone());
+        let alike = shown.map(|shown| same(&shown, &whole, Nans::Alike));
+        report.call(SMOOTH, 0, (alike, Ok(true)), || {
+            format!("a whole of {sides:?}")
+        });
+    }
+    tally.print();
+}
+
+/// Rectangles at the corners of a picture and inside it, beside a run over the whole, which is the answer.
+fn beside_whole(
+    report: &mut Report,
+    picture: &Picture,
+    random: &mut Random,
+    tally: &mut Tally,
+) -> Vec<f32> {
+    let whole = picture.smoothed();
+    let Region {
+        left,
+        top,
+        width,
+        height,
+    } = picture.whole;
+    let corners = [0, width - 1].map(|x| [0, height - 1].map(|y| (x, y)));
+    for &(x, y) in corners.as_flattened() {
+        let wanted = Region {
+            left: left + x as i32,
+            top: top + y as i32,
+            width: 1,
+            height: 1,
+        };
+        of_the_whole(report, picture, &whole, wanted, random, tally);
+    }
+    for _ in 0..RECTANGLES {
+        let mut wanted = inside(picture.whole, random);
+        if width > 16_384 / height {
+            (wanted.width, wanted.height) = (wanted.width.min(300), wanted.height.min(300));
+        }
+        of_the_whole(report, picture, &whole, wanted, random, tally);
+    }
+    whole
+}
