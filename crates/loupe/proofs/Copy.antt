@@ -11,6 +11,7 @@ use lib.IntN.{ℤ, natAbs, _-ℤ_}
 use Rattle.region.specs.declared.Region.{Region}
 use Rattle.region.specs.Regions.{inside, Holds}
 use Rattle.region.specs.Measures.{pictureFits}
+use Rattle.region.proofs.Regions.{column-below, row-below, column-offsets-add, row-offsets-add}
 use Rattle.planes.specs.Picture.{Picture}
 use Rattle.planes.specs.Sets.{of, setOf}
 use Rattle.planes.proofs.SetLaws.{length-setOf, of-setOf, sets-ext}
@@ -36,7 +37,6 @@ use Rattle.loupe.specs.Outcome.{LoupeHanded, asRun, finalState, wantedLe
 use Rattle.loupe.specs.Pieces.{copySetup, copied}
 use Rattle.loupe.specs.Whole.{PartOf}
 use Rattle.loupe.proofs.Passes.{either-length}
-use Rattle.loupe.proofs.Positions.{counted, column-from, row-from}
 use Rattle.loupe.proofs.Samples.{one-band, after, set-sample, whole-sample}
 
 -- ---- a copy
@@ -126,5 +126,5 @@ module _ (n : ℕ) (h : LoupeHanded) (w : WantedFits (h .setup .whole) (h .setup
   unfolding wantedSamples
   wanted-whole whole p c x y l held =
       of-setOf n (wanted .width) (wanted .height) _ c (natAbs (x -ℤ wanted .left)) (natAbs (y -ℤ wanted .top)) l
-      (counted (wanted .left) (wanted .width) x (held .column)) (counted (wanted .top) (wanted .height) y (held .row))
-      ∙ rw (← column-from r wanted in-widened x y held, ← row-from r wanted in-widened x y held) (whole-sample n h w accepted whole p c x y l held)
+      (column-below wanted x y held) (row-below wanted x y held)
+      ∙ rw (← column-offsets-add r wanted in-widened x y held, ← row-offsets-add r wanted in-widened x y held) (whole-sample n h w accepted whole p c x y l held)

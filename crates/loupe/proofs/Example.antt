@@ -3,6 +3,7 @@ use mathlib.Core.Path.{_≡_, refl, sym, _∙_}
 use Prim.Native.Nat.{ℕ, _+_, _/_, _<_}
 use native.Mathlib.Omega.{arith}
 use lib.IntN.{ℤ, pos, natAbs, _-ℤ_}
+use Rattle.region_interval.proofs.Positions.{offset-below, offsets-add}
 use Rattle.region.specs.Measures.{boundsFit, pictureFits, rectangleFits}
 use Rattle.region.specs.Regions.{inside, regionOf, Holds}
 use Rattle.region_axis.specs.Measures.{cornerFits, sideFits}
@@ -26,7 +27,6 @@ use Rattle.loupe_region.specs.Outcome.{widenedRegion}
 use Rattle.loupe.specs.Outcome.{asRun, loupeChecks, loupeOutcome}
 use Rattle.loupe.specs.Whole.{PartOf}
 use Rattle.loupe.specs.Example.{handed, LoupePremisesMet}
-use Rattle.loupe.proofs.Positions.{counted, counted-from}
 
 module _ (g : Given) where
   accepted : loupeOutcome 3 (handed g) .number ≡ 0
@@ -36,19 +36,19 @@ module _ (g : Given) where
   module _ (x y : ℤ) (held : Holds (widenedRegion (handed g .setup)) x y) where
     column : natAbs (x -ℤ pos 8) < 8
     unfolding widened regionOf stepMargin
-    column = counted (pos 8) 8 x (held .column)
+    column = offset-below (pos 8) 8 x (held .column)
 
     further : natAbs (x -ℤ pos 0) ≡ 8 + natAbs (x -ℤ pos 8)
     unfolding widened regionOf stepMargin
-    further = counted-from (pos 8) (pos 0) x tt (held .column .from)
+    further = offsets-add (pos 8) (pos 0) x tt (held .column .from)
 
     row : natAbs (y -ℤ pos 8) < 8
     unfolding widened regionOf stepMargin
-    row = counted (pos 8) 8 y (held .row)
+    row = offset-below (pos 8) 8 y (held .row)
 
     lower : natAbs (y -ℤ pos 0) ≡ 8 + natAbs (y -ℤ pos 8)
     unfolding widened regionOf stepMargin
-    lower = counted-from (pos 8) (pos 0) y tt (held .row .from)
+    lower = offsets-add (pos 8) (pos 0) y tt (held .row .from)
 
     inputs : (c : ℕ) → c < 3 → inputAt 3 (asRun (handed g)) c x y ≡ inputAt 3 (larger g) c x y
     unfolding widened regionOf stepMargin startLeaves inner layoutOf

@@ -1,4 +1,3 @@
-pub mod Positions
 pub mod Passes
 pub mod Samples
 pub mod Early

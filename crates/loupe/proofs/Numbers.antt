@@ -13,6 +13,7 @@ use Rattle.refusals.proofs.Rows.{orElse}
 use Rattle.region.specs.declared.Region.{Region}
 use Rattle.region.specs.Regions.{inside}
 use Rattle.region.specs.Measures.{pictureFits}
+use Rattle.region.proofs.Regions.{inside-itself}
 use Rattle.region_placement.specs.Blocks.{onBlocks}
 use Rattle.sigma_groups.specs.Outcome.{frameSides, gridSides, tableLength, gridsLength, frameSettings, presences}
 use Rattle.run_passes.specs.Plan.{gaborFits, iterationsFit, margin}
@@ -23,7 +24,6 @@ use Rattle.loupe_region.specs.Outcome.{regionsInLimits, wantedInside, wholeOnBl
 use Rattle.loupe_region.proofs.Laws.{widened-fits, widened-on-blocks}
 use Rattle.loupe.specs.Outcome.{LoupeHanded, runSetup, asRun, sliceLength, widenedSets, widenedSigmas, widenedHeld, loupeChecks, loupeNumber}
 use Rattle.loupe.specs.Pieces.{unknownChecks, earlyChecks}
-use Rattle.loupe.proofs.Positions.{inside-itself}
 use Rattle.loupe.proofs.Samples.{one-band}
 use Rattle.loupe.proofs.Early.{wanted-passed}
 

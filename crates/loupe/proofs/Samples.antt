@@ -13,8 +13,9 @@ use Rattle.region.specs.declared.Region.{Region}
 use Rattle.region.specs.Regions.{columns, rows, Holds}
 use Rattle.region.specs.Measures.{pictureFits}
 use Rattle.region.proofs.Laws.{picture-bounds, picture-height, bounds-height}
-use Rattle.region_axis.proofs.Laws.{extent-back}
+use Rattle.region.proofs.Regions.{nth-holds, inside-itself, holds-in-larger}
 use Rattle.region_interval.specs.declared.Span.{Span}
+use Rattle.region_interval.proofs.Positions.{start-offset, nth-offset}
 use Rattle.planes.specs.Samples.{b0}
 use Rattle.planes.specs.Sets.{of, setOf}
 use Rattle.planes.proofs.SetLaws.{length-setOf, of-setOf}
@@ -38,7 +39,6 @@ use Rattle.loupe_region.proofs.Laws.{widened-fits, widened-inside, wanted-in-wi
 use Rattle.loupe.specs.Outcome.{LoupeHanded, runSetup, asRun, finalState}
 use Rattle.loupe.specs.Whole.{PartOf}
 use Rattle.loupe.proofs.Passes.{After, unrefused, after-passes, ended}
-use Rattle.loupe.proofs.Positions.{first-counted, nth-held, inside-itself, wider}
 
 -- a band height of 16,384: one band
 pub one-band : (image filter : Region) (settings : Settings) → T (pictureFits filter) → bandCount (setupWith image filter 0 settings 16384) ≡ 1
@@ -96,11 +96,10 @@ module _ (n : ℕ) (h : LoupeHanded) (w : WantedFits (h .setup .whole) (h .setup
   pub set-sample : (c x y : ℕ) → c < n → x < r .width → y < r .height → of (r .width) (r .height) (source final) c x y ≡ smoothed n (asRun h) c x y
   unfolding resultOf layoutOf
   set-sample c x y p q k =
-      let held : Holds r (r .left +ℤ pos x) (r .top +ℤ pos y) = record { column = nth-held (r .left) (r .width) x q; row = nth-held (r .top) (r .height) y k } in
       let e : of (r .width) (r .height) (result .out) c x y ≡ smoothed n (asRun h) c x y =
-      rw (extent-back (r .left) x, extent-back (r .top) y) at (own c (r .left +ℤ pos x) (r .top +ℤ pos y) p held) in
-      let a : natAbs (r .left -ℤ r .left) + x ≡ x = omega (arith, first-counted (r .left)) in
-      let b : natAbs (r .top -ℤ r .top) + y ≡ y = omega (arith, first-counted (r .top)) in
+      rw (nth-offset (r .left) x, nth-offset (r .top) y) at (own c (r .left +ℤ pos x) (r .top +ℤ pos y) p (nth-holds r x y q k)) in
+      let a : natAbs (r .left -ℤ r .left) + x ≡ x = omega (arith, start-offset (r .left)) in
+      let b : natAbs (r .top -ℤ r .top) + y ≡ y = omega (arith, start-offset (r .top)) in
       let f : of (r .width) (r .height) (result .out) c x y ≡ of (r .width) (r .height) (source final) c x y =
       ap (λ (l : List Float). of (r .width) (r .height) l c x y) copied
       ∙ of-setOf n (r .width) (r .height) _ c x y p q k
@@ -138,5 +137,5 @@ module _ (n : ℕ) (h : LoupeHanded) (w : WantedFits (h .setup .whole) (h .setup
 
     pub whole-sample : (c : ℕ) (x y : ℤ) → c < n → Holds (h .setup .wanted) x y → sampleAt n (asRun h) c x y ≡ sampleAt n whole c x y
     whole-sample c x y p held =
-        let inner = wider r (h .setup .wanted) (wanted-in-widened (margin (h .setup .settings)) (h .setup .whole) (h .setup .wanted) w) x y held in
+        let inner = holds-in-larger r (h .setup .wanted) (wanted-in-widened (margin (h .setup .settings)) (h .setup .whole) (h .setup .wanted) w) x y held in
         sym (own c x y p inner) ∙ delivers whole from .samples c x y p inner (clear x y held)

@@ -14,7 +14,7 @@ use Rattle.region_interval.specs.Interval.{spanOf, extent, reaching}
 use Rattle.region_interval.specs.Overlap.{covers, meet}
 use Rattle.region_interval.proofs.Order.{le-to, le-of, not-le, le-trans, between, sum-is, difference-is}
 use Rattle.region_interval.proofs.Division.{multiple-above, multiple-below, floor-is}
-use Rattle.region_interval.proofs.Laws.{meet-right, meet-most, span-not-turned, covering-not-turned}
+use Rattle.region_interval.proofs.Laws.{covers-of, covers-start, covers-end, meet-right, meet-most, span-not-turned, covering-not-turned}
 use Rattle.region_interval.proofs.Flags.{yes}
 use Rattle.region_axis.specs.Measures.{cornerFits}
 use Rattle.region_axis.proofs.Laws.{span-back}
@@ -34,7 +34,7 @@ module _ (m : ℕ) (s : Span) where
   reaching-covers : T (covers (reaching m 8 s) s)
   reaching-covers =
       let a = reaching m 8 s .start in
-      and-i (leZ a (s .start)) (leZ (s .end) (s .end +ℤ pos m))
+      covers-of (reaching m 8 s) s
       (le-of a (s .start) (omega (arith, sum-is a (pos m), le-to (a +ℤ pos m) (s .start) start-before)))
       (le-of (s .end) (s .end +ℤ pos m) (omega (arith, sum-is (s .end) (pos m))))
 
@@ -62,10 +62,10 @@ module _ (m : ℕ) (s w : Span) (c : T (covers w s)) (ordered : T (leZ (s .start
   within-of = meet-right (reaching m 8 s) w
 
   after-whole : T (leZ (w .start) (g .start))
-  after-whole = and-l (leZ (w .start) (g .start)) (leZ (g .end) (w .end)) within-of
+  after-whole = covers-start w g within-of
 
   before-wanted : T (leZ (g .start) (s .start))
-  before-wanted = and-l (leZ (g .start) (s .start)) (leZ (s .end) (g .end)) around-of
+  before-wanted = covers-start g s around-of
 
   g-ordered : T (leZ (g .start) (g .end))
   g-ordered = covering-not-turned g s around-of ordered
@@ -83,8 +83,8 @@ module _ (m : ℕ) (s w : Span) (c : T (covers w s)) (ordered : T (leZ (s .start
     around = around-of;
     within = within-of;
     back = span-back g g-ordered;
-    most = between (w .start) (g .start) (g .end) (w .end) after-whole g-ordered (and-r (leZ (w .start) (g .start)) (leZ (g .end) (w .end)) within-of);
-    least = between (g .start) (s .start) (s .end) (g .end) before-wanted ordered (and-r (leZ (g .start) (s .start)) (leZ (s .end) (g .end)) around-of);
+    most = between (w .start) (g .start) (g .end) (w .end) after-whole g-ordered (covers-end w g within-of);
+    least = between (g .start) (s .start) (s .end) (g .end) before-wanted ordered (covers-end g s around-of);
     corner = corner-of;
   }
 

@@ -25,6 +25,7 @@ use Rattle.region.specs.declared.Region.{Region}
 use Rattle.region.specs.Measures.{boundsFit, areaFits, pictureFits, rectangleFits}
 use Rattle.region.specs.Regions.{columns, rows, regionOf, isEmpty, inside}
 use Rattle.region.proofs.Laws.{bounds-left, bounds-top, bounds-width, bounds-height, bounds-of, picture-bounds, picture-width, picture-height, picture-area}
+use Rattle.region.proofs.Regions.{inside-of, inside-columns, inside-rows}
 use Rattle.region_placement.specs.Blocks.{onBlock, onBlocks}
 use Rattle.run_passes.specs.Plan.{gaborFits, iterationsFit, marginChecks}
 use Rattle.loupe_region.specs.declared.LoupeSetup.{LoupeSetup}
@@ -43,12 +44,10 @@ module _ (m : ℕ) (whole wanted : Region) (h : WantedFits whole wanted) where
   y = meet (reaching m 8 (rows wanted)) (rows whole)
 
   across : Clipped m (columns wanted) (columns whole)
-  unfolding inside
-  across = clipped-facts m (wanted .left) (wanted .width) (columns whole) (and-l (covers (columns whole) (columns wanted)) (covers (rows whole) (rows wanted)) (h .wanted-inside))
+  across = clipped-facts m (wanted .left) (wanted .width) (columns whole) (inside-columns whole wanted (h .wanted-inside))
 
   down : Clipped m (rows wanted) (rows whole)
-  unfolding inside
-  down = clipped-facts m (wanted .top) (wanted .height) (rows whole) (and-r (covers (columns whole) (columns wanted)) (covers (rows whole) (rows wanted)) (h .wanted-inside))
+  down = clipped-facts m (wanted .top) (wanted .height) (rows whole) (inside-rows whole wanted (h .wanted-inside))
 
   -- columns and rows
 
@@ -63,16 +62,14 @@ module _ (m : ℕ) (whole wanted : Region) (h : WantedFits whole wanted) where
   -- it is in the whole, and the wanted rectangle is in it
 
   pub widened-inside : T (inside whole (widened m whole wanted))
-  unfolding inside
   widened-inside =
-      and-i (covers (columns whole) (columns (widened m whole wanted))) (covers (rows whole) (rows (widened m whole wanted)))
+      inside-of whole (widened m whole wanted)
       (subst (λ s. T (covers (columns whole) s)) (sym widened-columns) (across .within))
       (subst (λ s. T (covers (rows whole) s)) (sym widened-rows) (down .within))
 
   pub wanted-in-widened : T (inside (widened m whole wanted) wanted)
-  unfolding inside
   wanted-in-widened =
-      and-i (covers (columns (widened m whole wanted)) (columns wanted)) (covers (rows (widened m whole wanted)) (rows wanted))
+      inside-of (widened m whole wanted) wanted
       (subst (λ s. T (covers s (columns wanted))) (sym widened-columns) (across .around))
       (subst (λ s. T (covers s (rows wanted))) (sym widened-rows) (down .around))
 

@@ -2,24 +2,19 @@
 use mathlib.Core.Path.{_≡_, refl, sym, ap, _∙_}
 use mathlib.Core.Bool.{Bool, true, false, _&&_, not}
 use mathlib.Core.List.{List, [], _∷_, _++_}
-use Prim.Native.Nat.{ℕ, _+_, _-_, _*_, _<_, _≤_}
-use native.Mathlib.Omega.{arith}
+use Prim.Native.Nat.{ℕ, _+_, _*_, _<_, _≤_}
 use borrow.Author.Tests.{le-leb, ne-eqb}
-use lib.Dec.{T, eqb}
+use lib.Dec.{eqb}
 use lib.ListN.{length}
-use lib.IntN.{ℤ, pos, natAbs, _+ℤ_, _-ℤ_}
+use lib.IntN.{natAbs, _-ℤ_}
 use lib.Ieee.{Float}
-use lib.Ieee.Fits.{and-l, and-r}
-use lib.Signed.{leZ}
 use Rattle.refusals.specs.Numbers.{wrongLength, outOfRange}
 use Rattle.refusals.specs.Checks.{Check, applies, firstOf}
 use Rattle.refusals.specs.Flags.{flagFits, flagSet}
 use Rattle.refusals.proofs.Rows.{found, after, first-number, none, drop, same-number, joined-passed, joined-refused}
-use Rattle.region_interval.specs.Overlap.{covers}
-use Rattle.region_interval.proofs.Order.{le-to, sum-is, difference-is, size-is, not-negative-difference}
 use Rattle.region.specs.declared.Region.{Region}
-use Rattle.region.specs.Regions.{columns, rows, inside}
 use Rattle.region.proofs.Laws.{picture-bounds, picture-width, picture-height, bounds-width, bounds-height}
+use Rattle.region.proofs.Regions.{width-fits, height-fits}
 use Rattle.region_placement.specs.declared.PlacedAnswer.{PlacedAnswer}
 use Rattle.region_placement.specs.Placed.{placedChecks, placedOutcome}
 use Rattle.region_placement.proofs.PlacedLaws.{placed-fits}
@@ -28,11 +23,6 @@ use Rattle.planes.specs.Band.{layoutFits, setFits, rowsFit}
 use Rattle.planes.specs.Fits.{LayoutFits}
 use Rattle.planes_layout.specs.declared.LayoutAnswer.{LayoutAnswer}
 use Rattle.planes_layout.specs.Outcome.{layoutOf, noLayout, layoutAnswer, layoutOutcome, lengthsCheck, flagCheck, rowsCheck, passChecks, PassOutcome, passOutcome}
-
--- containment on one axis
-part-fits : (a b : ℤ) (n m : ℕ) → T (leZ a b) → T (leZ (b +ℤ pos m) (a +ℤ pos n)) → natAbs (b -ℤ a) + m ≤ n
-part-fits a b n m h k =
-    omega (arith, le-to a b h, le-to (b +ℤ pos m) (a +ℤ pos n) k, sum-is a (pos n), sum-is b (pos m), difference-is b a, size-is (b -ℤ a), not-negative-difference a b (le-to a b h))
 
 -- ---- the layout of regions with number 0
 
@@ -43,22 +33,16 @@ pub record Accepted (l : Layout) : Type 0 where
 
 module _ (image filter : Region) (full : Bool) (ok : firstOf (placedChecks image filter) ≡ 0) where
   pub layout-accepted : Accepted (layoutOf image filter full)
-  unfolding layoutOf inside
+  unfolding layoutOf
   layout-accepted =
       let p = placed-fits image filter ok in
       let m = picture-bounds image (p .image-picture) in
-      let i = and-l (covers (columns image) (columns filter)) (covers (rows image) (rows filter)) (p .filter-inside) in
-      let j = and-r (covers (columns image) (columns filter)) (covers (rows image) (rows filter)) (p .filter-inside) in
       record {
         fits = record {
           width-le = bounds-width image m;
           height-le = bounds-height image m;
-          across = part-fits (image .left) (filter .left) (image .width) (filter .width)
-              (and-l (leZ (image .left) (filter .left)) (leZ (columns filter .end) (columns image .end)) i)
-              (and-r (leZ (image .left) (filter .left)) (leZ (columns filter .end) (columns image .end)) i);
-          down = part-fits (image .top) (filter .top) (image .height) (filter .height)
-              (and-l (leZ (image .top) (filter .top)) (leZ (rows filter .end) (rows image .end)) j)
-              (and-r (leZ (image .top) (filter .top)) (leZ (rows filter .end) (rows image .end)) j);
+          across = width-fits image filter (p .filter-inside);
+          down = height-fits image filter (p .filter-inside);
         };
         width-pos = picture-width filter (p .filter-picture);
         height-pos = picture-height filter (p .filter-picture);

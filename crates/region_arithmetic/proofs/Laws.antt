@@ -1,11 +1,9 @@
 -- The laws of region arithmetic, derived from those of intervals. Assumes nothing.
 use mathlib.Core.Path.{_≡_, refl, sym, ap, _∙_, subst}
 use mathlib.Core.Bool.{Bool, true, false, _||_, true≢false}
-use Prim.Native.Nat.{ℕ, _+_, _<_, _≤_}
+use Prim.Native.Nat.{ℕ, _<_}
 use borrow.Author.Tests.{eqb-false}
 use lib.Dec.{T, eqb}
-use lib.Ieee.Fits.{and-l, and-r, and-i}
-use lib.IntN.{ℤ, _+ℤ_}
 use lib.Signed.{leZ}
 use Rattle.region_interval.specs.Integers.{floorDiv}
 use Rattle.region_interval.specs.Interval.{shrunk, aligned}
@@ -16,6 +14,7 @@ use Rattle.region_axis.proofs.Laws.{span-back}
 use Rattle.region_interval.specs.declared.Span.{Span}
 use Rattle.region_arithmetic.specs.Laws.{IntersectionInside, IntersectionGreatest, AlignedContains, AlignedLeast, ShrunkHas, ShrunkTouched}
 use Rattle.region.specs.Regions.{columns, rows, regionOf, zeroRegion, isEmpty, inside, contains}
+use Rattle.region.proofs.Regions.{inside-of, inside-columns, inside-rows}
 use Rattle.region_arithmetic.specs.Arithmetic.{intersected, shrunkBy, alignedTo}
 use Rattle.region.specs.declared.Region.{Region}
 
@@ -39,20 +38,17 @@ or-false-right false b e = e
 
 module _ (r t : Region) where
   contains-of : T (covers (columns r) (columns t)) → T (covers (rows r) (rows t)) → T (contains r t)
-  unfolding inside
-  contains-of h k = or-right (isEmpty t) (inside r t) (and-i (covers (columns r) (columns t)) (covers (rows r) (rows t)) h k)
+  contains-of h k = or-right (isEmpty t) (inside r t) (inside-of r t h k)
 
   module _ (n : isEmpty t ≡ false) (c : T (contains r t)) where
-    inside-of : T (inside r t)
-    inside-of = rw n at c
+    contained : T (inside r t)
+    contained = rw n at c
 
     across-of : T (covers (columns r) (columns t))
-    unfolding inside
-    across-of = and-l (covers (columns r) (columns t)) (covers (rows r) (rows t)) inside-of
+    across-of = inside-columns r t contained
 
     down-of : T (covers (rows r) (rows t))
-    unfolding inside
-    down-of = and-r (covers (columns r) (columns t)) (covers (rows r) (rows t)) inside-of
+    down-of = inside-rows r t contained
 
 module _ (r : Region) (n : isEmpty r ≡ false) where
   columns-held : vacant (columns r) ≡ false

@@ -9,7 +9,8 @@ use lib.Dec.{T, leb, leb→le, le→leb}
 use lib.Ieee.Fits.{and-l, and-r, and-i}
 use lib.IntN.{ℤ, pos, negsuc, _+ℤ_, _-ℤ_}
 use lib.Signed.{leZ, mag}
-use Rattle.region_interval.proofs.Order.{above, below, one-side, sum-is, difference-is, size-is, side-mag, eq-of, le-to, not-negative-difference}
+use Rattle.region_interval.proofs.Order.{above, below, one-side, sum-is, difference-is, size-is, side-mag, eq-of, distance-is}
+use Rattle.region_interval.proofs.Positions.{nth-offset}
 use Rattle.region_interval.specs.Interval.{spanOf, extent}
 use Rattle.region_interval.specs.declared.Span.{Span}
 use Rattle.region_axis.specs.Measures.{axisOf, spanFits, cornerFits, sideFits}
@@ -45,11 +46,7 @@ bounds-of s p h = and-i (cornerFits (s .start)) (sideFits (extent s)) p (side-of
 -- ---- the span of a start and a length
 
 pub extent-back : (z : ℤ) (n : ℕ) → extent (spanOf z n) ≡ n
-extent-back z n =
-    ⊎-elim
-    (λ (l : above (z +ℤ pos n -ℤ z) ≡ 0). omega (arith, size-is (z +ℤ pos n -ℤ z), difference-is (z +ℤ pos n) z, sum-is z (pos n)))
-    (λ (l : below (z +ℤ pos n -ℤ z) ≡ 0). omega (arith, size-is (z +ℤ pos n -ℤ z), difference-is (z +ℤ pos n) z, sum-is z (pos n)))
-    (one-side (z +ℤ pos n -ℤ z))
+extent-back z n = nth-offset z n
 
 -- ---- spans that are checked
 
@@ -97,5 +94,4 @@ pub span-back : (s : Span) → T (leZ (s .start) (s .end)) → spanOf (s .start)
 span-back s h = ap (λ (z : ℤ). record { start = s .start; end = z }) (eq-of (s .start +ℤ pos (extent s)) (s .end) arithmetic)
   where
     arithmetic : above (s .start +ℤ pos (extent s)) + below (s .end) ≡ above (s .end) + below (s .start +ℤ pos (extent s))
-    arithmetic =
-        omega (arith, sum-is (s .start) (pos (extent s)), size-is (s .end -ℤ s .start), difference-is (s .end) (s .start), not-negative-difference (s .start) (s .end) (le-to (s .start) (s .end) h))
+    arithmetic = omega (arith, sum-is (s .start) (pos (extent s)), distance-is (s .start) (s .end) h)

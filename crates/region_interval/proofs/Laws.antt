@@ -17,13 +17,13 @@ use Rattle.region_interval.specs.Overlap.{vacant, covers, meet, In}
 use Rattle.region_interval.specs.declared.Span.{Span}
 use Rattle.region_interval.specs.Grid.{OnGrid}
 
-covers-of : (a b : Span) → T (leZ (a .start) (b .start)) → T (leZ (b .end) (a .end)) → T (covers a b)
+pub covers-of : (a b : Span) → T (leZ (a .start) (b .start)) → T (leZ (b .end) (a .end)) → T (covers a b)
 covers-of a b h k = and-i (leZ (a .start) (b .start)) (leZ (b .end) (a .end)) h k
 
-covers-start : (a b : Span) → T (covers a b) → T (leZ (a .start) (b .start))
+pub covers-start : (a b : Span) → T (covers a b) → T (leZ (a .start) (b .start))
 covers-start a b t = and-l (leZ (a .start) (b .start)) (leZ (b .end) (a .end)) t
 
-covers-end : (a b : Span) → T (covers a b) → T (leZ (b .end) (a .end))
+pub covers-end : (a b : Span) → T (covers a b) → T (leZ (b .end) (a .end))
 covers-end a b t = and-r (leZ (a .start) (b .start)) (leZ (b .end) (a .end)) t
 
 -- ---- the intersection is inside both, and contains every interval that is inside both

@@ -4,3 +4,4 @@ pub mod Division
 pub mod Order
 pub mod Powers
 pub mod Laws
+pub mod Positions

@@ -94,6 +94,10 @@ not-negative (negsuc n) h = absurd (omega arith)
 pub not-negative-difference : (a b : ℤ) → above a + below b ≤ above b + below a → below (b -ℤ a) ≡ 0
 not-negative-difference a b h = ⊎-elim (λ (l : above (b -ℤ a) ≡ 0). omega (arith, difference-is b a)) (λ (r : below (b -ℤ a) ≡ 0). r) (one-side (b -ℤ a))
 
+-- x is |x - a| above a if a ≤ x
+pub distance-is : (a x : ℤ) → T (leZ a x) → above a + below x + natAbs (x -ℤ a) ≡ above x + below a
+distance-is a x h = let p = le-to a x h in omega (arith, p, size-is (x -ℤ a), difference-is x a, not-negative-difference a x p)
+
 -- |a - b| is |b - a|
 pub same-size : (a b : ℤ) → natAbs (a -ℤ b) ≡ natAbs (b -ℤ a)
 same-size a b =
@@ -206,18 +210,7 @@ module _ (a b : ℤ) where
 
 -- e - s is at most b - a if a ≤ s ≤ e ≤ b
 pub between : (a s e b : ℤ) → T (leZ a s) → T (leZ s e) → T (leZ e b) → natAbs (e -ℤ s) ≤ natAbs (b -ℤ a)
-between a s e b h k l =
-    omega (
-      arith,
-      le-to a s h,
-      le-to s e k,
-      le-to e b l,
-      size-is (e -ℤ s),
-      size-is (b -ℤ a),
-      difference-is e s,
-      difference-is b a,
-      not-negative-difference s e (le-to s e k),
-    )
+between a s e b h k l = omega (arith, le-to a s h, le-to e b l, distance-is s e k, distance-is a b (le-trans a s b h (le-trans s e b k l)))
 
 pub mag-side : (z : ℤ) → mag z ≤ above z + below z
 mag-side (pos n) = omega arith

@@ -5,18 +5,14 @@ use mathlib.Core.List.{List}
 use mathlib.Core.Logic.{inl, inr}
 use Prim.Native.Nat.{ℕ, _*_, _<_}
 use native.Mathlib.Omega.{arith}
-use lib.Dec.{T}
 use lib.IntN.{ℤ, pos, natAbs, _+ℤ_, _-ℤ_}
 use lib.ListN.{length}
 use lib.Seq.{ext-getD}
 use lib.Ieee.{Float, nan}
-use lib.Ieee.Fits.{and-i}
-use lib.Signed.{leZ, ltZ}
-use Rattle.region_interval.specs.declared.Span.{Span}
-use Rattle.region_interval.specs.Overlap.{covers, In}
-use Rattle.region_interval.proofs.Order.{le-refl}
+use Rattle.region_interval.proofs.Positions.{nth-offset, in-part}
 use Rattle.region.specs.declared.Region.{Region}
-use Rattle.region.specs.Regions.{columns, rows, inside, Holds}
+use Rattle.region.specs.Regions.{Holds}
+use Rattle.region.proofs.Regions.{nth-holds, holds-or-not, column-below, row-below, inside-itself, inside-columns, inside-rows}
 use Rattle.planes_layout.specs.Outcome.{layoutOf}
 use Rattle.planes.specs.Sets.{of}
 use Rattle.planes.proofs.SetLaws.{length-setOf, sets-ext}
@@ -37,18 +33,10 @@ use Rattle.run_calls.specs.Theorem.{CutFrom, Delivers}
 use Rattle.run_calls.specs.Corollaries.{FinishedRun, firstAt, SameButBands, handedOver, WholePicture, TwoCutsAgree, OutsideKept, BandsAlike}
 use Rattle.run_calls.proofs.Rows.{image-in-result}
 use Rattle.run_calls.proofs.Lists.{start-unrefused, picture-accepted, KeptFrom, after-start}
-use Rattle.run_calls.proofs.Places.{counted, narrower, nth-held, nth-counted, Covered, covered}
 use Rattle.run_calls.proofs.Finished.{result-sample, run-outside, handed-over}
 use Rattle.run_calls.proofs.Theorem.{rectangle-theorem}
 
 -- ---- a picture is cut from itself, and has no cut edge
-
-covers-itself : (s : Span) → T (covers s s)
-covers-itself s = and-i (leZ (s .start) (s .start)) (leZ (s .end) (s .end)) (le-refl (s .start)) (le-refl (s .end))
-
-inside-itself : (r : Region) → T (inside r r)
-unfolding inside
-inside-itself r = and-i (covers (columns r) (columns r)) (covers (rows r) (rows r)) (covers-itself (columns r)) (covers-itself (rows r))
 
 from-itself : (n : ℕ) (h : Handed) → StartAccepted n h → CutFrom n h h
 from-itself n h e = record { unrefused = start-unrefused n h e; contained = inside-itself (h .setup .filter); same-passes = refl; inputs-agree = λ c x y p q. refl; sigmas-agree = λ on x y q. refl }
@@ -79,15 +67,12 @@ not-in-filter s fits x y held out =
     go (between (natAbs (s .filter .left -ℤ s .image .left)) (s .filter .width) (natAbs (x -ℤ s .image .left)))
     (between (natAbs (s .filter .top -ℤ s .image .top)) (s .filter .height) (natAbs (y -ℤ s .image .top)))
   where
-    lies : Covered (s .image) (s .filter)
-    lies = covered (s .image) (s .filter) (fits .contained)
-
     go : Between (natAbs (s .filter .left -ℤ s .image .left)) (s .filter .width) (natAbs (x -ℤ s .image .left))
         → Between (natAbs (s .filter .top -ℤ s .image .top)) (s .filter .height) (natAbs (y -ℤ s .image .top))
         → inFilter (layout s) (natAbs (x -ℤ s .image .left)) (natAbs (y -ℤ s .image .top)) ≡ false
     go (inl a) (inl b) = absurd (out (record {
-      column = narrower (s .filter .left) (s .image .left) (s .filter .width) (s .image .width) (lies .left) (lies .right) x (held .column) (a .0) (a .1);
-      row = narrower (s .filter .top) (s .image .top) (s .filter .height) (s .image .height) (lies .top) (lies .bottom) y (held .row) (b .0) (b .1);
+      column = in-part (s .filter .left) (s .image .left) (s .filter .width) (s .image .width) (inside-columns (s .image) (s .filter) (fits .contained)) x (held .column) (a .0) (a .1);
+      row = in-part (s .filter .top) (s .image .top) (s .filter .height) (s .image .height) (inside-rows (s .image) (s .filter) (fits .contained)) y (held .row) (b .0) (b .1);
     }))
     go (inl a) (inr b) = rw (a .2, b .1)
     go (inr a) b = rw (a .1)
@@ -131,31 +116,13 @@ module _ (n : ℕ) (K : Calls n) (h : Handed) (r : FinishedRun n K h) where
       go : (full : Bool) → fullPlanes s ≡ full → Holds (cond full (s .image) (s .filter)) x y
           → of (s .image .width) (s .image .height) (source state) c (natAbs (x -ℤ s .image .left)) (natAbs (y -ℤ s .image .top)) ≡ firstAt n h c x y
       go true e held =
-          let column = counted (s .image .left) (s .image .width) x (held .column) in
-          let row = counted (s .image .top) (s .image .height) y (held .row) in
-          run-outside n h state kept c _ _ p (image-in-result (layout s) _ _ e column row) (not-in-filter s fits x y held out)
+          run-outside n h state kept c _ _ p (image-in-result (layout s) _ _ e (column-below (s .image) x y held) (row-below (s .image) x y held)) (not-in-filter s fits x y held out)
       go false e held = absurd (out held)
 
 pub outside-kept : (n : ℕ) (K : Calls n) → OutsideKept n K
 outside-kept n K h r = kept-outside n K h r
 
 -- ---- any order of bands and any band height
-
-in-or-not : (s : Span) (p : ℤ) → Dec (In s p)
-in-or-not s p = go (leZ (s .start) p) refl (ltZ p (s .end)) refl
-  where
-    go : (a : Bool) → leZ (s .start) p ≡ a → (b : Bool) → ltZ p (s .end) ≡ b → Dec (In s p)
-    go true e true f = yes (record { from = rw e tt; before = rw f tt })
-    go true e false f = no (λ i. rw f at (i .before))
-    go false e b f = no (λ i. rw e at (i .from))
-
-holds-or-not : (r : Region) (x y : ℤ) → Dec (Holds r x y)
-holds-or-not r x y = go (in-or-not (columns r) x) (in-or-not (rows r) y)
-  where
-    go : Dec (In (columns r) x) → Dec (In (rows r) y) → Dec (Holds r x y)
-    go (yes a) (yes b) = yes (record { column = a; row = b })
-    go (yes a) (no b) = no (λ h. b (h .row))
-    go (no a) b = no (λ h. a (h .column))
 
 cond-second : (b : Bool) (u v w : List Float) → (b ≡ false → v ≡ w) → cond b u v ≡ cond b u w
 cond-second true u v w f = refl
@@ -201,8 +168,8 @@ module _ (n : ℕ) (K : Calls n) (a b : Handed) (same : SameButBands a b) (r : F
       each : (c x y : ℕ) → c < n → x < region .width → y < region .height
           → of (region .width) (region .height) (handedOver n K a r .out) c x y ≡ of (region .width) (region .height) (handedOver n K b q .out) c x y
       each c x y h i j =
-          rw (← region-same n a b same, nth-counted (region .left) x, nth-counted (region .top) y) at
-          (each-same c (region .left +ℤ pos x) (region .top +ℤ pos y) h (record { column = nth-held (region .left) (region .width) x i; row = nth-held (region .top) (region .height) y j }))
+          rw (← region-same n a b same, nth-offset (region .left) x, nth-offset (region .top) y) at
+          (each-same c (region .left +ℤ pos x) (region .top +ℤ pos y) h (nth-holds region x y i j))
 
 pub bands-alike : (n : ℕ) (K : Calls n) → BandsAlike n K
 bands-alike n K a b same r q = bands-same n K a b same r q

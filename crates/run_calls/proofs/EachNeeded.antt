@@ -9,6 +9,7 @@ use lib.Dec.{eqb}
 use lib.IntN.{ℤ, pos, negsuc, natAbs, _-ℤ_}
 use lib.Ieee.{Float, ofBits, lt, add, sub, mul, div}
 use Rattle.region_interval.proofs.Order.{lt-to}
+use Rattle.region_interval.proofs.Positions.{offset-below, offsets-add}
 use Rattle.region.specs.declared.Region.{Region}
 use Rattle.region.specs.Regions.{inside, Holds}
 use Rattle.region.specs.Measures.{boundsFit, pictureFits}
@@ -45,7 +46,6 @@ use Rattle.run_calls.specs.Corollaries.{FinishedRun}
 use Rattle.run_calls.specs.Needed.{Premise, start-accepted, unrefused, contained, same-passes, inputs-agree, sigmas-agree, buffers-unaltered, run-finished, slice-fits, Says, EachNeeded}
 use Rattle.run_calls.specs.Example.{smaller, calls, slice}
 use Rattle.run_calls.specs.EdgeExample.{smaller as smallerEdge, larger as largerEdge, calls as callsEdge, slice as sliceEdge}
-use Rattle.run_calls.proofs.Places.{counted, counted-from}
 use Rattle.run_calls.proofs.Example.{premises-met}
 use Rattle.run_calls.proofs.EdgeExample.{edge-premises-met}
 use Rattle.run_calls.proofs.Needed.{run-of, not-delivered, less-unlike, weights, ones, sigma64, inputs-needed, sigmas-needed, unaltered-needed}
@@ -238,13 +238,13 @@ off-blocks =
 
 module _ (x y : ℤ) (held : Holds (small-edge .setup .filter) x y) where
   column : natAbs (x -ℤ pos 8) < 4
-  column = counted (pos 8) 4 x (held .column)
+  column = offset-below (pos 8) 4 x (held .column)
 
   further : natAbs (x -ℤ pos 4) ≡ 4 + natAbs (x -ℤ pos 8)
-  further = counted-from (pos 8) (pos 4) 4 8 tt tt x (held .column)
+  further = offsets-add (pos 8) (pos 4) x tt (held .column .from)
 
   line : natAbs (y -ℤ pos 0) < 2
-  line = counted (pos 0) 2 y (held .row)
+  line = offset-below (pos 0) 2 y (held .row)
 
   same-inputs : (c : ℕ) → c < 3 → inputAt 3 small-edge c x y ≡ inputAt 3 off-blocks c x y
   unfolding startLeaves inner layoutOf

@@ -6,6 +6,7 @@ use native.Mathlib.Omega.{arith}
 use lib.Dec.{T}
 use lib.IntN.{ℤ, pos, natAbs, _-ℤ_}
 use lib.Ieee.{Float}
+use Rattle.region_interval.proofs.Positions.{offset-below, offsets-add}
 use Rattle.region.specs.Regions.{inside, Holds}
 use Rattle.region.specs.Measures.{boundsFit, pictureFits}
 use Rattle.region_axis.specs.Measures.{cornerFits, sideFits}
@@ -30,7 +31,6 @@ use Rattle.run_calls.specs.Places.{inputAt, sigmaAt}
 use Rattle.run_calls.specs.Theorem.{CutFrom, Unrefused, Premises}
 use Rattle.run_calls.specs.EdgeExample.{larger, smaller, calls, slice, EdgePremisesMet, EdgePlaceClear}
 use Rattle.run_calls.proofs.Lists.{start-state}
-use Rattle.run_calls.proofs.Places.{counted, counted-from}
 
 module _ (p : Picture) (scales : List Float) (border sigma : Float) where
   accepted : StartAccepted 3 (smaller p scales border sigma)
@@ -43,13 +43,13 @@ module _ (p : Picture) (scales : List Float) (border sigma : Float) where
 
   module _ (x y : ℤ) (held : Holds (smaller p scales border sigma .setup .filter) x y) where
     column : natAbs (x -ℤ pos 8) < 4
-    column = counted (pos 8) 4 x (held .column)
+    column = offset-below (pos 8) 4 x (held .column)
 
     further : natAbs (x -ℤ pos 0) ≡ 8 + natAbs (x -ℤ pos 8)
-    further = counted-from (pos 8) (pos 0) 4 12 tt tt x (held .column)
+    further = offsets-add (pos 8) (pos 0) x tt (held .column .from)
 
     row : natAbs (y -ℤ pos 0) < 2
-    row = counted (pos 0) 2 y (held .row)
+    row = offset-below (pos 0) 2 y (held .row)
 
     inputs : (c : ℕ) → c < 3 → inputAt 3 (smaller p scales border sigma) c x y ≡ inputAt 3 (larger p scales border sigma) c x y
     unfolding startLeaves inner layoutOf

@@ -5,6 +5,7 @@ use Prim.Native.Nat.{ℕ, suc, _+_, _<_}
 use native.Mathlib.Omega.{arith}
 use lib.IntN.{ℤ, pos, negsuc, natAbs, _-ℤ_}
 use lib.Ieee.{Float}
+use Rattle.region_interval.proofs.Positions.{offset-below, offsets-add}
 use Rattle.region.specs.Regions.{inside, Holds}
 use Rattle.region.specs.Measures.{boundsFit, pictureFits}
 use Rattle.region_axis.specs.Measures.{cornerFits, sideFits}
@@ -26,7 +27,6 @@ use Rattle.run_calls.specs.Calls.{StartAccepted, libraryCalls, stateAfte
 use Rattle.run_calls.specs.Places.{inputAt}
 use Rattle.run_calls.specs.Theorem.{CutFrom, Unrefused, Premises}
 use Rattle.run_calls.specs.Example.{larger, smaller, calls, slice, PremisesMet, PlaceClear}
-use Rattle.run_calls.proofs.Places.{counted, counted-from}
 
 module _ (p : Picture) (weights : List (List Float)) where
   accepted : StartAccepted 3 (smaller p weights)
@@ -40,9 +40,9 @@ module _ (p : Picture) (weights : List (List Float)) where
   inputs : (c : ℕ) (x y : ℤ) → c < 3 → Holds (smaller p weights .setup .filter) x y → inputAt 3 (smaller p weights) c x y ≡ inputAt 3 (larger p weights) c x y
   unfolding startLeaves inner layoutOf
   inputs c x y h held =
-      let column : natAbs (x -ℤ pos 0) < 3 = counted (pos 0) 3 x (held .column) in
-      let row : natAbs (y -ℤ pos 0) < 1 = counted (pos 0) 1 y (held .row) in
-      let further : natAbs (x -ℤ negsuc 0) ≡ 1 + natAbs (x -ℤ pos 0) = counted-from (pos 0) (negsuc 0) 3 4 tt tt x (held .column) in
+      let column : natAbs (x -ℤ pos 0) < 3 = offset-below (pos 0) 3 x (held .column) in
+      let row : natAbs (y -ℤ pos 0) < 1 = offset-below (pos 0) 1 y (held .row) in
+      let further : natAbs (x -ℤ negsuc 0) ≡ 1 + natAbs (x -ℤ pos 0) = offsets-add (pos 0) (negsuc 0) x tt (held .column .from) in
       let e : 0 + natAbs (x -ℤ negsuc 0) ≡ suc (0 + natAbs (x -ℤ pos 0)) = omega arith in
       of-setOf 3 3 1 _ c (0 + natAbs (x -ℤ pos 0)) (0 + natAbs (y -ℤ pos 0)) h (omega arith) (omega arith)
       ∙ rw e (sym (of-setOf 3 4 1 p c (suc (0 + natAbs (x -ℤ pos 0))) (0 + natAbs (y -ℤ pos 0)) h (omega arith) (omega arith)))

@@ -14,6 +14,7 @@ use Rattle.planes.specs.Sets.{of, setOf}
 use Rattle.planes.proofs.SetLaws.{of-setOf}
 use Rattle.planes.specs.Band.{inFilter, inner}
 use Rattle.region.specs.Regions.{Holds}
+use Rattle.region.proofs.Regions.{column-below, row-below, holds-in-larger, column-offsets-add, row-offsets-add}
 use Rattle.planes_layout.specs.Outcome.{layoutOf}
 use Rattle.run_passes.specs.Pass.{Pass}
 use Rattle.run_passes.proofs.Stages.{stage, stage-last}
@@ -33,31 +34,24 @@ use Rattle.run_calls.specs.States.{ResultAt}
 use Rattle.run_calls.proofs.Rows.{sampleOf, filtered, InResult, filter-in-result, filtered-inside}
 use Rattle.run_calls.proofs.Sound.{Sound, pass-count}
 use Rattle.run_calls.proofs.Lists.{KeptFrom, reached-kept}
-use Rattle.run_calls.proofs.Places.{counted, wider, counted-from, Covered, covered}
 
 -- ---- the result's slice has the samples of the set that it is copied from
 
 module _ (s : Setup) (fits : SetupFits s) (x y : ℤ) (held : Holds (s .filter) x y) where
-  lies : Covered (s .image) (s .filter)
-  lies = covered (s .image) (s .filter) (fits .contained)
-
   -- a position of the filter region lies in the result region,
   in-result : Holds (resultRegion s) x y
   in-result = go (fullPlanes s)
     where
       go : (full : Bool) → Holds (cond full (s .image) (s .filter)) x y
-      go true = record {
-        column = wider (s .filter .left) (s .image .left) (s .filter .width) (s .image .width) (lies .left) (lies .right) x (held .column);
-        row = wider (s .filter .top) (s .image .top) (s .filter .height) (s .image .height) (lies .top) (lies .bottom) y (held .row);
-      }
+      go true = holds-in-larger (s .image) (s .filter) (fits .contained) x y held
       go false = held
 
   -- and its column and row counted from the image region's corner
   column-in : natAbs (x -ℤ s .image .left) ≡ natAbs (s .filter .left -ℤ s .image .left) + natAbs (x -ℤ s .filter .left)
-  column-in = counted-from (s .filter .left) (s .image .left) (s .filter .width) (s .image .width) (lies .left) (lies .right) x (held .column)
+  column-in = column-offsets-add (s .image) (s .filter) (fits .contained) x y held
 
   row-in : natAbs (y -ℤ s .image .top) ≡ natAbs (s .filter .top -ℤ s .image .top) + natAbs (y -ℤ s .filter .top)
-  row-in = counted-from (s .filter .top) (s .image .top) (s .filter .height) (s .image .height) (lies .top) (lies .bottom) y (held .row)
+  row-in = row-offsets-add (s .image) (s .filter) (fits .contained) x y held
 
 module _ (n : ℕ) (s : Setup) (fits : SetupFits s) (l : List Float) (c : ℕ) (x y : ℤ) (h : c < n) where
   pub result-sample : Holds (resultRegion s) x y → resultAt s (resultOf n (layout s) l) c x y ≡ at (s .image) (sampleOf (layout s) l) c x y
@@ -74,10 +68,10 @@ module _ (n : ℕ) (s : Setup) (fits : SetupFits s) (l : List Float) (c : ℕ) (
           let i : 0 + natAbs (x -ℤ s .image .left) ≡ natAbs (x -ℤ s .image .left) = omega arith in
           let j : 0 + natAbs (y -ℤ s .image .top) ≡ natAbs (y -ℤ s .image .top) = omega arith in
           of-setOf n (s .image .width) (s .image .height) _ c (natAbs (x -ℤ s .image .left)) (natAbs (y -ℤ s .image .top)) h
-          (counted (s .image .left) (s .image .width) x (held .column)) (counted (s .image .top) (s .image .height) y (held .row)) ∙ rw (i, j)
+          (column-below (s .image) x y held) (row-below (s .image) x y held) ∙ rw (i, j)
       go false held =
           of-setOf n (s .filter .width) (s .filter .height) _ c (natAbs (x -ℤ s .filter .left)) (natAbs (y -ℤ s .filter .top)) h
-          (counted (s .filter .left) (s .filter .width) x (held .column)) (counted (s .filter .top) (s .filter .height) y (held .row))
+          (column-below (s .filter) x y held) (row-below (s .filter) x y held)
           ∙ rw (column-in s fits x y held, row-in s fits x y held)
 
   pub filter-sample : Holds (s .filter) x y → resultAt s (resultOf n (layout s) l) c x y ≡ inner (layout s) l c (natAbs (x -ℤ s .filter .left)) (natAbs (y -ℤ s .filter .top))

@@ -12,6 +12,7 @@ use lib.IntN.{ℤ, pos, natAbs, _+ℤ_, _-ℤ_}
 use lib.Signed.{ltZ}
 use lib.Ieee.{Float}
 use Rattle.region_interval.proofs.Order.{lt-to, lt-of, sum-is}
+use Rattle.region_interval.proofs.Positions.{offset-below, offsets-add}
 use Rattle.region.specs.Regions.{inside, Holds}
 use Rattle.region.specs.Measures.{boundsFit, pictureFits}
 use Rattle.region_axis.specs.Measures.{cornerFits, sideFits}
@@ -39,7 +40,6 @@ use Rattle.run_calls.specs.Theorem.{CutFrom, Unrefused, Premises}
 use Rattle.run_calls.specs.FourEdges.{Given, larger, smaller, empty, begun, one, two, three, turned, four, five, six, accepted-calls, calls, slice, FourEdgesMet, FourEdgesClear, FourEdgesDelivered}
 use Rattle.run_calls.proofs.Sound.{Sound}
 use Rattle.run_calls.proofs.Lists.{after-kept, start-state, start-sound}
-use Rattle.run_calls.proofs.Places.{counted, counted-from}
 use Rattle.run_calls.proofs.Theorem.{library-theorem}
 
 -- ---- the calls
@@ -151,16 +151,16 @@ module _ (g : Given) where
 
   module _ (x y : ℤ) (held : Holds (smaller g .setup .filter) x y) where
     column : natAbs (x -ℤ pos 8) < 8
-    column = counted (pos 8) 8 x (held .column)
+    column = offset-below (pos 8) 8 x (held .column)
 
     further : natAbs (x -ℤ pos 0) ≡ 8 + natAbs (x -ℤ pos 8)
-    further = counted-from (pos 8) (pos 0) 8 24 tt tt x (held .column)
+    further = offsets-add (pos 8) (pos 0) x tt (held .column .from)
 
     row : natAbs (y -ℤ pos 8) < 8
-    row = counted (pos 8) 8 y (held .row)
+    row = offset-below (pos 8) 8 y (held .row)
 
     lower : natAbs (y -ℤ pos 0) ≡ 8 + natAbs (y -ℤ pos 8)
-    lower = counted-from (pos 8) (pos 0) 8 24 tt tt y (held .row)
+    lower = offsets-add (pos 8) (pos 0) y tt (held .row .from)
 
     inputs : (c : ℕ) → c < 3 → inputAt 3 (smaller g) c x y ≡ inputAt 3 (larger g) c x y
     unfolding startLeaves inner layoutOf

@@ -10,7 +10,8 @@ use lib.Dec.{T, eqb}
 use lib.IntN.{ℤ, pos, negsuc}
 use lib.Ieee.{Float, ofBits, lt, add, sub, mul, div}
 use Rattle.region_interval.proofs.Order.{lt-to}
-use Rattle.region.specs.Regions.{Holds}
+use Rattle.region.specs.Regions.{inside, Holds}
+use Rattle.region.proofs.Regions.{holds-in-larger}
 use Rattle.planes.specs.Samples.{bits, b0, b1}
 use Rattle.planes.specs.Picture.{Picture, around}
 use Rattle.planes.specs.Sets.{of, setOf, tab}
@@ -44,7 +45,6 @@ use Rattle.run_calls.proofs.Lists.{start-state, start-sound}
 use Rattle.run_calls.proofs.Corollaries.{whole-picture}
 use Rattle.run_calls.proofs.Example.{premises-met, place-clear}
 use Rattle.run_calls.proofs.EdgeExample.{edge-premises-met, edge-place-clear}
-use Rattle.run_calls.proofs.Places.{wider}
 
 -- ---- the premises one by one
 
@@ -255,7 +255,8 @@ sigmas-others slice-fits n = edge-premises-met tenth-column ones b1 sigma64 .sli
 -- every position of the smaller filter region lies in that block
 sigmas-but : (x y : ℤ) → Holds (smallerEdge tenth-column ones b1 sigma64 .setup .filter) x y → (Holds block x y → ⊥)
     → sigmaAt 3 (smallerEdge tenth-column ones b1 sigma64) x y ≡ sigmaAt 3 (largerEdge tenth-column ones b1 quarter) x y
-sigmas-but x y held o = absurd (o (record { column = wider (pos 8) (pos 8) 4 8 tt tt x (held .column); row = wider (pos 0) (pos 0) 2 8 tt tt y (held .row) }))
+unfolding inside
+sigmas-but x y held o = absurd (o (holds-in-larger block (smallerEdge tenth-column ones b1 sigma64 .setup .filter) tt x y held))
 
 pub sigmas-needed : SigmasNeeded
 sigmas-needed claim =

@@ -6,9 +6,11 @@ use native.Mathlib.Omega.{arith}
 use lib.Dec.{T, lt→ltb}
 use lib.Ieee.Fits.{and-l, and-r}
 use lib.IntN.{ℤ, pos, natAbs, _+ℤ_, _-ℤ_}
+use Rattle.region_interval.proofs.Positions.{nth-in, nth-offset, offsets-add}
 use Rattle.mirror.specs.Cut.{Deep}
 use Rattle.region.specs.declared.Region.{Region}
-use Rattle.region.specs.Regions.{columns, rows, Holds}
+use Rattle.region.specs.Regions.{Holds}
+use Rattle.region.proofs.Regions.{nth-holds, column-below, row-below, inside-columns, inside-rows, inside-left, inside-top, width-fits, height-fits, column-offsets-add, row-offsets-add}
 use Rattle.region_placement.specs.Blocks.{onBlock}
 use Rattle.run_passes.specs.Pass.{Area, passes}
 use Rattle.run_passes.specs.Cut.{Fits, SameBlocks, SomeStep}
@@ -27,7 +29,7 @@ use Rattle.run_calls.specs.Theorem.{CutFrom, RectangleTheorem, LibraryTh
 use Rattle.run_calls.specs.States.{RectangleTheoremAt}
 use Rattle.run_calls.proofs.Lists.{picture-accepted, reached-kept, end-reached}
 use Rattle.run_calls.proofs.Finished.{filter-sample, run-samples, handed-over}
-use Rattle.run_calls.proofs.Places.{part-fits, counted, counted-from, deep, nth-held, nth-counted, blocks-apart, Covered, covered}
+use Rattle.run_calls.proofs.Places.{deep, blocks-apart}
 
 -- ---- the smaller picture's filter region is a cut of the larger one's
 
@@ -51,29 +53,20 @@ module _ (n : ℕ) (small large : Handed) (fits : PictureFits n small) (from : C
   abbrev b : Area
   b = area (large .setup) (sigmasFilled n large)
 
-  v : Covered g f
-  v = covered g f (from .contained)
-
   cut : Fits a b lx ly
-  cut = record {
-    columns = part-fits (f .left) (g .left) (f .width) (g .width) (v .left) (v .right);
-    rows = part-fits (f .top) (g .top) (f .height) (g .height) (v .top) (v .bottom);
-  }
+  cut = record { columns = width-fits g f (from .contained); rows = height-fits g f (from .contained) }
 
-  -- the position at column x and row y of the smaller filter region, and its column and row in the larger one
-  nth-holds : (x y : ℕ) → x < f .width → y < f .height → Holds f (f .left +ℤ pos x) (f .top +ℤ pos y)
-  nth-holds x y p q = record { column = nth-held (f .left) (f .width) x p; row = nth-held (f .top) (f .height) y q }
-
+  -- the column and row in the larger filter region of the position at column x and row y of the smaller one
   nth-column : (x : ℕ) → x < f .width → natAbs (f .left +ℤ pos x -ℤ g .left) ≡ lx + x
-  nth-column x p = counted-from (f .left) (g .left) (f .width) (g .width) (v .left) (v .right) (f .left +ℤ pos x) (nth-held (f .left) (f .width) x p) ∙ rw (nth-counted (f .left) x)
+  nth-column x p = offsets-add (f .left) (g .left) (f .left +ℤ pos x) (inside-left g f (from .contained)) (nth-in (f .left) (f .width) x p .from) ∙ rw (nth-offset (f .left) x)
 
   nth-row : (y : ℕ) → y < f .height → natAbs (f .top +ℤ pos y -ℤ g .top) ≡ ly + y
-  nth-row y q = counted-from (f .top) (g .top) (f .height) (g .height) (v .top) (v .bottom) (f .top +ℤ pos y) (nth-held (f .top) (f .height) y q) ∙ rw (nth-counted (f .top) y)
+  nth-row y q = offsets-add (f .top) (g .top) (f .top +ℤ pos y) (inside-top g f (from .contained)) (nth-in (f .top) (f .height) y q .from) ∙ rw (nth-offset (f .top) y)
 
   inputs : (c x y : ℕ) → c < n → x < f .width → y < f .height → input n small c x y ≡ input n large c (lx + x) (ly + y)
   inputs c x y h p q =
-      rw (nth-counted (f .left) x, nth-counted (f .top) y, nth-column x p, nth-row y q) at
-      (from .inputs-agree c (f .left +ℤ pos x) (f .top +ℤ pos y) h (nth-holds x y p q))
+      rw (nth-offset (f .left) x, nth-offset (f .top) y, nth-column x p, nth-row y q) at
+      (from .inputs-agree c (f .left +ℤ pos x) (f .top +ℤ pos y) h (nth-holds f x y p q))
 
   -- if a step runs, both filter regions start at multiples of 8 and the smaller one's blocks have the larger one's sigmas
   blocks : SomeStep (plan n (small .setup .settings)) → SameBlocks a b lx ly
@@ -82,8 +75,8 @@ module _ (n : ℕ) (small large : Handed) (fits : PictureFits n small) (from : C
       let too : T (epfOn (large .setup)) = lt→ltb 0 (large .setup .settings .epf .iters) (plan-some-step n (large .setup .settings) (rw (from .same-passes) at z)) in
       let p = setup-fits (small .setup) (fits .setup) .blocks on in
       let q = setup-fits (large .setup) (picture-fits n large (from .unrefused) .setup) .blocks too in
-      let across = blocks-apart (f .left) (g .left) (v .left) (and-l (onBlock (f .left)) (onBlock (f .top)) p) (and-l (onBlock (g .left)) (onBlock (g .top)) q) in
-      let down = blocks-apart (f .top) (g .top) (v .top) (and-r (onBlock (f .left)) (onBlock (f .top)) p) (and-r (onBlock (g .left)) (onBlock (g .top)) q) in
+      let across = blocks-apart (f .left) (g .left) (inside-left g f (from .contained)) (and-l (onBlock (f .left)) (onBlock (f .top)) p) (and-l (onBlock (g .left)) (onBlock (g .top)) q) in
+      let down = blocks-apart (f .top) (g .top) (inside-top g f (from .contained)) (and-r (onBlock (f .left)) (onBlock (f .top)) p) (and-r (onBlock (g .left)) (onBlock (g .top)) q) in
       record {
         bx = lx / 8;
         by = ly / 8;
@@ -91,11 +84,11 @@ module _ (n : ℕ) (small large : Handed) (fits : PictureFits n small) (from : C
         eightX = across .1;
         eightY = down .1;
         sigmas = λ x y i j.
-            let c : natAbs (f .left +ℤ pos (8 * x) -ℤ f .left) / 8 ≡ x = omega (arith, nth-counted (f .left) (8 * x)) in
-            let r : natAbs (f .top +ℤ pos (8 * y) -ℤ f .top) / 8 ≡ y = omega (arith, nth-counted (f .top) (8 * y)) in
+            let c : natAbs (f .left +ℤ pos (8 * x) -ℤ f .left) / 8 ≡ x = omega (arith, nth-offset (f .left) (8 * x)) in
+            let r : natAbs (f .top +ℤ pos (8 * y) -ℤ f .top) / 8 ≡ y = omega (arith, nth-offset (f .top) (8 * y)) in
             let cc : natAbs (f .left +ℤ pos (8 * x) -ℤ g .left) / 8 ≡ lx / 8 + x = omega (arith, nth-column (8 * x) i, across .1) in
             let rr : natAbs (f .top +ℤ pos (8 * y) -ℤ g .top) / 8 ≡ ly / 8 + y = omega (arith, nth-row (8 * y) j, down .1) in
-            rw (c, r, cc, rr) at (from .sigmas-agree on (f .left +ℤ pos (8 * x)) (f .top +ℤ pos (8 * y)) (nth-holds (8 * x) (8 * y) i j));
+            rw (c, r, cc, rr) at (from .sigmas-agree on (f .left +ℤ pos (8 * x)) (f .top +ℤ pos (8 * y)) (nth-holds f (8 * x) (8 * y) i j));
       }
 
   -- all passes over both agree beyond the margin
@@ -105,11 +98,11 @@ module _ (n : ℕ) (small large : Handed) (fits : PictureFits n small) (from : C
   beyond c x y h held clear =
       let s = small .setup .settings in
       let i : Deep (margin s) lx (f .width) (g .width) (natAbs (x -ℤ f .left)) =
-      deep (f .left) (g .left) (f .width) (g .width) (v .left) (v .right) x (held .column) (margin s) (clear .left) (clear .right) in
+      deep (f .left) (g .left) (f .width) (g .width) (inside-columns g f (from .contained)) x (held .column) (margin s) (clear .left) (clear .right) in
       let j : Deep (margin s) ly (f .height) (g .height) (natAbs (y -ℤ f .top)) =
-      deep (f .top) (g .top) (f .height) (g .height) (v .top) (v .bottom) y (held .row) (margin s) (clear .top) (clear .bottom) in
-      let column = counted-from (f .left) (g .left) (f .width) (g .width) (v .left) (v .right) x (held .column) in
-      let row = counted-from (f .top) (g .top) (f .height) (g .height) (v .top) (v .bottom) y (held .row) in
+      deep (f .top) (g .top) (f .height) (g .height) (inside-rows g f (from .contained)) y (held .row) (margin s) (clear .top) (clear .bottom) in
+      let column = column-offsets-add g f (from .contained) x y held in
+      let row = row-offsets-add g f (from .contained) x y held in
       cut-same n a b lx ly cut (plan n s) (plan-sound n s) blocks (input n small) (input n large) inputs c (natAbs (x -ℤ f .left)) (natAbs (y -ℤ f .top)) h
       (rw (plan-reach n s) i) (rw (plan-reach n s) j)
       ∙ rw (from .same-passes, column, row)
@@ -126,11 +119,9 @@ rectangle-theorem-at n small large e from t r z out room =
     record {
       accepted = over .0;
       samples = λ c x y h held clear.
-          let column = counted (s .filter .left) (s .filter .width) x (held .column) in
-          let row = counted (s .filter .top) (s .filter .height) y (held .row) in
           rw (over .1)
           (filter-sample n s (setup-fits s (fits .setup)) (source t) c x y h held
-          ∙ run-samples n small t kept z (setup-fits s (fits .setup)) c (natAbs (x -ℤ s .filter .left)) (natAbs (y -ℤ s .filter .top)) h column row
+          ∙ run-samples n small t kept z (setup-fits s (fits .setup)) c (natAbs (x -ℤ s .filter .left)) (natAbs (y -ℤ s .filter .top)) h (column-below (s .filter) x y held) (row-below (s .filter) x y held)
           ∙ beyond n small large fits from c x y h held clear);
     }
 
