@@ -138,5 +138,5 @@ fn smoothed(picture: Picture, part: Region, filters: &Filters) -> Result<Picture
     if part == picture.region {
         return filters.smooth(picture);
     }
-    filters.part(&picture, part)
+    filters.last_part(picture, part)
 }

@@ -2,9 +2,6 @@
 
 use restoration::{CHANNELS, Region};
 
-/// Samples of the largest picture that the library accepts.
-pub const MOST_SAMPLES: usize = CHANNELS * 16_777_216;
-
 /// Planes of a region, one after another, each row after row from the top.
 #[derive(Clone)]
 pub struct Picture {

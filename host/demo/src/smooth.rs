@@ -1,10 +1,12 @@
 //! Whole pictures and rectangles smoothed by the proved library.
 
-use restoration::{Frame, Loupe, LoupeSetup, Refusal, Region, Settings, Setup, Smoothing};
+use restoration::{
+    Frame, Loupe, LoupeSetup, MAX_SAMPLES, Refusal, Region, Settings, Setup, Smoothing,
+};
 
 use crate::{
     options::{Chosen, GaborChoice},
-    picture::{MOST_SAMPLES, Picture, at_corner},
+    picture::{Picture, at_corner},
 };
 
 /// Rows of a band: 256 bands hold the tallest picture.
@@ -54,8 +56,25 @@ impl Filters {
 
     /// A part of a picture, smoothed with what it needs around it.
     pub fn part(&self, picture: &Picture, part: Region) -> Result<Picture, Refusal> {
+        self.by_loupe(picture.region, part, |widened| picture.cut(widened).planes)
+    }
+
+    /// The same for the last part of a picture. The whole picture is freed as soon as the planes that the
+    /// part needs are copied from it, so that it takes no memory while the passes run.
+    pub fn last_part(&self, picture: Picture, part: Region) -> Result<Picture, Refusal> {
+        self.by_loupe(picture.region, part, |widened| {
+            picture.into_part(widened).planes
+        })
+    }
+
+    fn by_loupe(
+        &self,
+        whole: Region,
+        part: Region,
+        planes: impl FnOnce(Region) -> Vec<f32>,
+    ) -> Result<Picture, Refusal> {
         let loupe = Loupe {
-            whole: picture.region,
+            whole,
             settings: self.settings,
             frame: self.frame,
             table: &self.table,
@@ -63,7 +82,7 @@ impl Filters {
         };
         Ok(Picture {
             region: part,
-            planes: loupe.smooth(part, |widened| picture.cut(widened).planes)?,
+            planes: loupe.smooth(part, planes)?,
         })
     }
 
@@ -114,7 +133,7 @@ pub fn check_regions(picture: Region, part: Region) -> Result<(), Refusal> {
     let setup = setup(picture, part, header(OFF));
     // Sides out of range are refused before lengths are compared.
     let count = picture.sample_count();
-    let samples = if count <= MOST_SAMPLES { count } else { 0 };
+    let samples = if count <= MAX_SAMPLES { count } else { 0 };
     let (mut first, second) = (vec![0.0; samples], vec![0.0; samples]);
     let (frame, table) = (frame(at_corner(1, 1)), [0; 3]);
     restoration::start(setup, frame, &table, &[], &mut first, &second, &mut []).value()?;

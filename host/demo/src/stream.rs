@@ -7,14 +7,15 @@ use std::{
     path::PathBuf,
 };
 
+use restoration::MAX_SAMPLES;
+
 use crate::{
     error::{Error, quoted},
-    picture::MOST_SAMPLES,
     store,
 };
 
 /// More bytes than the file of any picture that is accepted: its samples and a header.
-const MOST_BYTES: usize = 4 * MOST_SAMPLES + 65_536;
+const MOST_BYTES: usize = 4 * MAX_SAMPLES + 65_536;
 
 pub enum Stream {
     Standard,

@@ -21,6 +21,8 @@ pub const TABLE_ENTRY: usize = 3;
 pub const MAX_SIDE: u32 = 16_384;
 /// Largest area of an image region or a filter region, in samples.
 pub const MAX_AREA: u32 = 16_777_216;
+/// Most samples of an image region's three planes together.
+pub const MAX_SAMPLES: usize = CHANNELS * MAX_AREA as usize;
 /// Largest absolute value of a region's left and top, and of an offset to mirror.
 pub const MAX_OFFSET: i32 = 1_048_576;
 /// Largest factor of [`crate::region_downsample`].

@@ -5,14 +5,14 @@ use crate::{
     boundary::{defaults, entries},
 };
 
-/// What a loupe shows. The default has the default settings; its regions are empty, and it is refused
-/// until they are set.
+/// A rectangle to filter, and the picture that it is part of. The default has the default settings; its
+/// regions are empty, and it is refused until they are set.
 #[repr(C)]
 #[derive(Debug, Clone, Copy, PartialEq)]
 pub struct LoupeSetup {
     /// The filter region of the whole picture.
     pub whole: Region,
-    /// The rectangle to show, inside the whole.
+    /// The rectangle to filter, inside the whole.
     pub wanted: Region,
     pub settings: Settings,
 }
@@ -46,7 +46,7 @@ entries! {
     loupe_widened = restoration_loupe_widened(setup: LoupeSetup) -> RegionAnswer;
 
     /// Filters the wanted rectangle: `first` has the planes of the widened one, `second` and `sigmas`
-    /// are scratch, and `out` gets the wanted samples. [`Loupe`] has the buffers.
+    /// are scratch, and `out` gets the wanted samples. [`Loupe`] allocates the buffers.
     loupe_smooth = restoration_loupe_smooth(
         setup: LoupeSetup,
         frame: Frame,
@@ -59,7 +59,7 @@ entries! {
     ) -> u32;
 }
 
-/// A picture of which rectangles are shown, one call each.
+/// Filters rectangles of a picture, one call per rectangle, without filtering the rest of it.
 ///
 /// ```
 /// use restoration::{Frame, Loupe, Region, Settings, Setup, Smoothing};
@@ -93,7 +93,11 @@ pub struct Loupe<'a> {
 }
 
 impl Loupe<'_> {
-    /// The wanted samples, plane by plane. `planes` supplies the planes of the rectangle that they need.
+    /// The wanted samples, plane by plane. `planes` supplies the planes of the rectangle that they need,
+    /// which [`loupe_widened`] computes; if that is refused, `planes` is not called.
+    ///
+    /// A refusal is always that of [`loupe_smooth`], with the planes as supplied and the other buffers as
+    /// long as they have to be.
     pub fn smooth(
         &self,
         wanted: Region,
@@ -104,11 +108,18 @@ impl Loupe<'_> {
             wanted,
             settings: self.settings,
         };
-        let widened = loupe_widened(setup).value()?;
-        let mut first = planes(widened);
+        // A refusal here is not returned: `loupe_smooth` refuses the setup too, but checks more, and some
+        // of that first. After 4, 15 and 6 it compares no lengths. After 9 it compares that of `out`, and
+        // those of the other buffers not at all or, of `sigmas` with the edge filter off, with 0.
+        let widened = loupe_widened(setup).value();
+        let out_len = match widened {
+            Ok(_) | Err(Refusal::OutOfRange) => wanted.sample_count(),
+            Err(_) => 0,
+        };
+        let mut first = widened.map(planes).unwrap_or_default();
         let mut second = vec![0.0; first.len()];
-        let mut sigmas = vec![0.0; self.block_count(widened)];
-        let mut out = vec![0.0; wanted.sample_count()];
+        let mut sigmas = vec![0.0; widened.map_or(0, |r| self.block_count(r))];
+        let mut out = vec![0.0; out_len];
         let (table, grids) = (self.table, self.grids);
         accepted(loupe_smooth(
             setup, self.frame, table, grids, &mut first, &mut second, &mut sigmas, &mut out,

@@ -18,6 +18,14 @@ macro_rules! refusals {
         }
 
         impl Refusal {
+            /// All refusals, in the order of their numbers, which are 1, 2, 3, ...
+            ///
+            /// ```
+            /// let numbers = restoration::Refusal::ALL.map(|refusal| refusal.number() as usize);
+            /// assert!(numbers.into_iter().eq(1..=numbers.len()));
+            /// ```
+            pub const ALL: [Self; [$($number),*].len()] = [$(Self::$name),*];
+
             pub fn number(self) -> u32 {
                 self as u32
             }

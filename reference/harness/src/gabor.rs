@@ -1,6 +1,6 @@
 //! The Gabor-like pass: small pictures of all sizes and placements, band by band, random pictures, and
-//! refusals. Samples that are not written must keep their bits. A filter region of one row is judged by
-//! the rule and the standard's kernel, any other by the original.
+//! refusals. Samples that are not written must keep their bits. Filter regions of one row are
+//! compared with the rule and with the standard's kernel, all others with the original.
 
 pub mod one_row;
 
@@ -46,6 +46,21 @@ struct Pass {
     weights: oracle::Weights,
 }
 
+impl Pass {
+    /// A pass with any weights; `full` is 1 for the result to be the whole image.
+    fn new(image: oracle::Region, filter: oracle::Region, full: u32, random: &mut Random) -> Self {
+        Self {
+            place: oracle::Place {
+                image,
+                filter,
+                preserve_outside: full == 1,
+            },
+            full,
+            weights: weights(random),
+        }
+    }
+}
+
 impl pass::Pass for Pass {
     fn place(&self) -> &oracle::Place {
         &self.place
@@ -62,7 +77,7 @@ impl pass::Pass for Pass {
     }
 
     fn original(&self, source: &[f32]) -> oracle::Planes {
-        one_row::judge(self.place, self.weights, picture::planes(source))
+        one_row::expected_pass(self.place, self.weights, picture::planes(source))
     }
 
     fn number(&self, rows: Rows, sets: [usize; 2]) -> u32 {
@@ -140,15 +155,7 @@ fn all_bands(
             if !row.takes(amount) {
                 continue;
             }
-            let pass = Pass {
-                place: oracle::Place {
-                    image,
-                    filter,
-                    preserve_outside,
-                },
-                full: preserve_outside.into(),
-                weights: weights(random),
-            };
+            let pass = Pass::new(image, filter, preserve_outside.into(), random);
             any_picture(&pass, band, random, row);
         }
     }
@@ -176,15 +183,7 @@ fn random_pass(random: &mut Random) -> (Pass, u32) {
         height: rows,
     };
     let preserve_outside = random.once_in(2);
-    let pass = Pass {
-        place: oracle::Place {
-            image,
-            filter,
-            preserve_outside,
-        },
-        full: preserve_outside.into(),
-        weights: weights(random),
-    };
+    let pass = Pass::new(image, filter, preserve_outside.into(), random);
     (pass, band)
 }
 
@@ -213,15 +212,7 @@ fn damaged(random: &mut Random, row: &mut Row) {
         picture::any_region(random)
     };
     let full = picture::any_flag(random);
-    let pass = Pass {
-        place: oracle::Place {
-            image,
-            filter,
-            preserve_outside: full == 1,
-        },
-        full,
-        weights: weights(random),
-    };
+    let pass = Pass::new(image, filter, full, random);
     let rows = (picture::any_row(random), picture::any_row(random));
     let source = samples(picture::any_set_len(image, random), random);
     let before = samples(picture::any_set_len(image, random), random);

@@ -1,6 +1,11 @@
-//! The loupe: rectangles of pictures, whose samples must be those of the original's run over the whole.
+//! The loupe: rectangles of pictures. Their samples must be those of the original's run over the whole picture.
 
-use restoration::{CHANNELS, LoupeSetup, MAX_ITERS, MAX_OFFSET, Region, Setup};
+#[path = "../../../host/restoration/tests/common/tally.rs"]
+mod tally;
+
+use restoration::{LoupeSetup, MAX_ITERS, Region, Setup};
+
+use tally::Tally;
 
 use crate::{
     convert::{frame, original},
@@ -14,7 +19,7 @@ use crate::{
 /// Pictures before `--scale`, and rectangles of each.
 const PICTURES: u64 = 4_000;
 const LARGE_PICTURES: u64 = 24;
-const RECTANGLES: u32 = 4;
+const RECTANGLES: u64 = 4;
 /// Sides of small pictures and of large ones.
 const SMALL: u32 = 64;
 const LARGE: (u32, u32) = (300, 270);
@@ -23,17 +28,20 @@ const NAME: &str = "loupe";
 
 pub fn compare(amount: Amount, report: &mut Report) {
     let mut random = Random::for_name(NAME);
-    let mut tally = Tally::default();
     let mut row = Row::new(NAME, "small");
+    let mut tally = Tally::default();
     while row.draws(PICTURES, amount) {
         let passes = runs::passes(&mut random);
         let whole = runs::with_passes(passes, SMALL, &mut random);
         rectangles(whole, &mut random, &mut row, &mut tally);
     }
     row.require(&[0], amount);
+    finish(&tally, amount.least(PICTURES * RECTANGLES), &mut row);
     report.add(row);
     let mut row = Row::new(NAME, "large");
-    for n in 0..amount.few(LARGE_PICTURES) {
+    let mut tally = Tally::default();
+    let pictures = amount.few(LARGE_PICTURES);
+    for n in 0..pictures {
         let passes = Passes {
             gabor: n % 2 == 0,
             iterations: (n / 2) as u32 % (MAX_ITERS + 1),
@@ -41,32 +49,29 @@ pub fn compare(amount: Amount, report: &mut Report) {
         let whole = runs::with_sides(passes, LARGE, LARGE.0, &mut random);
         rectangles(whole, &mut random, &mut row, &mut tally);
     }
+    finish(&tally, pictures * RECTANGLES, &mut row);
     report.add(row);
-    let Tally { samples, apart } = tally;
-    println!(
-        "{NAME}: {samples} samples of whole runs; {apart} rectangles with other sigmas than the whole"
-    );
 }
 
-/// What was compared.
-#[derive(Default)]
-struct Tally {
-    samples: u64,
-    /// Rectangles whose sigmas are others than the whole's, since a grid is missing.
-    apart: u64,
+/// Prints the counts of a row. It counts as differing if one is below its minimum.
+fn finish(tally: &Tally, drawn: u64, row: &mut Row) {
+    println!("{NAME}: {}", tally.summary());
+    for (what, count, least) in tally.required(drawn) {
+        row.at_least(what, count, least);
+    }
 }
 
-/// Rectangles of a picture's filter region.
+/// Compares rectangles of a picture's filter region.
 fn rectangles(mut whole: Input, random: &mut Random, row: &mut Row, tally: &mut Tally) {
     whole.setup.preserve_outside = 0;
     let by_original = whole.original();
     for _ in 0..RECTANGLES {
-        let wanted = part(whole.setup.filter, random);
+        let wanted = wanted(whole.setup.filter, random);
         rectangle(&whole, &by_original, wanted, random, row, tally);
     }
 }
 
-/// Compares a rectangle with the original's whole run or, where its sigmas are others than the whole's, with
+/// Compares a rectangle with the original's whole run or, where its sigmas differ from the whole picture's, with
 /// the original's run over the widened rectangle.
 fn rectangle(
     whole: &Input,
@@ -88,11 +93,13 @@ fn rectangle(
         Err(refusal) => return row.differs(&(whole, wanted), &refusal, &0),
     };
     let mut own = cut(whole, widened, random);
-    let expected = if alike(whole, &own) {
-        tally.samples += (CHANNELS as u32 * wanted.width * wanted.height) as u64;
+    let expected = if sigmas_agree(whole, &own) {
+        let has_passes = setup_rule(&whole.setup).passes() > 0;
+        let cut = has_passes && widened != whole.setup.filter;
+        tally.add(wanted.sample_count(), cut);
         samples_in(whole.setup.filter, by_original, wanted)
     } else {
-        tally.apart += 1;
+        tally.add_other_sigmas();
         samples_in(widened, &own.original(), wanted)
     };
     let mut out = samples(expected.len(), random);
@@ -122,8 +129,8 @@ fn cut(whole: &Input, widened: Region, random: &mut Random) -> Input {
     }
 }
 
-/// The block sigmas agree where the smaller picture has some.
-fn alike(whole: &Input, own: &Input) -> bool {
+/// Whether the block sigmas of the smaller picture are the whole picture's there.
+fn sigmas_agree(whole: &Input, own: &Input) -> bool {
     let off = own.setup.settings.epf.iters == 0;
     off || same_samples(
         &own.expected_sigmas(),
@@ -150,29 +157,13 @@ fn samples_in(region: Region, planes: &[f32], part: Region) -> Vec<f32> {
     runs.flat_map(|run| &planes[run]).copied().collect()
 }
 
-/// A rectangle inside a region: at its start or end, one sample, or any.
-fn part(region: Region, random: &mut Random) -> Region {
-    let mut along = |corner: i32, side: u32| {
-        let before = if random.once_in(4) {
-            0
-        } else {
-            random.within(0, (side - 1).into()) as u32
-        };
-        let before = before.min(corner.abs_diff(MAX_OFFSET));
-        let room = side - before;
-        let length = match random.within(0, 3) {
+/// A rectangle inside a region. Along each axis it reaches the region's end, has one sample, or any length.
+fn wanted(region: Region, random: &mut Random) -> Region {
+    runs::part(region, 1, random, |room, random| {
+        match random.within(0, 3) {
             0 => room,
             1 => 1,
             _ => random.within(1, room.into()) as u32,
-        };
-        (corner + before as i32, length)
-    };
-    let (left, width) = along(region.left, region.width);
-    let (top, height) = along(region.top, region.height);
-    Region {
-        left,
-        top,
-        width,
-        height,
-    }
+        }
+    })
 }

@@ -107,8 +107,8 @@ fn compare(amount: Amount, sections: &[Section]) -> ExitCode {
     for (section, _) in sections {
         section(amount, &mut report);
     }
-    let none_asked = gabor::one_row::none_asked();
-    if report.finish(sections.iter().map(|(_, rows)| rows).sum()) && none_asked {
+    let original_ran_none = gabor::one_row::original_ran_none();
+    if report.finish(sections.iter().map(|(_, rows)| rows).sum()) && original_ran_none {
         ExitCode::SUCCESS
     } else {
         ExitCode::FAILURE

@@ -4,7 +4,7 @@
 
 mod regroup;
 
-use restoration::{BLOCK, CHANNELS, MAX_ITERS, MAX_OFFSET, Region, Settings};
+use restoration::{BLOCK, CHANNELS, MAX_ITERS, Region, Settings};
 
 use crate::{
     bits,
@@ -214,35 +214,18 @@ pub fn sigmas_within(larger: &Input, part: Region) -> Vec<f32> {
 
 /// A part of the filter region, on blocks if the edge filter runs.
 fn part(larger: &Input, random: &mut Random) -> Region {
-    let filter = larger.setup.filter;
     let step = if larger.setup.settings.epf.iters > 0 {
         BLOCK
     } else {
         1
     };
-    let mut along = |corner: i32, side: u32| {
-        let before = if random.once_in(4) {
-            0
-        } else {
-            step * random.within(0, ((side - 1) / step).into()) as u32
-        };
-        let before = before.min(corner.abs_diff(MAX_OFFSET));
-        let room = side - before;
-        let length = if random.once_in(4) {
+    runs::part(larger.setup.filter, step, random, |room, random| {
+        if random.once_in(4) {
             room
         } else {
             random.within(1, room.into()) as u32
-        };
-        (corner + before as i32, length)
-    };
-    let (left, width) = along(filter.left, filter.width);
-    let (top, height) = along(filter.top, filter.height);
-    Region {
-        left,
-        top,
-        width,
-        height,
-    }
+        }
+    })
 }
 
 /// A picture that agrees with a larger one in its own filter region.

@@ -2,6 +2,8 @@
 
 use std::{fmt::Debug, time::Instant};
 
+use restoration::Refusal;
+
 /// How many differences of a row are printed.
 const SHOWN: u64 = 5;
 
@@ -22,6 +24,14 @@ impl Amount {
             Self::Some => cases,
         }
     }
+
+    /// How many cases a row with so many random ones has at least.
+    pub fn least(self, cases: u64) -> u64 {
+        match self {
+            Self::All(scale) => cases * scale,
+            Self::Some => cases.min(ENOUGH),
+        }
+    }
 }
 
 /// `Amount::Some` compares this many cases of a row before it skips any.
@@ -31,6 +41,8 @@ const ENOUGH: u64 = 1_000;
 const THINNED: u64 = 256;
 /// How often a required number must be expected.
 const SEEN: u64 = 1_000;
+/// How many numbers there are: 0, and one per refusal.
+const NUMBERS: usize = 1 + Refusal::ALL.len();
 
 /// One line of the table.
 pub struct Row {
@@ -41,7 +53,7 @@ pub struct Row {
     cases: u64,
     differ: u64,
     /// How often each number was expected; 0 is an accepted call.
-    numbers: [u64; 12],
+    numbers: [u64; NUMBERS],
     /// Pictures whose bands are the cases.
     pictures: u64,
     /// The numbers that must be expected often enough.
@@ -56,7 +68,7 @@ impl Row {
             offered: 0,
             cases: 0,
             differ: 0,
-            numbers: [0; 12],
+            numbers: [0; NUMBERS],
             pictures: 0,
             required: &[],
         }
@@ -103,9 +115,14 @@ impl Row {
         self.required = numbers;
         for &number in numbers {
             let seen = self.numbers[number as usize];
-            if seen < SEEN {
-                self.differs(&("times that a number was expected", number), &seen, &SEEN);
-            }
+            self.at_least(&format!("times that {number} was expected"), seen, SEEN);
+        }
+    }
+
+    /// The row counts as differing if a count is below its minimum.
+    pub fn at_least(&mut self, what: &str, count: u64, least: u64) {
+        if count < least {
+            self.differs(&what, &count, &format_args!("at least {least}"));
         }
     }
 

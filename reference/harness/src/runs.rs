@@ -14,7 +14,9 @@ use restoration::{MAX_BANDS, MAX_ITERS};
 
 use calls::Tally;
 use damage::MOST_SAMPLES;
-pub use draw::{Passes, around, band_height, defaults, passes, settings, with_passes, with_sides};
+pub use draw::{
+    Passes, around, band_height, defaults, part, passes, settings, with_passes, with_sides,
+};
 pub use input::{Input, State, place, setup_rule};
 
 use crate::{

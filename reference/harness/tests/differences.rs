@@ -300,12 +300,17 @@ fn edge_filter_off_blocks_and_steps() {
 
 /// The first plane of `0 1/4` through step 1 with this multiplier.
 fn step_1_scaled(multiplier: f32) -> Vec<f32> {
-    let (image, source) = (sized(2, 1), three(&[0.0, 0.25]).concat());
-    let mut target = source.clone();
     let settings = EpfStep {
         multiplier,
         ..plain_step(1)
     };
+    first_after(settings, sized(2, 1), &three(&[0.0, 0.25]))
+}
+
+/// The first plane of an image of one block, with sigma 2, after a step over all of it.
+fn first_after(settings: EpfStep, image: Region, planes: &oracle::Planes) -> Vec<f32> {
+    let (source, rows) = (planes.concat(), image.height);
+    let mut target = source.clone();
     let number = restoration::epf_pass(
         image,
         image,
@@ -313,12 +318,13 @@ fn step_1_scaled(multiplier: f32) -> Vec<f32> {
         settings,
         &[2.0],
         0,
-        1,
+        rows,
         &source,
         &mut target,
     );
     assert_eq!(number, 0);
-    target[..2].to_vec()
+    target.truncate(planes[0].len());
+    target
 }
 
 #[test]
@@ -631,21 +637,8 @@ fn step_order_of_sums() {
         original.each_mut().map(Vec::as_mut_slice),
     );
     assert_eq!(original[0][0].to_bits(), 0x3032_B54E);
-    let (image, source) = (sized(2, 2), planes.concat());
-    let mut target = [0.0; 12];
-    let settings = plain_step(1);
-    let number = restoration::epf_pass(
-        image,
-        image,
-        1,
-        settings,
-        &[2.0],
-        0,
-        2,
-        &source,
-        &mut target,
-    );
-    assert_eq!((number, target[0].to_bits()), (0, 0x3032_B54E));
+    let ours = first_after(plain_step(1), sized(2, 2), &planes);
+    assert_eq!(ours[0].to_bits(), 0x3032_B54E);
     let own = first_of_four([(0, -1), (0, 0), (0, 1), (-1, 0), (1, 0)]);
     assert_eq!(own.to_bits(), 0x3032_B54E);
     let step_0 = first_of_four([(0, -1), (1, 0), (0, 0), (-1, 0), (0, 1)]);

@@ -161,7 +161,7 @@ fn the_picture_is_not_replaced() {
             expect(&folder, &[input, "--cut", cut], &line);
         }
     }
-    // Before the library is asked, after the rectangles.
+    // This comes before the library's refusal of 65 rectangles.
     let line = format!("'{PICTURE}': the cut file must not replace '{PICTURE}'");
     let rects = ["--rect", "0,0,1,1"].repeat(65);
     let words = [&[PICTURE, "--cut", PICTURE][..], &rects].concat();

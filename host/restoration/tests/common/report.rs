@@ -2,12 +2,14 @@
 
 use std::{env, fmt::Debug, process::ExitCode, time::Instant};
 
+use restoration::Refusal;
+
 /// How many differences are printed.
 const SHOWN: u64 = 5;
 /// How often each number of a function must be expected, if all inputs are compared.
 const SEEN: u64 = 1_000;
-/// Numbers are below this.
-const NUMBERS: usize = 16;
+/// How many numbers there are: 0, and one per refusal.
+const NUMBERS: usize = 1 + Refusal::ALL.len();
 
 /// How many inputs are compared.
 #[derive(Clone, Copy, PartialEq)]
@@ -24,7 +26,7 @@ impl Amount {
     pub fn of_arguments() -> Self {
         let some = env::args().any(|argument| argument == "--some");
         if cfg!(debug_assertions) {
-            println!("debug build: one input in fifty is compared; with --release all are");
+            println!("debug build: one input in {THINNED} is compared; with --release all are");
         }
         if some || cfg!(debug_assertions) {
             Self::Some
@@ -33,11 +35,11 @@ impl Amount {
         }
     }
 
-    /// How often each number of a function must be expected.
-    fn least(self) -> u64 {
+    /// At least so many of these are compared.
+    fn of(self, inputs: u64) -> u64 {
         match self {
-            Self::All => SEEN,
-            Self::Some => SEEN / THINNED,
+            Self::All => inputs,
+            Self::Some => inputs / THINNED,
         }
     }
 }
@@ -55,16 +57,23 @@ impl Function {
     }
 }
 
+/// A section's name, how many inputs it has at least, and the function that compares them.
+pub type Section = (&'static str, u64, fn(&mut Report));
+
 pub struct Report {
     started: Instant,
     amount: Amount,
     offered: u64,
+    /// The name of the section that is compared.
+    section: &'static str,
     /// Each function, and how often it was expected to give each number.
     functions: Vec<(Function, [u64; NUMBERS])>,
-    /// Inputs of this section.
+    /// Inputs of all sections so far.
     inputs: u64,
     calls: u64,
     differ: u64,
+    /// Counts that are below their minimum.
+    too_few: Vec<String>,
 }
 
 impl Report {
@@ -75,22 +84,40 @@ impl Report {
             started: Instant::now(),
             amount,
             offered: 0,
+            section: "",
             functions: functions.iter().map(unseen).collect(),
             inputs: 0,
             calls: 0,
             differ: 0,
+            too_few: Vec::new(),
         }
     }
 
-    pub fn section(&mut self, name: &str, compare: fn(&mut Self)) {
+    /// Compares the inputs of a section and prints how many they were.
+    pub fn section(&mut self, (name, least, compare): Section) {
+        self.section = name;
         let (inputs, calls, differ) = (self.inputs, self.calls, self.differ);
         compare(self);
+        let inputs = self.inputs - inputs;
         println!(
-            "{name:<28} {:>9} {:>9} {:>7}",
-            self.inputs - inputs,
+            "{name:<28} {inputs:>9} {:>9} {:>7}",
             self.calls - calls,
             self.differ - differ
         );
+        self.require("inputs", inputs, least);
+    }
+
+    /// Fails the comparison if a count is below its minimum, or in a comparison of some inputs below that
+    /// share of it.
+    pub fn require(&mut self, what: &str, count: u64, least: u64) {
+        let least = self.amount.of(least);
+        if count < least {
+            let line = format!(
+                "{}: {what}: {count}, must be at least {least}",
+                self.section
+            );
+            self.too_few.push(line);
+        }
     }
 
     /// Whether the next input is compared.
@@ -127,26 +154,27 @@ impl Report {
         }
     }
 
-    /// Prints how often each number was expected. Succeeds if nothing differs and each was often enough.
-    pub fn finish(&self) -> ExitCode {
-        let least = self.amount.least();
+    /// Prints how often each number was expected. Succeeds if nothing differs and no count is too low.
+    pub fn finish(mut self) -> ExitCode {
+        self.section = "all sections";
+        let least = self.amount.of(SEEN);
         println!("function      numbers expected (0 is accepted; each at least {least} times)");
-        let mut enough = true;
-        for (Function { name, numbers }, seen) in &self.functions {
-            let times = |number: &u32| seen[*number as usize];
-            enough &= numbers.iter().all(|number| times(number) >= least);
-            let counts = numbers
-                .iter()
-                .map(|number| format!("{number}: {}", times(number)));
-            println!("{name:<13} {}", counts.collect::<Vec<_>>().join(", "));
+        for (Function { name, numbers }, seen) in self.functions.clone() {
+            let counts = numbers.iter().map(|&number| {
+                let times = seen[number as usize];
+                self.require(&format!("{name}: {number} expected"), times, SEEN);
+                format!("{number}: {times}")
+            });
+            let counts = counts.collect::<Vec<_>>().join(", ");
+            println!("{name:<13} {counts}");
         }
-        if !enough {
-            println!("a number was expected too seldom");
+        for line in &self.too_few {
+            println!("too few: {line}");
         }
         let seconds = self.started.elapsed().as_secs_f64();
         let (calls, differ) = (self.calls, self.differ);
         println!("{calls} calls compared in {seconds:.1} s, {differ} differ");
-        if differ == 0 && enough {
+        if differ == 0 && self.too_few.is_empty() {
             ExitCode::SUCCESS
         } else {
             ExitCode::FAILURE

@@ -11,14 +11,14 @@ const ENTRY: usize = 16;
 /// 4096 × 4096 samples: the largest body, 201,326,592 bytes.
 const LARGEST: Region = Region::with_size(4096, 4096);
 
-/// A sound file.
-pub fn sound(random: &mut Random) -> Vec<u8> {
+/// A valid file.
+fn valid(random: &mut Random) -> Vec<u8> {
     let rectangles = random.rectangles();
     let samples = rectangles.iter().map(|r| r.sample_count()).sum();
     written(&rectangles, &random.patterns(samples))
 }
 
-/// A file with up to three damages. Now and then it stays sound.
+/// A file that is damaged up to three times. Sometimes it stays valid.
 pub fn file(random: &mut Random) -> Vec<u8> {
     match random.below(64) {
         0 => return past_32_bits(random),
@@ -26,7 +26,7 @@ pub fn file(random: &mut Random) -> Vec<u8> {
         2 => return noise(random),
         _ => {}
     }
-    let mut file = sound(random);
+    let mut file = valid(random);
     for _ in 0..random.below(4) {
         damage(&mut file, random);
     }
@@ -48,7 +48,7 @@ fn damage(file: &mut Vec<u8>, random: &mut Random) {
     }
 }
 
-/// A byte of the file, of its marker or of its table.
+/// Replaces a byte: of the marker and the count, of the first 100 bytes, or of the whole file.
 fn any_byte(file: &mut [u8], random: &mut Random) {
     let reach = random.one_of(&[TABLE, 100, usize::MAX]).min(file.len());
     if reach > 0 {
@@ -62,7 +62,7 @@ fn put(file: &mut [u8], at: usize, bytes: &[u8]) {
     }
 }
 
-/// As many entries as the file says, where it is long enough.
+/// How many entries there are: the count in the file, or fewer if the file is too short for them.
 fn entries(file: &[u8]) -> usize {
     let said = file.get(4).map_or(0, |&count| usize::from(count));
     said.min(file.len().saturating_sub(TABLE) / ENTRY)
@@ -87,7 +87,7 @@ fn count(file: &mut [u8], random: &mut Random) {
     put(file, 4, &random.one_of(list).to_le_bytes());
 }
 
-/// Two entries exchanged, whole or without their offsets.
+/// Swaps two entries, with or without their offsets.
 fn swapped(file: &mut [u8], random: &mut Random) {
     let count = entries(file);
     if count < 2 {
@@ -100,7 +100,7 @@ fn swapped(file: &mut [u8], random: &mut Random) {
     }
 }
 
-/// A field of an entry: its own number changed a little, a number of another entry, or another number.
+/// Changes a field of an entry: its own number a little, to a number of another entry, or to another number.
 fn field(file: &mut [u8], random: &mut Random, at: usize, length: usize) {
     let count = entries(file);
     if count == 0 {
@@ -132,7 +132,7 @@ fn side(file: &mut [u8], random: &mut Random) {
     let any = random.next() as u16;
     let sides = random.one_of(&[0, 1, 4096, 4097, 16_384, 16_385, u16::MAX, any]);
     match random.below(4) {
-        // Exchanged: the area stays, and the file may be sound.
+        // Swapped: the area stays, and the file may be valid.
         0 => {
             file.swap(at, at + 2);
             file.swap(at + 1, at + 3);
@@ -156,9 +156,9 @@ fn past_32_bits(random: &mut Random) -> Vec<u8> {
     written(&rectangles, &random.patterns(samples))
 }
 
-/// A file whose last body ends 2^32 past the file's own end, all offsets being right: 23 entries are 374
-/// bytes, 21 of the largest bodies 4,227,858,432, and the other two bodies and what is left after the
-/// table make up 2^32.
+/// A file whose offsets are right and whose last body ends 2^32 bytes past the end of the file: a reader that
+/// keeps 32 bits accepts it. The 23 entries end at byte 374, and 21 of the largest bodies have 4,227,858,432
+/// bytes; the other two bodies have the sides with which the sum is 2^32 plus the file's length.
 fn end_past_32_bits(random: &mut Random) -> Vec<u8> {
     let more = random.below(100) as u32;
     let mut rectangles = vec![LARGEST; 21];
@@ -171,7 +171,7 @@ fn end_past_32_bits(random: &mut Random) -> Vec<u8> {
     file
 }
 
-/// Any bytes, some after a marker.
+/// Random bytes, half of the time after a marker and a count.
 fn noise(random: &mut Random) -> Vec<u8> {
     let mut file: Vec<u8> = (0..random.below(200))
         .map(|_| random.next() as u8)

@@ -1,4 +1,4 @@
-//! What the Specification (16) says of cut files. It shares no code with the library.
+//! A reader and a writer of cut files, written from the Specification (16). They share no code with the library.
 
 use std::ops::Range;
 
@@ -40,7 +40,7 @@ fn signed(bytes: &[u8]) -> i64 {
     }
 }
 
-/// The rectangles of a file, or its number (16.5).
+/// The rectangles of a file, or the number of its refusal (16.5).
 pub fn read(file: &[u8]) -> Result<Vec<Rectangle>, u32> {
     if file.len() as u64 > LONGEST {
         return Err(7);
@@ -87,7 +87,8 @@ fn within_limits(left: i64, top: i64, width: u64, height: u64) -> bool {
     offset(left) && offset(top) && side(width) && side(height) && width * height <= 16_777_216
 }
 
-type Read<'a> = Result<&'a [Rectangle], u32>;
+/// What [`read`] returns, borrowed.
+pub type Read<'a> = Result<&'a [Rectangle], u32>;
 
 pub fn count(read: Read) -> CountAnswer {
     read.map_or_else(CountAnswer::refused, |rectangles| CountAnswer {
@@ -96,7 +97,7 @@ pub fn count(read: Read) -> CountAnswer {
     })
 }
 
-/// Rectangle k of a file, or its number (16.6).
+/// Rectangle k of a file, or the number of the refusal (16.6).
 fn rectangle(read: Read<'_>, k: u32) -> Result<&Rectangle, u32> {
     read?.get(k as usize).ok_or(9)
 }
@@ -109,7 +110,7 @@ pub fn region(read: Read, k: u32) -> CutAnswer {
     answer(rectangle(read, k).map(|rectangle| rectangle.region))
 }
 
-/// The answer of `read_cut`, and what it leaves in the samples.
+/// The answer of `read_cut`. The samples become what it leaves in them.
 pub fn samples(file: &[u8], read: Read, k: u32, samples: &mut [u32]) -> CutAnswer {
     let stored = rectangle(read, k).and_then(|rectangle| {
         let (body, _) = file[rectangle.body.clone()].as_chunks::<4>();
@@ -124,7 +125,7 @@ pub fn samples(file: &[u8], read: Read, k: u32, samples: &mut [u32]) -> CutAnswe
     answer(stored)
 }
 
-/// The rectangles of a table and the length of its file, or its number (16.7).
+/// The rectangles of a table and the length of its file, or the number of the refusal (16.7).
 fn measured(table: &CutTable) -> Result<(&[Region], u64), u32> {
     if !(1..=64).contains(&table.count) {
         return Err(12);
@@ -153,7 +154,7 @@ pub fn length(table: &CutTable) -> LengthAnswer {
     })
 }
 
-/// The number of `write_cut`, and what it leaves in the file (16.8).
+/// The number of `write_cut` (16.8). The file becomes what it leaves in it.
 pub fn write(table: &CutTable, samples: &[u32], file: &mut Vec<u8>) -> u32 {
     let (rectangles, length) = match measured(table) {
         Ok(measured) => measured,
@@ -167,7 +168,7 @@ pub fn write(table: &CutTable, samples: &[u32], file: &mut Vec<u8>) -> u32 {
     0
 }
 
-/// The bytes of these rectangles and samples, whatever they are (16.2, 16.3).
+/// The bytes of these rectangles and samples, valid or not (16.2, 16.3).
 pub fn written(rectangles: &[Region], samples: &[u32]) -> Vec<u8> {
     let mut file = MARKER.to_vec();
     file.extend((rectangles.len() as u16).to_le_bytes());

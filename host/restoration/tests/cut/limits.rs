@@ -1,18 +1,19 @@
-//! The longest files. A file has 6 + 16 n + 12 samples per plane bytes, which leave 2, 6 or 10 when divided by 12;
-//! 16,777,216 leaves 4. So the longest file has 16,777,214 bytes, and the next longer one 16,777,218.
+//! The longest files. A file of n rectangles with a samples per plane has 6 + 16 n + 12 a bytes, which is 2, 6 or
+//! 10 modulo 12, and 16,777,216 is 4. So the longest file has 16,777,214 bytes, and the next longer one 16,777,218.
 
-use restoration::{CutTable, MAX_CUT_FILE, Region, cut_count, cut_region, read_cut};
+use restoration::{CutTable, MAX_CUT_FILE, Region, read_cut};
 
 use crate::{
-    COUNT, READ, REGION,
+    READ,
     expected::{self, written},
     random::Random,
+    reading::compare_table,
     report::Report,
     writing,
 };
 
-/// Lengths past the limit that are read.
-const PAST: usize = 1_100;
+/// How many lengths past the limit are read.
+pub const PAST: usize = 1_100;
 
 pub fn longest(report: &mut Report) {
     let mut random = Random::new(7);
@@ -33,7 +34,7 @@ pub fn longest(report: &mut Report) {
         for k in 0..=rectangles.len() as u32 {
             read(report, &file, k);
         }
-        // Up to the limit by its end, past it by its length.
+        // Up to the limit these are refused because of their end (14), past it because of their length (7).
         for length in MAX_CUT_FILE - 1..MAX_CUT_FILE + 3 {
             file.resize(length, 0);
             read(report, &file, 0);
@@ -55,16 +56,8 @@ fn read(report: &mut Report, file: &[u8], k: u32) {
     let shown = || format!("rectangle {k} of {} bytes", file.len());
     let found = expected::read(file);
     let read = found.as_deref().map_err(|number| *number);
-    let expected = expected::count(read);
-    report.call(COUNT, expected.number, (cut_count(file), expected), shown);
-    let expected = expected::region(read, k);
-    report.call(
-        REGION,
-        expected.number,
-        (cut_region(file, k), expected),
-        shown,
-    );
-    let mut left = vec![5; expected.region.sample_count()];
+    let region = compare_table(report, file, read, k, shown);
+    let mut left = vec![5; region.sample_count()];
     let mut given = left.clone();
     let expected = expected::samples(file, read, k, &mut left);
     let answer = read_cut(file, k, &mut given);
@@ -72,7 +65,7 @@ fn read(report: &mut Report, file: &[u8], k: u32) {
     report.call(READ, expected.number, (same, (expected, true)), shown);
 }
 
-/// A file that is too long, whatever is in it.
+/// Reads a file that is too long, whatever is in it.
 fn read_past(report: &mut Report, file: &[u8]) {
     assert_eq!(expected::read(file).err(), Some(7));
     read(report, file, 0);

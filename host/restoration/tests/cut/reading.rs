@@ -1,4 +1,4 @@
-//! Files read.
+//! Reading cut files.
 
 use restoration::{CutTable, Region, cut_count, cut_region, read_cut, read_cut_samples};
 
@@ -10,13 +10,21 @@ use crate::{
     writing,
 };
 
-const DAMAGED: u32 = 1_000_000;
+pub const DAMAGED: u32 = 1_000_000;
+/// Files of each count of rectangles.
+const FILES: u64 = 4;
+/// Rectangles of these files, and for each file three numbers past the last.
+pub const WHOLE: u64 = FILES * (64 * 65 / 2 + 64 * 3);
+/// Lengths of each of 65 files.
+pub const LENGTHS: u64 = 65 * 201;
+/// Values of each byte of a file of 162.
+pub const BYTES: u64 = 162 * 256;
 
-/// Files of every count, each rectangle of which is read, and some past the last.
+/// Files of every count. Each rectangle is read, and some numbers past the last.
 pub fn whole(report: &mut Report) {
     let mut random = Random::new(1);
     for count in 1..=64 {
-        for _ in 0..4 {
+        for _ in 0..FILES {
             let rectangles: Vec<Region> = (0..count).map(|_| random.rectangle()).collect();
             let samples = rectangles.iter().map(|r| r.sample_count()).sum();
             let patterns = random.patterns(samples);
@@ -32,7 +40,7 @@ pub fn whole(report: &mut Report) {
     }
 }
 
-/// Files of three rectangles and of 1 to 64 single samples, cut off or with bytes after them.
+/// Files of three rectangles and of 1 to 64 single samples, cut short or with more bytes after them.
 pub fn lengths(report: &mut Report) {
     let mut random = Random::new(2);
     let single = |count: usize| written(&vec![Region::with_size(1, 1); count], &vec![9; 3 * count]);
@@ -46,7 +54,7 @@ pub fn lengths(report: &mut Report) {
     }
 }
 
-/// Each byte of a file of three rectangles replaced by each other one.
+/// Each byte of a file of three rectangles replaced by every value.
 pub fn bytes(report: &mut Report) {
     let mut random = Random::new(3);
     let file = three();
@@ -89,24 +97,15 @@ pub fn damaged(report: &mut Report) {
     }
 }
 
-/// Compares all that is read of a file and of its rectangle k.
+/// Compares all that is read of a file and of its rectangle k. An accepted file is written again.
 fn compare(report: &mut Report, random: &mut Random, file: &[u8], k: u32) {
     report.input();
     let shown = || format!("rectangle {k} of {} bytes {file:?}", file.len());
     let found = expected::read(file);
     let read = found.as_deref().map_err(|number| *number);
 
-    let expected = expected::count(read);
-    report.call(COUNT, expected.number, (cut_count(file), expected), shown);
-    let expected = expected::region(read, k);
-    report.call(
-        REGION,
-        expected.number,
-        (cut_region(file, k), expected),
-        shown,
-    );
-
-    let length = slice_length(random, expected.region);
+    let region = compare_table(report, file, read, k, shown);
+    let length = slice_length(random, region);
     let samples = random.patterns(length);
     let (mut given, mut left) = (samples.clone(), samples.clone());
     let expected = expected::samples(file, read, k, &mut left);
@@ -121,7 +120,7 @@ fn compare(report: &mut Report, random: &mut Random, file: &[u8], k: u32) {
     report.call(READ, number, ((answer, &given), (expected, &left)), shown);
 
     if let Ok(rectangles) = read {
-        // An accepted file is the one that is written of its contents (Specification 16.9).
+        // Writing what was read gives the same file (Specification 16.9).
         let regions: Vec<Region> = rectangles
             .iter()
             .map(|rectangle| rectangle.region)
@@ -134,7 +133,23 @@ fn compare(report: &mut Report, random: &mut Random, file: &[u8], k: u32) {
     }
 }
 
-/// The samples of a region, and sometimes another length.
+/// Compares the count of a file and the region of its rectangle k, which it returns: zeros if it is refused.
+pub fn compare_table(
+    report: &mut Report,
+    file: &[u8],
+    read: expected::Read,
+    k: u32,
+    shown: impl Fn() -> String,
+) -> Region {
+    let expected = expected::count(read);
+    report.call(COUNT, expected.number, (cut_count(file), expected), &shown);
+    let expected = expected::region(read, k);
+    let answers = (cut_region(file, k), expected);
+    report.call(REGION, expected.number, answers, &shown);
+    expected.region
+}
+
+/// The number of samples of a region, and sometimes another one.
 fn slice_length(random: &mut Random, region: Region) -> usize {
     let samples = region.sample_count();
     match random.below(8) {

@@ -1,13 +1,13 @@
-//! Files written.
+//! Writing cut files.
 
 use restoration::{CutTable, MAX_RECTANGLES, Region, cut_length, write_cut, write_cut_samples};
 
 use crate::{LENGTH, WRITE, expected, random::Random, report::Report};
 
-const TABLES: u32 = 200_000;
+pub const TABLES: u32 = 200_000;
 
-/// Tables of every kind with slices of right and wrong lengths. What is wrong comes together, so that the
-/// order of the checks shows: 12, 4, 7.
+/// Tables of every kind with slices of right and wrong lengths. Several things may be wrong at once, so that
+/// the order of the checks is tested: 12, 4, 7.
 pub fn tables(report: &mut Report) {
     let mut random = Random::new(6);
     for _ in 0..TABLES {
@@ -19,7 +19,7 @@ pub fn tables(report: &mut Report) {
         let mut samples: usize = rectangles.iter().map(|r| r.sample_count()).sum();
         let mut length = 6 + 16 * rectangles.len() + 4 * samples;
         if random.once_in(8) {
-            // These are not read.
+            // Regions past the count are ignored.
             table.regions[rectangles.len()..].fill(random_bad(&mut random));
         }
         if random.once_in(8) {
@@ -44,7 +44,7 @@ pub fn tables(report: &mut Report) {
     }
 }
 
-/// Within the limits; the file is longer than a file may be, or just not.
+/// A region within the limits, with which the file is too long or nearly so.
 fn large(random: &mut Random) -> Region {
     let (width, height) = random.one_of(&[
         (4096, 4096),
@@ -57,7 +57,7 @@ fn large(random: &mut Random) -> Region {
     Region::with_size(width, height)
 }
 
-/// One field beyond the limits, or the area.
+/// A region with one field or its area beyond the limits.
 fn random_bad(random: &mut Random) -> Region {
     let mut r = random.rectangle();
     let offset = [1_048_577, -1_048_577, i32::MIN, i32::MAX];
@@ -72,7 +72,7 @@ fn random_bad(random: &mut Random) -> Region {
     r
 }
 
-/// Compares the length of a table's file, and the file written into these bytes; answers what it is then.
+/// Compares the length of a table's file, and the bytes after writing to them, which it returns.
 pub fn compare(report: &mut Report, table: &CutTable, samples: &[u32], file: Vec<u8>) -> Vec<u8> {
     report.input();
     let shown = || {

@@ -1,13 +1,17 @@
-//! Calls with any arguments: the number and every buffer are compared with the expected ones.
+//! Calls with any arguments, right or wrong: the number and every buffer are compared with the expected ones.
 
 use core::{fmt, hint::black_box, ops::Range};
 
 use restoration::{
-    CHANNELS, Frame, LoupeSetup, Region, Setup, accepted, advance, band, loupe_smooth,
+    CHANNELS, Frame, Loupe, LoupeSetup, Region, Setup, accepted, advance, band, loupe_smooth,
     loupe_widened, result, start,
 };
 
-use crate::{SMOOTH, WIDENED, expected, report::Report};
+use crate::{
+    LOUPE, SMOOTH, WIDENED,
+    expected::{self, Lengths},
+    report::Report,
+};
 
 /// The arguments of `loupe_smooth`.
 #[derive(Clone)]
@@ -50,7 +54,23 @@ impl Call {
         )
     }
 
-    /// What an accepted call leaves (17.4), by a run with bands of this height.
+    fn lengths(&self) -> Lengths {
+        let length = |slice: &[f32]| slice.len() as i128;
+        Lengths {
+            grids: length(&self.grids),
+            first: length(&self.first),
+            second: length(&self.second),
+            sigmas: length(&self.sigmas),
+            out: length(&self.out),
+        }
+    }
+
+    /// The expected number with these lengths.
+    fn number(&self, lengths: Lengths) -> u32 {
+        expected::smooth_number(self.setup, self.frame, &self.table, lengths)
+    }
+
+    /// Makes the buffers what an accepted call leaves (17.4), by a run with bands of this height.
     fn run(&mut self, widened: Region, band_height: u32) {
         let setup = Setup {
             settings: self.setup.settings,
@@ -61,14 +81,14 @@ impl Call {
         let started = start(
             setup, self.frame, &self.table, &self.grids, first, second, sigmas,
         );
-        let mut run = started.value().expect("a start of the run");
+        let mut run = started.value().expect("an accepted start");
         for _ in 0..setup.settings.gabor.enabled + setup.settings.epf.iters {
             for k in 0..widened.height.div_ceil(band_height) {
                 run = band(run, sigmas, first, second, k)
                     .value()
-                    .expect("an open band");
+                    .expect("an accepted band");
             }
-            run = advance(run).value().expect("a pass that is done");
+            run = advance(run).value().expect("an accepted advance");
         }
         let mut whole = vec![0.0; widened.sample_count()];
         accepted(result(run, first, second, &mut whole)).expect("a finished run");
@@ -85,7 +105,7 @@ impl Call {
         ]
     }
 
-    /// The first argument that is other than expected. A NaN may be another one if `nans` says so.
+    /// The first argument that differs from the expected one. `nans` says whether NaNs with other bits differ.
     fn differing(&self, expected: &Self, nans: Nans) -> Option<&'static str> {
         if *black_box(&self.table) != expected.table {
             return Some("table");
@@ -94,16 +114,18 @@ impl Call {
             return Some("grids");
         }
         let pairs = self.written().into_iter().zip(expected.written());
-        let mut apart = pairs.filter(|((_, given), (_, expected))| !same(given, expected, nans));
-        apart.next().map(|((name, _), _)| name)
+        let mut differing =
+            pairs.filter(|((_, given), (_, expected))| !same(given, expected, nans));
+        differing.next().map(|((name, _), _)| name)
     }
 }
 
+/// How NaNs are compared.
 #[derive(Clone, Copy)]
 pub enum Nans {
-    /// The same bits.
+    /// By their bits.
     Kept,
-    /// All NaNs are the same.
+    /// Any NaN equals any other.
     Alike,
 }
 
@@ -148,10 +170,10 @@ pub fn compare_widened(report: &mut Report, setup: LoupeSetup) {
     });
 }
 
-/// Compares a call: accepted, all buffers are those of a run over the widened rectangle, and the answer is
-/// what it wrote to `out`; refused, every bit stays.
+/// Compares a call. If it is accepted, all buffers must be those of a run over the widened rectangle, and the
+/// answer is what it wrote to `out`; if it is refused, every bit must stay.
 pub fn compare(report: &mut Report, call: &Call, band_height: u32) -> Option<Vec<f32>> {
-    let number = expected::smooth_number(call);
+    let number = call.number(call.lengths());
     let (mut given, mut expected) = (call.clone(), call.clone());
     let answer = given.smooth();
     let nans = if number == 0 {
@@ -164,4 +186,39 @@ pub fn compare(report: &mut Report, call: &Call, band_height: u32) -> Option<Vec
     let answers = ((answer, wrong), (number, None));
     report.call(SMOOTH, number, answers, || format!("{call:?}"));
     (number == 0).then_some(given.out)
+}
+
+/// Compares `Loupe` on the arguments of a call; `out` is what the call wrote, if it was accepted. `Loupe` makes
+/// all buffers but the first set itself, and asks for that only if there is a widened rectangle.
+pub fn compare_loupe(report: &mut Report, call: &Call, out: Option<&[f32]>) {
+    let given = call.lengths();
+    let [_, sigmas, wanted] = expected::required_lengths(call.setup);
+    let number = call.number(Lengths {
+        second: given.first,
+        sigmas: sigmas.unwrap_or(0),
+        out: wanted.unwrap_or(0),
+        ..given
+    });
+    let widened = expected::widened_answer(call.setup);
+    let expected_planes = (widened.number == 0).then_some(widened.region);
+
+    let loupe = Loupe {
+        whole: call.setup.whole,
+        settings: call.setup.settings,
+        frame: call.frame,
+        table: &call.table,
+        grids: &call.grids,
+    };
+    let mut planes = None;
+    let shown = loupe.smooth(call.setup.wanted, |r| {
+        planes = Some(r);
+        call.first.clone()
+    });
+    let agrees = match (&shown, out) {
+        (Ok(shown), Some(out)) => same(shown, out, Nans::Alike),
+        _ => true,
+    };
+    let answer = shown.map_or_else(|refusal| refusal.number(), |_| 0);
+    let answers = ((answer, planes, agrees), (number, expected_planes, true));
+    report.call(LOUPE, number, answers, || format!("{call:?}"));
 }

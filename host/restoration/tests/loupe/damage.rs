@@ -1,11 +1,11 @@
-//! Calls with one to three damaged arguments: which number is given, and that a refused call leaves every bit.
+//! Calls with one to three wrong arguments: which number is given, and that a refused call leaves every bit.
 
 use restoration::{Frame, Region, Settings, TABLE_ENTRY};
 
 use crate::{
-    calls::{Call, compare, compare_widened},
+    calls::{Call, compare, compare_loupe, compare_widened},
     expected,
-    pictures::{Picture, noise},
+    pictures::{Picture, any_passes, noise},
     random::Random,
     rectangles::inside,
     report::Report,
@@ -14,6 +14,7 @@ use crate::{
 const PICTURES: u32 = 5_000;
 /// Calls for a rectangle of each.
 const CALLS: u32 = 20;
+pub const INPUTS: u64 = PICTURES as u64 * CALLS as u64;
 /// Sides of pictures.
 const SIDE: usize = 30;
 
@@ -35,34 +36,35 @@ const AREAS: [(u32, u32); 5] = [
     (1_025, 16_384),
     (16_384, 16_384),
 ];
-/// By blocks, off the blocks, to other groups, and past every frame.
+/// Offsets that are multiples of 8 and others, into other groups and past every frame.
 const MOVES: [i32; 10] = [-8, 8, 16, 40, 1_024, 16_384, -3, 1, 4, -1_024];
-/// No buffer is made longer than this to fit a damaged setup.
+/// No buffer is made longer than this to fit a setup with wrong regions.
 const LONGEST: i128 = 1 << 16;
 
 pub fn compare_damaged(report: &mut Report) {
     let mut random = Random::new(4);
-    for n in 0..PICTURES {
+    for _ in 0..PICTURES {
         let mut side = || 1 + random.below(SIDE) as u32;
         let sides = (side(), side());
-        let picture = Picture::new(n, sides, &mut random);
+        let picture = Picture::new(any_passes(&mut random), sides, &mut random);
         if !report.takes() {
             continue;
         }
         let wanted = inside(picture.whole, &mut random);
-        let sound = picture.call(wanted, &mut random);
+        let valid = picture.call(wanted, &mut random);
         for _ in 0..CALLS {
             report.input();
-            let mut call = sound.clone();
+            let mut call = valid.clone();
             damage(&mut call, &mut random);
             compare_widened(report, call.setup);
-            compare(report, &call, 64);
+            let out = compare(report, &call, 64);
+            compare_loupe(report, &call, out.as_deref());
         }
     }
 }
 
-/// One to three damages. Half the time the buffers' lengths then fit what is damaged, so that other checks are
-/// reached.
+/// Makes one to three arguments wrong. Half the time the buffers' lengths then follow the new arguments, so that
+/// later checks are reached.
 fn damage(call: &mut Call, random: &mut Random) {
     let lengths_fit = random.once_in(2);
     for _ in 0..1 + random.below(3) {
@@ -118,7 +120,7 @@ fn region(r: &mut Region, random: &mut Random) {
     }
 }
 
-/// The wanted rectangle is empty or past an edge of the whole by a sample.
+/// The wanted rectangle is empty, or reaches past an edge of the whole by a sample.
 fn outside(call: &mut Call, random: &mut Random) {
     let (whole, wanted) = (call.setup.whole, &mut call.setup.wanted);
     match random.below(6) {
@@ -131,7 +133,7 @@ fn outside(call: &mut Call, random: &mut Random) {
     }
 }
 
-/// The whole and the wanted rectangle together.
+/// Moves the whole and the wanted rectangle together.
 fn moved(call: &mut Call, random: &mut Random) {
     let [right, down] = [(); 2].map(|()| random.one_of(&MOVES) * random.below(2) as i32);
     for r in [&mut call.setup.whole, &mut call.setup.wanted] {
@@ -158,7 +160,7 @@ fn frame(frame: &mut Frame, random: &mut Random) {
     }
 }
 
-/// An entry, or how many there are.
+/// Changes an entry of the table, or its length.
 fn table(table: &mut Vec<u32>, random: &mut Random) {
     let group = random.below(table.len().max(TABLE_ENTRY) / TABLE_ENTRY);
     let entry = table.get_mut(TABLE_ENTRY * group..).unwrap_or_default();
@@ -171,7 +173,7 @@ fn table(table: &mut Vec<u32>, random: &mut Random) {
     }
 }
 
-/// Takes a column or a row from the largest grid, with its cells.
+/// Removes a column or a row of the largest grid, with its cells.
 fn narrow(call: &mut Call, random: &mut Random) {
     let entries = call.table.chunks_exact_mut(TABLE_ENTRY);
     let present = entries.filter(|entry| entry[0] == 1 && entry[1].min(entry[2]) > 1);
@@ -198,9 +200,9 @@ fn resize(slice: &mut Vec<f32>, random: &mut Random) {
     slice.resize(other, 1.0);
 }
 
-/// Makes the lengths those of the damaged setup.
+/// Makes the lengths those that the setup requires.
 fn fit(call: &mut Call, random: &mut Random) {
-    let [sets, sigmas, out] = expected::lengths(call.setup);
+    let [sets, sigmas, out] = expected::required_lengths(call.setup);
     let slices = [
         &mut call.first,
         &mut call.second,
@@ -216,7 +218,7 @@ fn fit(call: &mut Call, random: &mut Random) {
     }
 }
 
-/// NaNs of any kind, in the first place, in the last, and in some between.
+/// Stores NaNs with any bits in the first place, in the last and in some between.
 fn sprinkle(slice: &mut [f32], random: &mut Random) {
     let Some(last) = slice.len().checked_sub(1) else {
         return;

@@ -1,10 +1,8 @@
-//! What the Specification (17) says of the loupe's calls. It shares no code with the library.
+//! The rules of the loupe's calls, written from the Specification (17). They share no code with the library.
 
 use restoration::{EpfSettings, Frame, LoupeSetup, Region, RegionAnswer, Settings};
 
-use crate::calls::Call;
-
-/// A rectangle on exact numbers: where it starts and ends, columns first.
+/// A rectangle in numbers that do not overflow: where it starts and ends, columns first.
 #[derive(Clone, Copy)]
 struct Rectangle {
     start: [i128; 2],
@@ -92,7 +90,7 @@ fn iterations_in_range(epf: EpfSettings) -> bool {
     epf.iters <= 3
 }
 
-/// What both calls check of a setup.
+/// A setup and the checks of it that both calls make.
 struct Setup {
     whole: Rectangle,
     wanted: Rectangle,
@@ -136,11 +134,22 @@ impl Setup {
     }
 }
 
-/// The lengths of both sets, of the block sigmas and of `out`, as far as they are known.
-pub fn lengths(setup: LoupeSetup) -> [Option<i128>; 3] {
+/// The lengths that 17.5 requires of both sets, of the block sigmas and of `out`: none where the check is
+/// passed over.
+pub fn required_lengths(setup: LoupeSetup) -> [Option<i128>; 3] {
     let setup = Setup::new(setup);
     let sets = setup.widened().map(Rectangle::samples);
     [sets, setup.sigmas(), Some(setup.wanted.samples())]
+}
+
+/// The lengths of the slices of floats that a call passes.
+#[derive(Clone, Copy)]
+pub struct Lengths {
+    pub grids: i128,
+    pub first: i128,
+    pub second: i128,
+    pub sigmas: i128,
+    pub out: i128,
 }
 
 /// The answer of `loupe_widened` (17.3).
@@ -243,34 +252,29 @@ fn not_held(r: Rectangle, groups: Groups, entries: &[[u32; 3]]) -> bool {
 }
 
 /// The number of `loupe_smooth`: the first row of 17.5 that applies.
-pub fn smooth_number(call: &Call) -> u32 {
-    let setup = Setup::new(call.setup);
-    let (epf, gabor) = (call.setup.settings.epf, call.setup.settings.gabor);
-    let groups = groups(call.frame);
-    let entries = entries(groups, &call.table);
+pub fn smooth_number(setup: LoupeSetup, frame: Frame, table: &[u32], given: Lengths) -> u32 {
+    let setup = Setup::new(setup);
+    let (epf, gabor) = (setup.settings.epf, setup.settings.gabor);
+    let groups = groups(frame);
+    let entries = entries(groups, table);
     let widened = setup.widened();
-    let length = |slice: &[f32]| slice.len() as i128;
     let rows: [(u32, &dyn Fn() -> bool); 14] = [
         (4, &|| setup.outside_limits()),
-        (4, &|| !frame_sides_in_limits(call.frame)),
+        (4, &|| !frame_sides_in_limits(frame)),
         (4, &|| entries.is_some_and(grid_side_outside_limits)),
         (15, &|| setup.wanted_outside()),
         (6, &|| setup.off_blocks()),
-        (7, &|| length(&call.out) != setup.wanted.samples()),
+        (7, &|| given.out != setup.wanted.samples()),
         (7, &|| {
-            let wrong =
-                |r: Rectangle| [&call.first, &call.second].map(|set| length(set) != r.samples());
-            widened.is_some_and(|r| wrong(r).contains(&true))
+            widened.is_some_and(|r| [given.first, given.second] != [r.samples(); 2])
         }),
         (7, &|| groups.is_some() && entries.is_none()),
         (7, &|| {
             let known = entries.filter(|entries| !presence_out_of_range(entries));
-            known.is_some_and(|entries| length(&call.grids) != cells(entries))
+            known.is_some_and(|entries| given.grids != cells(entries))
         }),
         (7, &|| {
-            setup
-                .sigmas()
-                .is_some_and(|count| length(&call.sigmas) != count)
+            setup.sigmas().is_some_and(|count| given.sigmas != count)
         }),
         (8, &|| {
             epf.iters > 0
@@ -278,7 +282,7 @@ pub fn smooth_number(call: &Call) -> u32 {
                     if not_held(r, groups, entries))
         }),
         (9, &|| !iterations_in_range(epf) || gabor.enabled > 1),
-        (9, &|| !frame_settings_in_range(call.frame)),
+        (9, &|| !frame_settings_in_range(frame)),
         (9, &|| entries.is_some_and(presence_out_of_range)),
     ];
     let applies = rows.iter().find(|(_, applies)| applies());

@@ -13,12 +13,12 @@ use crate::{
     random::Random,
 };
 
-/// Samples that are no plain numbers: zeros, subnormals, the largest numbers, infinities and NaNs.
+/// Special samples: zeros, subnormals, the largest numbers, infinities and NaNs.
 const SPECIAL: [u32; 12] = [
     0, 0x8000_0000, 1, 0x807F_FFFF, 0x0080_0000, 0x7F7F_FFFF, 0xFF7F_FFFF, 0x7F80_0000,
     0xFF80_0000, 0x7FC0_0000, 0x7F80_0001, 0xFFFF_FFFF,
 ];
-/// Sigmas about the copying limit (0x3E99_999A), negative, zero, infinite and NaN.
+/// Sigmas at the copying limit (0x3E99_999A) and next to it, negative, zero, infinite and NaN.
 const SIGMAS: [u32; 10] = [
     0x3E99_9999, 0x3E99_999A, 0x3E99_999B, 0x3DCC_CCCD, 0xBF80_0000, 0, 0x8000_0000, 0x7F80_0000,
     0xFF80_0000, 0x7FC0_0000,
@@ -39,8 +39,13 @@ pub struct Picture {
 /// The passes of settings, by their number: Gabor if it is odd, and 0 to 3 iterations.
 pub const PASSES: u32 = 8;
 
+/// Drawn and not counted up, so that one picture in fifty has any passes too.
+pub fn any_passes(random: &mut Random) -> u32 {
+    random.below(PASSES as usize) as u32
+}
+
 impl Picture {
-    /// A picture with these sides, where groups meet or, with the EPF off, anywhere.
+    /// A picture with these sides, near a place where groups meet or, with the EPF off, anywhere.
     pub fn new(passes: u32, sides: (u32, u32), random: &mut Random) -> Self {
         let mut groups = Groups::near_a_meeting(sides, random);
         let settings = settings(passes, random);
@@ -62,6 +67,10 @@ impl Picture {
             grids,
             planes: samples(whole.sample_count(), random),
         }
+    }
+
+    pub fn has_passes(&self) -> bool {
+        self.settings.gabor.enabled + self.settings.epf.iters > 0
     }
 
     /// A run over the whole filter region.
@@ -94,8 +103,8 @@ impl Picture {
         }
     }
 
-    /// The arguments for a wanted rectangle, with any numbers in what the call writes. No planes and no
-    /// sigmas if there is no widened rectangle.
+    /// The arguments for a wanted rectangle, with any samples in the buffers that the call writes. Without a
+    /// widened rectangle there are no planes and no sigmas.
     pub fn call(&self, wanted: Region, random: &mut Random) -> Call {
         let setup = self.setup(wanted);
         let widened = expected::widened_answer(setup).region;
@@ -119,7 +128,7 @@ impl Picture {
         (r.width.div_ceil(BLOCK) * r.height.div_ceil(BLOCK)) as usize
     }
 
-    /// The block sigmas of the whole and of a widened rectangle agree there (17.6, premise 5).
+    /// Whether the block sigmas of a widened rectangle are those of the whole there (17.6, premise 5).
     pub fn sigmas_agree(&self, widened: Region) -> bool {
         if self.settings.epf.iters == 0 {
             return true;
@@ -150,7 +159,7 @@ impl Picture {
     }
 }
 
-/// A region that starts at blocks, counted in blocks.
+/// A region whose left and top are multiples of 8, counted in blocks.
 fn in_blocks(r: Region) -> Region {
     Region {
         left: r.left / BLOCK as i32,
@@ -212,7 +221,7 @@ fn samples(count: usize, random: &mut Random) -> Vec<f32> {
     (0..count).map(sample).collect()
 }
 
-/// Any numbers, half of them NaNs of every kind.
+/// Samples with any bits, half of them NaNs of every kind.
 pub fn noise(count: usize, random: &mut Random) -> Vec<f32> {
     random
         .patterns(count)
@@ -221,7 +230,7 @@ pub fn noise(count: usize, random: &mut Random) -> Vec<f32> {
         .collect()
 }
 
-/// A filter region that starts at blocks, and a frame whose groups hold it.
+/// A filter region whose left and top are multiples of 8, and a frame whose groups hold it.
 struct Groups {
     whole: Region,
     frame: Frame,

@@ -1,32 +1,43 @@
-//! Wanted rectangles of pictures: the samples of a run over the whole.
+//! Wanted rectangles of pictures, compared with a run over the whole.
 
 use restoration::{MAX_OFFSET, Region};
 
 use crate::{
-    SMOOTH,
+    LOUPE, SMOOTH,
     calls::{Nans, compare, compare_widened, part, same},
     expected,
-    pictures::{PASSES, Picture},
+    pictures::{PASSES, Picture, any_passes},
     random::Random,
     report::Report,
+    tally::Tally,
 };
 
-const PICTURES: u32 = 3_000;
+pub const PICTURES: u32 = 3_000;
 /// Rectangles of each.
 const RECTANGLES: u32 = 10;
 /// Sides of pictures.
 const SIDE: usize = 80;
+/// Sides of a strip: long enough for a widened rectangle with both ends cut.
+const STRIP: (u32, u32) = (40, 2);
+/// Rectangles of all strips, which lie or stand.
+pub const STRIP_RECTANGLES: u64 =
+    PASSES as u64 * 2 * intervals(STRIP.0) as u64 * intervals(STRIP.1) as u64;
+
+/// How many intervals a side has.
+const fn intervals(side: u32) -> u32 {
+    side * (side + 1) / 2
+}
 
 pub fn random(report: &mut Report) {
     let mut random = Random::new(2);
     let mut tally = Tally::default();
-    for n in 0..PICTURES {
+    for _ in 0..PICTURES {
         let mut side = || match random.below(8) {
             0 => 1 + random.below(3) as u32,
             _ => 1 + random.below(SIDE) as u32,
         };
         let sides = (side(), side());
-        let picture = Picture::new(n, sides, &mut random);
+        let picture = Picture::new(any_passes(&mut random), sides, &mut random);
         if !report.takes() {
             continue;
         }
@@ -34,29 +45,29 @@ pub fn random(report: &mut Report) {
         let whole = picture.smoothed();
         for _ in 0..RECTANGLES {
             let wanted = inside(picture.whole, &mut random);
-            of_the_whole(report, &picture, &whole, wanted, &mut random, &mut tally);
+            compare_rectangle(report, &picture, &whole, wanted, &mut random, &mut tally);
         }
     }
-    tally.print();
+    finish(&tally, report, (PICTURES * RECTANGLES).into());
 }
 
-/// Every rectangle of pictures that are 40 long and 2 wide: cut by the margin on both sides.
+/// Every rectangle of strips.
 pub fn all(report: &mut Report) {
     let mut random = Random::new(3);
     let mut tally = Tally::default();
     for passes in 0..PASSES {
-        for sides in [(40, 2), (2, 40)] {
+        for sides in [STRIP, (STRIP.1, STRIP.0)] {
             let picture = Picture::new(passes, sides, &mut random);
             let whole = picture.smoothed();
             for wanted in every(picture.whole) {
                 if report.takes() {
                     report.input();
-                    of_the_whole(report, &picture, &whole, wanted, &mut random, &mut tally);
+                    compare_rectangle(report, &picture, &whole, wanted, &mut random, &mut tally);
                 }
             }
         }
     }
-    tally.print();
+    finish(&tally, report, STRIP_RECTANGLES);
 }
 
 fn every(r: Region) -> impl Iterator<Item = Region> {
@@ -74,25 +85,17 @@ fn every(r: Region) -> impl Iterator<Item = Region> {
     })
 }
 
-/// What was compared with whole runs.
-#[derive(Default)]
-pub struct Tally {
-    samples: usize,
-    /// Rectangles whose sigmas are others than the whole's, because a grid is missing (7.6).
-    apart: u64,
-}
-
-impl Tally {
-    pub fn print(&self) {
-        let Self { samples, apart } = self;
-        println!(
-            "  {samples} samples beside those of whole runs; {apart} rectangles have other sigmas than the whole"
-        );
+/// Prints the counts and requires their minimums; `drawn` rectangles are drawn if all inputs are compared.
+pub fn finish(tally: &Tally, report: &mut Report, drawn: u64) {
+    println!("  {}", tally.summary());
+    for (what, count, least) in tally.required(drawn) {
+        report.require(what, count, least);
     }
 }
 
-/// Compares a rectangle with a run over its widened one, by `Loupe` too, and with the whole run.
-pub fn of_the_whole(
+/// Compares a rectangle with a run over its widened rectangle, and the results of the call and of `Loupe` with
+/// the whole run.
+pub fn compare_rectangle(
     report: &mut Report,
     picture: &Picture,
     whole: &[f32],
@@ -107,26 +110,23 @@ pub fn of_the_whole(
         return;
     };
     let expected = if picture.sigmas_agree(widened) {
-        tally.samples += out.len();
+        tally.add(out.len(), picture.has_passes() && widened != picture.whole);
         part(picture.whole, whole, wanted)
     } else {
-        tally.apart += 1;
+        tally.add_other_sigmas();
         out.clone()
     };
     let by_loupe = picture
         .loupe()
         .smooth(wanted, |r| part(picture.whole, &picture.planes, r));
-    let is_expected = |given: &[f32]| same(given, &expected, Nans::Alike);
-    let given = [
-        is_expected(&out),
-        by_loupe.is_ok_and(|given| is_expected(&given)),
-    ];
-    report.call(SMOOTH, 0, (given, [true; 2]), || {
-        format!("{call:?} and `Loupe`, beside the whole")
-    });
+    let agrees = |given: &[f32]| same(given, &expected, Nans::Alike);
+    let shown = || format!("{call:?}, compared with the whole run");
+    report.call(SMOOTH, 0, (agrees(&out), true), shown);
+    let by_loupe = by_loupe.map(|given| agrees(&given));
+    report.call(LOUPE, 0, (by_loupe, Ok(true)), shown);
 }
 
-/// Of a run with at most 256 bands.
+/// A band height that divides the rows into at most 256 bands.
 fn any_band_height(rows: u32, random: &mut Random) -> u32 {
     let least = rows.div_ceil(256).max(1);
     (least + random.below(rows as usize + 1) as u32).min(16_384)

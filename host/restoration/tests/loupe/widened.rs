@@ -4,7 +4,7 @@ use restoration::{LoupeSetup, Region, Settings};
 
 use crate::{calls::compare_widened, random::Random, report::Report};
 
-const RANDOM: u32 = 1_000_000;
+pub const RANDOM: u32 = 1_000_000;
 
 const ITERATIONS: [u32; 6] = [0, 1, 2, 3, 4, u32::MAX];
 const FLAGS: [u32; 3] = [0, 1, 2];
@@ -39,16 +39,22 @@ const AREAS: [(u32, u32); 9] = [
     (16_384, 16_384),
     (65_536, 65_536),
 ];
+/// Further ones for wanted rectangles.
+const MORE_AREAS: [(u32, u32); 2] = [(1, 1), (0, 16_384)];
+
+/// Wanted starts for each whole along an axis, and sides for each start.
+const WANTED: usize = 9 * 6;
+pub const LIMITS: u64 = (STARTS.len() * SIDES.len() * WANTED * OTHERS.len() * 2) as u64;
+pub const AREA_PAIRS: u64 = (AREAS.len() * (AREAS.len() + MORE_AREAS.len()) * 3) as u64;
 
 /// Start and side along one axis.
 type Along = (i32, u32);
 /// Those of the whole and of the wanted rectangle.
 type Pair = [Along; 2];
 
-/// Every combination of one axis with some of the other, with all settings that the margin reads.
+/// Every combination along one axis with some along the other, with all settings that the margin depends on.
 pub fn limits(report: &mut Report) {
-    let pairs: Vec<Pair> = pairs().collect();
-    for &pair in &pairs {
+    for pair in pairs() {
         for &other in &OTHERS {
             compare(report, [pair, other]);
             compare(report, [other, pair]);
@@ -56,10 +62,10 @@ pub fn limits(report: &mut Report) {
     }
 }
 
-/// Wholes and wanted rectangles with an area at its limit.
+/// Wholes and wanted rectangles with an area at or next to the limit.
 pub fn areas(report: &mut Report) {
     for whole in AREAS {
-        for wanted in AREAS.into_iter().chain([(1, 1), (0, 16_384)]) {
+        for wanted in AREAS.into_iter().chain(MORE_AREAS) {
             for start in [-1, 0, 1] {
                 let pair = |whole, wanted| [(0, whole), (start, wanted)];
                 compare(report, [pair(whole.0, wanted.0), pair(whole.1, wanted.1)]);
@@ -88,8 +94,8 @@ fn wanted((start, side): Along) -> Vec<Along> {
     starts.into_iter().flat_map(sides).collect()
 }
 
-/// The other axis: wanted inside, at either end, all of it, past an end, empty; off the blocks and out of
-/// the limits.
+/// The other axis: wanted inside, at either end, all of it, past an end, empty; a whole that does not start at a
+/// multiple of 8, and one out of the limits.
 const OTHERS: [Pair; 10] = [
     [(0, 100), (20, 30)],
     [(8, 40), (8, 1)],
@@ -103,7 +109,7 @@ const OTHERS: [Pair; 10] = [
     [(0, 16_385), (0, 1)],
 ];
 
-/// Compares an axis each for columns and rows, with all settings.
+/// Compares regions with these columns and rows, with all settings.
 fn compare(report: &mut Report, [columns, rows]: [Pair; 2]) {
     if !report.takes() {
         return;

@@ -1,4 +1,4 @@
-//! Reading and writing cut files about as long as they may be, beside a copy of as many bytes.
+//! Times of reading and writing cut files of nearly the largest size, and of copying as many bytes.
 
 use std::hint::black_box;
 

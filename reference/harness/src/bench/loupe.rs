@@ -1,4 +1,4 @@
-//! A touch of the loupe: a rectangle of a large picture, beside a plain run over its widened rectangle.
+//! One call of the loupe for a rectangle of a large picture, and a plain run over its widened rectangle.
 
 use std::hint::black_box;
 
@@ -14,7 +14,7 @@ use crate::{convert, runs::Input};
 
 /// Sides of the picture.
 const SIDE: u32 = 4080;
-/// Left and top less the margin, 7, leave 7 when divided by 8, so the widened rectangle is as large as it can be.
+/// Left and top minus the margin, 7, are 7 modulo 8, so the widened rectangle is as large as it can be.
 const WANTED: Region = Region {
     left: 1902,
     top: 2006,
@@ -34,7 +34,7 @@ pub fn print() {
         "ratio",
     ]);
     for (name, band_height) in [("bands of 64 rows", BAND), ("one band", MAX_SIDE)] {
-        let times = beside_run(&given, band_height);
+        let times = with_run(&given, band_height);
         let [ours, theirs] = [times.ours, times.theirs].map(|time| time / 1e6);
         let Region {
             width: w,
@@ -65,16 +65,17 @@ fn widened() -> Region {
         .expect("a rectangle of the picture")
 }
 
-/// `loupe_widened` and `loupe_smooth` beside start, bands and advances. The first set is filled before each.
-fn beside_run(given: &Input, band_height: u32) -> super::Times {
-    let (mut touched, mut plain) = (given.clone(), given.clone());
+/// Times of `loupe_widened` and `loupe_smooth`, and of start, bands and advances. The first set is filled before
+/// each.
+fn with_run(given: &Input, band_height: u32) -> super::Times {
+    let (mut shown, mut plain) = (given.clone(), given.clone());
     plain.setup.band_height = band_height;
     let mut out = vec![0.0; WANTED.sample_count()];
     let setup = setup();
     let times = best_timed(
         || {
-            touched.first.copy_from_slice(&given.first);
-            timed(|| touch(black_box(setup), &mut touched, &mut out))
+            shown.first.copy_from_slice(&given.first);
+            timed(|| call(black_box(setup), &mut shown, &mut out))
         },
         || {
             plain.first.copy_from_slice(&given.first);
@@ -82,13 +83,13 @@ fn beside_run(given: &Input, band_height: u32) -> super::Times {
         },
     );
     assert!(
-        touched.first == plain.first && touched.second == plain.second,
+        shown.first == plain.first && shown.second == plain.second,
         "the same passes"
     );
     times
 }
 
-fn touch(setup: LoupeSetup, input: &mut Input, out: &mut [f32]) {
+fn call(setup: LoupeSetup, input: &mut Input, out: &mut [f32]) {
     let widened = restoration::loupe_widened(setup).value();
     assert_eq!(widened, Ok(input.setup.image));
     let frame = convert::frame(input.frame);
@@ -98,17 +99,17 @@ fn touch(setup: LoupeSetup, input: &mut Input, out: &mut [f32]) {
     accepted(number).expect("an accepted call");
 }
 
-/// All that a touch is given, and the stack that its calls use.
+/// The buffers of a call, and the stack that it uses.
 fn memory(given: &Input) {
     let mut input = given.clone();
     let mut out = vec![0.0; WANTED.sample_count()];
     let setup = setup();
-    let stack = stack_of(|| touch(setup, &mut input, &mut out));
+    let stack = stack_of(|| call(setup, &mut input, &mut out));
     let bytes = |samples: usize| 4 * samples;
     let sets = bytes(input.first.len() + input.second.len());
     let (sigmas, result) = (bytes(input.sigmas.len()), bytes(out.len()));
     let groups = bytes(input.grids.len() + input.table.len());
-    head(&["a touch", "bytes"]);
+    head(&["one call", "bytes"]);
     println!("| both sets | {sets} |");
     println!("| block sigmas | {sigmas} |");
     println!("| the wanted samples | {result} |");

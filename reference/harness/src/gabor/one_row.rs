@@ -1,7 +1,7 @@
-//! A filter region of one row. There the centre's weight is the standard's and not the original's
-//! (docs/DIFFERENCES.md), so the original is not asked for the Gabor-like pass. The measure is
-//! Specification 10.2 to 10.4 in binary32, bit for bit, and the standard's mirrored kernel in binary64,
-//! within the bound on rounding of [`bound`].
+//! Filter regions of one row. There the centre's weight is the standard's and not the original's
+//! (docs/DIFFERENCES.md), so the Gabor-like pass is not compared with the original. It is compared with
+//! Specification 10.2 to 10.4 in binary32, bit for bit, and with the standard's mirrored kernel in binary64,
+//! up to the rounding error of [`bound`].
 
 use std::sync::atomic::{AtomicU64, Ordering::Relaxed};
 
@@ -17,19 +17,20 @@ use crate::{
 const NAME: &str = "gabor one row";
 /// The widest row.
 const WIDTH: u32 = 300;
-/// Kernels whose sum is smaller are not compared with binary64: there what [`bound`] leaves to its last two
-/// roundings, the second order, could count.
+/// Kernels whose sum is smaller are not compared with binary64: for them the second-order errors could exceed
+/// what [`bound`] allows for them.
 const LEAST_SUM: f64 = 1.0 / (1 << 8) as f64;
 /// Half the distance from 1 to the next binary32 number.
 const HALF_ULP: f64 = 1.0 / (1 << 24) as f64;
 
-/// Single passes and runs whose planes came from here, and how many of the passes are of rows of their own.
+/// Passes and runs over one row that were compared with the rule instead of the original, and how many of the
+/// passes are cases of [`compare`].
 static PASSES: AtomicU64 = AtomicU64::new(0);
 static RUNS: AtomicU64 = AtomicU64::new(0);
 static OWN: AtomicU64 = AtomicU64::new(0);
 
-/// The planes by which a Gabor-like pass is judged: the original's, or the rule's for one row.
-pub fn judge(
+/// The expected planes of a Gabor-like pass: the original's, or for one row those of the rule.
+pub fn expected_pass(
     place: oracle::Place,
     weights: oracle::Weights,
     planes: oracle::Planes,
@@ -42,8 +43,8 @@ pub fn judge(
     }
 }
 
-/// The same for a run: after the rule's Gabor-like pass the original's steps.
-pub fn judge_run(
+/// The same for a run: for one row, the rule's Gabor-like pass and then the original's edge-preserving steps.
+pub fn expected_run(
     place: oracle::Place,
     weights: Option<oracle::Weights>,
     edge: Option<(oracle::Edge, oracle::Frame, &[Option<oracle::SigmaGrid>])>,
@@ -63,21 +64,21 @@ pub fn judge_run(
     }
 }
 
-/// Prints how many passes were judged by the rule and how many of one row the original was asked for,
-/// which must be none.
-pub fn none_asked() -> bool {
+/// Prints how many passes over one row were compared with the rule, and how many the original ran. Returns
+/// whether the original ran none, as it must be.
+pub fn original_ran_none() -> bool {
     let [passes, runs, own] = [&PASSES, &RUNS, &OWN].map(|count| count.load(Relaxed));
-    let asked = oracle::one_row_gabor_passes();
-    println!("gabor-like passes over one row, by the rule of Specification 10.4:");
+    let by_original = oracle::one_row_gabor_passes();
+    println!("Gabor-like passes over one row, compared with the rule of Specification 10.4:");
     println!(
-        "  in rows that compare with the original: {} passes, {runs} runs",
+        "  among the cases of other rows of the table: {} passes, {runs} runs",
         passes - own
     );
-    println!("  in a row of their own: {own} passes; asked of the original: {asked}");
-    asked == 0
+    println!("  cases of {NAME}: {own} passes; passes that the original ran: {by_original}");
+    by_original == 0
 }
 
-/// The planes of the image with the filter region's row filtered.
+/// The planes of the image after filtering the filter region's only row.
 fn filtered_planes(
     place: &oracle::Place,
     weights: oracle::Weights,
@@ -99,7 +100,7 @@ fn start(place: &oracle::Place) -> usize {
     top * place.image.width as usize + left
 }
 
-/// The result's part of planes of the image.
+/// The part of the image's planes that is the result.
 fn part(place: &oracle::Place, planes: oracle::Planes) -> oracle::Planes {
     if place.preserve_outside {
         return planes;
@@ -108,7 +109,7 @@ fn part(place: &oracle::Place, planes: oracle::Planes) -> oracle::Planes {
     planes.map(|plane| plane[start..start + width].to_vec())
 }
 
-/// Specification 10.2 to 10.4 for the only row, each operation rounded to binary32.
+/// Specification 10.2 to 10.4 for a single row, each operation rounded to binary32.
 fn filtered(row: &[f32], [w0, w1]: [f32; 2]) -> Vec<f32> {
     let &[first, .., last] = row else {
         return row.to_vec();
@@ -148,9 +149,10 @@ fn kernel_sum([w0, w1]: [f32; 2]) -> f64 {
     1.0 + 4.0 * f64::from(w0) + 4.0 * f64::from(w1)
 }
 
-/// How far binary32 may be from the kernel. With A the sum of the weights' sizes, D the kernel's sum and M
-/// the largest sample: four roundings of the sum, at most 2 A / |D| of the divisor, and one each of the
-/// reciprocal and the product, each half an ulp of A M / |D|; two more for what is of second order.
+/// How far a binary32 result may be from the kernel's. With A the sum of the weights' absolute values, D the
+/// kernel's sum and M the largest absolute sample, in units of half an ulp of A M / |D|: 4 for the roundings of
+/// the weighted sum, at most 2 A / |D| for those of the divisor, 1 each for the reciprocal and the product, and
+/// 2 for second-order errors.
 fn bound(row: &[f32], weights: [f32; 2]) -> f64 {
     let size = 1.0 + 4.0 * weights.iter().map(|w| f64::from(w.abs())).sum::<f64>();
     let largest = row.iter().fold(0.0, |m: f64, s| m.max(f64::from(s.abs())));
@@ -158,7 +160,8 @@ fn bound(row: &[f32], weights: [f32; 2]) -> f64 {
     (8.0 + 2.0 * ratio) * ratio * largest * HALF_ULP
 }
 
-/// One row in an image of any height, band by band, by the rule; whole rows by the kernel.
+/// Compares one row in an image of any height with the rule, band by band, and whole pictures of one row with
+/// the kernel.
 pub fn compare(amount: Amount, random: &mut Random, report: &mut Report) {
     let mut row = Row::new(NAME, "rule in f32");
     while row.draws(PICTURES, amount) {
@@ -169,7 +172,7 @@ pub fn compare(amount: Amount, random: &mut Random, report: &mut Report) {
     report.add(row);
     let mut row = Row::new(NAME, "kernel in f64");
     while row.draws(PICTURES, amount) {
-        beside_kernel(random, &mut row);
+        compare_with_kernel(random, &mut row);
     }
     report.add(row);
 }
@@ -179,8 +182,8 @@ fn one_row_of(mut pass: Pass) -> Pass {
     pass
 }
 
-/// A whole picture of one row with plain samples and weights, each plane beside the kernel.
-fn beside_kernel(random: &mut Random, row: &mut Row) {
+/// Compares a whole picture of one row, with plain samples and weights, with the kernel.
+fn compare_with_kernel(random: &mut Random, row: &mut Row) {
     let width = random.within(1, WIDTH.into()) as u32;
     let image = Region::with_size(width, 1);
     let weights = core::array::from_fn(|_| plain_weights(random));
@@ -209,12 +212,12 @@ fn beside_kernel(random: &mut Random, row: &mut Row) {
 fn beyond(source: &[f32], target: &[f32], weights: [f32; 2]) -> Option<usize> {
     let bound = bound(source, weights);
     let kernel = mirrored(source, weights);
-    // NaN is beyond too.
+    // False for a NaN.
     let close = |at: usize| (f64::from(target[at]) - kernel[at]).abs() <= bound;
     (0..target.len()).find(|&at| !close(at))
 }
 
-/// Weights between -1 and 1 whose kernel does not add up to nearly 0.
+/// Weights between -1 and 1 whose kernel sum is not close to 0.
 fn plain_weights(random: &mut Random) -> [f32; 2] {
     loop {
         let [pair, ..] = weights(random);
@@ -253,7 +256,7 @@ mod tests {
         assert!(oracle::one_row_gabor_passes() > 0);
     }
 
-    /// Runs are counted too, and only those with a Gabor-like pass.
+    /// Runs with a Gabor-like pass are counted too.
     #[test]
     fn runs_of_one_row_are_counted() {
         let place = |height| {

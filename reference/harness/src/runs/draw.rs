@@ -163,15 +163,38 @@ pub fn around(filter: Region, most: u32, random: &mut Random) -> Region {
     if random.once_in(4) {
         return filter;
     }
-    let mut wider = |corner: i32, side: u32| {
+    by_axis(filter, |corner, side| {
         let room = most - side;
         let before = random.within(0, room.into()) as u32;
         let before = before.min(corner.abs_diff(-MAX_OFFSET));
         let after = random.within(0, (room - before).into()) as u32;
         (corner - before as i32, side + before + after)
-    };
-    let (left, width) = wider(filter.left, filter.width);
-    let (top, height) = wider(filter.top, filter.height);
+    })
+}
+
+/// A part of a region. Along each axis it starts where the region does, one time in four, or any number of
+/// steps further on; `length` draws how long it is, at most as long as what is left.
+pub fn part(
+    region: Region,
+    step: u32,
+    random: &mut Random,
+    length: impl Fn(u32, &mut Random) -> u32,
+) -> Region {
+    by_axis(region, |corner, side| {
+        let before = if random.once_in(4) {
+            0
+        } else {
+            step * random.within(0, ((side - 1) / step).into()) as u32
+        };
+        let before = before.min(corner.abs_diff(MAX_OFFSET));
+        (corner + before as i32, length(side - before, random))
+    })
+}
+
+/// A region made from another one, axis by axis: start and side from start and side.
+fn by_axis(r: Region, mut along: impl FnMut(i32, u32) -> (i32, u32)) -> Region {
+    let (left, width) = along(r.left, r.width);
+    let (top, height) = along(r.top, r.height);
     Region {
         left,
         top,

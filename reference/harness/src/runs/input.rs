@@ -8,7 +8,7 @@ use crate::{
     bits,
     convert::{edge, frame, original, wide, wide_frame},
     expected::{self, runs as rule},
-    gabor::one_row::judge_run,
+    gabor::one_row::expected_run,
     picture, sigma,
 };
 
@@ -92,7 +92,7 @@ impl Input {
         let planes = picture::planes(&self.first);
         move || {
             let edge = edge.map(|edge| (edge, frame, &grids[..]));
-            judge_run(place, weights, edge, planes)
+            expected_run(place, weights, edge, planes)
         }
     }
 }

@@ -32,7 +32,7 @@ pub struct Place {
 /// Gabor-like passes over a filter region of one row so far.
 static ONE_ROW: AtomicU64 = AtomicU64::new(0);
 
-/// How many Gabor-like passes over a filter region of one row the original was asked for.
+/// How many Gabor-like passes over a filter region of one row the original has run.
 pub fn one_row_gabor_passes() -> u64 {
     ONE_ROW.load(Relaxed)
 }
