@@ -5,7 +5,7 @@ use Rattle.mirror.specs.Mirror.{mirror}
 use Rattle.region_interval.specs.Interval.{powerBelow}
 use Rattle.region_axis.specs.Measures.{cornerFits, sideFits}
 use Rattle.region.specs.Regions.{regionOf, inside}
-use Rattle.region.specs.Measures.{boundsFit, pictureFits}
+use Rattle.region.specs.Measures.{boundsFit, pictureFits, rectangleFits}
 use Rattle.region_arithmetic.specs.Arithmetic.{shrunkBy, alignedTo}
 use Rattle.region_arithmetic.specs.Answers.{regionAnswer}
 use Rattle.frame.specs.Sizes.{sizesOf}
@@ -23,6 +23,9 @@ use Rattle.run_record.specs.Record.{isDone, started, bandMissing, badDone, runF
 use Rattle.run_outcomes.specs.Start.{pictureChecks, startChecks, startOutcome}
 use Rattle.run_outcomes.specs.Band.{bandChecks, bandOutcome, advanceOutcome}
 use Rattle.run_outcomes.specs.Result.{resultChecks, resultOutcome}
+use Rattle.loupe_region.specs.Widened.{widened}
+use Rattle.loupe_region.specs.Outcome.{widenedChecks, widenedOutcome}
+use Rattle.loupe.specs.Outcome.{loupeChecks}
 use Rattle.cut_file.specs.File.{bodyAt}
 use Rattle.cut_file.specs.Read.{entryChecks, fileChecks, regionChecks, readChecks}
 use Rattle.cut_file.specs.Write.{rectanglesFit, tableChecks, writeChecks}
@@ -31,7 +34,7 @@ use Rattle.cut_write.specs.Outcome.{lengthOutcome}
 use Rattle.instances.specs.Limits.{Limits, numbersOf}
 
 pub limits : Limits
-unfolding u mirror powerBelow cornerFits sideFits regionOf inside boundsFit pictureFits shrunkBy alignedTo regionAnswer sizesOf badSides badSettings badBlocks badGrid cells gridStart gridLacksBlock someBelow noEntries notHeld someNotHeld tableFits gridsFit layoutOf passOutcome stepChecks epfChecks epfOutcome steps plan stepMargin marginChecks marginOutcome bandCount sizeFits numbersFit setupFits isDone started bandMissing badDone runFits pictureChecks startChecks startOutcome bandChecks bandOutcome advanceOutcome resultChecks resultOutcome passChecks numbersOf bodyAt entryChecks fileChecks regionChecks readChecks rectanglesFit tableChecks writeChecks countOutcome lengthOutcome
+unfolding u mirror powerBelow cornerFits sideFits regionOf inside boundsFit pictureFits rectangleFits shrunkBy alignedTo regionAnswer sizesOf badSides badSettings badBlocks badGrid cells gridStart gridLacksBlock someBelow noEntries notHeld someNotHeld tableFits gridsFit layoutOf passOutcome stepChecks epfChecks epfOutcome steps plan stepMargin marginChecks marginOutcome bandCount sizeFits numbersFit setupFits isDone started bandMissing badDone runFits pictureChecks startChecks startOutcome bandChecks bandOutcome advanceOutcome resultChecks resultOutcome passChecks numbersOf widened widenedChecks widenedOutcome loupeChecks bodyAt entryChecks fileChecks regionChecks readChecks rectanglesFit tableChecks writeChecks countOutcome lengthOutcome
 limits = record {
   regionSide = (refl, refl);
   regionRight = (refl, refl);
@@ -88,6 +91,14 @@ limits = record {
   marginsGabor = (refl, refl, refl, refl);
   marginIterations = (refl, refl);
   marginGabor = (refl, refl);
+  wantedInside = (refl, refl);
+  wantedBeside = (refl, refl);
+  wantedEmpty = (refl, refl);
+  wholeSide = (refl, refl);
+  limitsFirst = (refl, refl);
+  wholeOnBlocks = (refl, refl);
+  wantedFirst = refl;
+  widenedEdges = refl;
   cutBytesMost = λ s e z. rw (e, z) refl;
   cutBytesPast = λ s e. rw e refl;
   cutLeast = (refl, refl);
@@ -101,6 +112,8 @@ limits = record {
   sigmaNumbers = λ on f b t grids n. refl;
   passNumbers = λ image filter full from to src dst. refl;
   epfNumbers = λ image filter full s sigmas from to src dst. refl;
+  widenedNumbers = λ s. refl;
+  loupeNumbers = λ h. refl;
   readNumbers = λ s k n e. rw e refl;
   writeNumbers = λ t samples file. refl;
 }

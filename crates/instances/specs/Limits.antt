@@ -12,6 +12,7 @@ use Rattle.header_bits.specs.Outcome.{accepted, refused}
 use Rattle.header_bits.specs.Bits.{field, u}
 use Rattle.region.specs.declared.Region.{Region}
 use Rattle.region.specs.Answers.{isEmptyOutcome}
+use Rattle.region_arithmetic.specs.declared.RegionAnswer.{RegionAnswer}
 use Rattle.region_arithmetic.specs.Answers.{downsampleOutcome, alignedOutcome}
 use Rattle.region_placement.specs.Placed.{placedOutcome}
 use Rattle.mirror.specs.Outcome.{mirrorOutcome}
@@ -26,6 +27,7 @@ use Rattle.planes.specs.Samples.{b0, b1}
 use Rattle.planes_layout.specs.Outcome.{passChecks}
 use Rattle.epf.specs.declared.EpfStep.{EpfStep}
 use Rattle.epf.specs.Outcome.{epfChecks, epfOutcome}
+use Rattle.run_passes.specs.declared.Settings.{Settings}
 use Rattle.run_passes.specs.declared.MarginAnswer.{MarginAnswer}
 use Rattle.run_passes.specs.Plan.{marginOutcome}
 use Rattle.run_passes.specs.Makers.{gaborOf, withGabor, withIters}
@@ -36,6 +38,9 @@ use Rattle.run_record.specs.Record.{started, overChecks}
 use Rattle.run_outcomes.specs.Start.{Handed, startChecks, startOutcome}
 use Rattle.run_outcomes.specs.Band.{State, bandChecks, bandOutcome, advanceOutcome}
 use Rattle.run_outcomes.specs.Result.{resultChecks, resultOutcome}
+use Rattle.loupe_region.specs.declared.LoupeSetup.{LoupeSetup}
+use Rattle.loupe_region.specs.Outcome.{widenedChecks, widenedOutcome}
+use Rattle.loupe.specs.Outcome.{LoupeHanded, loupeChecks}
 use Rattle.cut_file.specs.declared.CutTable.{CutTable}
 use Rattle.cut_file.specs.Read.{countIn, readChecks}
 use Rattle.cut_file.specs.Write.{writeChecks}
@@ -139,8 +144,20 @@ cutNumber n rs = lengthOutcome (record { count = n; regions = rs ++ replicate 64
 
 -- ---- the margin, with Gabor's flag and the iterations
 
+abbrev pub settingsOf : ℕ → ℕ → Settings
+settingsOf gabor iters = setupWith (sides 1 1) (sides 1 1) 1 gabor iters 1 .settings
+
 abbrev pub marginOf : ℕ → ℕ → MarginAnswer
-marginOf gabor iters = marginOutcome (setupWith (sides 1 1) (sides 1 1) 1 gabor iters 1 .settings)
+marginOf gabor iters = marginOutcome (settingsOf gabor iters)
+
+-- ---- the loupe, with Gabor on and three iterations: a margin of 7
+
+abbrev pub widenedOf : Region → Region → RegionAnswer
+widenedOf whole wanted = widenedOutcome (record { whole = whole; wanted = wanted; settings = settingsOf 1 3 })
+
+-- two positions of the top row
+abbrev pub twoFrom : ℕ → Region
+twoFrom left = record { left = pos left; top = pos 0; width = 2; height = 1 }
 
 -- the sample width of a frame 1,000 wide at an LF level
 abbrev pub columnsAt : ℕ → ℕ
@@ -225,6 +242,20 @@ pub record Limits : Type 0 where
   pub marginsGabor : (marginOf 1 0 .margin ≡ 1) × (marginOf 1 1 .margin ≡ 3) × (marginOf 1 2 .margin ≡ 4) × (marginOf 1 3 .margin ≡ 7)
   pub marginIterations : Limit (λ i. marginOf 0 i .number) 3 4 9
   pub marginGabor : Limit (λ g. marginOf g 0 .number) 1 2 9
+  -- the loupe: 15 if the wanted rectangle ends a column past the whole, lies beside it or is empty
+  pub wantedInside : Limit (λ l. widenedOf (eightFrom 0) (twoFrom l) .number) 6 7 15
+  pub wantedBeside : Limit (λ l. widenedOf (eightFrom 8) (twoFrom l) .number) 8 6 15
+  pub wantedEmpty : Limit (λ w. widenedOf (eightFrom 0) (sides w 1) .number) 1 0 15
+  -- 4 for the whole; 4 before 15, for either region
+  pub wholeSide : Limit (λ w. widenedOf (sides w 1) (sides 1 1) .number) 16384 16385 4
+  pub limitsFirst : (widenedOf (sides 16385 1) (twoFrom 16385) .number ≡ 4) × (widenedOf (eightFrom 0) (sides 1549 10831) .number ≡ 4)
+  -- 6 for the whole; 15 before 6
+  pub wholeOnBlocks : Limit (λ l. widenedOf (eightFrom l) (twoFrom 8) .number) 8 4 6
+  pub wantedFirst : widenedOf (eightFrom 4) (twoFrom 3) .number ≡ 15
+  -- columns 11 to 17 of 8 to 107, rows 30 to 74 of 0 to 79: left 4 is moved down to 0 and clipped to 8, right 24 stays; top 23 is moved down to
+  -- 16, bottom 81 is clipped to 79
+  pub widenedEdges : widenedOf (record { left = pos 8; top = pos 0; width = 100; height = 80 }) (record { left = pos 11; top = pos 30; width = 7; height = 45 })
+      ≡ record { number = 0; region = record { left = pos 8; top = pos 16; width = 17; height = 64 } }
   -- cut files: 16,777,216 bytes, of which the first is wrong; 1 to 64 rectangles; the longest file and one of four bytes more
   pub cutBytesMost : (s : List ℕ) → length s ≡ 16777216 → getD s 0 0 ≡ 0 → countOutcome s .number ≡ 12
   pub cutBytesPast : (s : List ℕ) → length s ≡ 16777217 → countOutcome s .number ≡ 7
@@ -243,5 +274,7 @@ pub record Limits : Type 0 where
   pub passNumbers : (image filter : Region) (full from to : ℕ) (src dst : List Float) → numbersOf (passChecks image filter full 3 from to src dst) ≡ 4 ∷ 5 ∷ 7 ∷ 9 ∷ 9 ∷ []
   pub epfNumbers : (image filter : Region) (full : ℕ) (s : EpfStep) (sigmas : List Float) (from to : ℕ) (src dst : List Float)
       → numbersOf (epfChecks image filter full s sigmas from to src dst) ≡ 4 ∷ 5 ∷ 6 ∷ 7 ∷ 9 ∷ 9 ∷ 9 ∷ []
+  pub widenedNumbers : (s : LoupeSetup) → numbersOf (widenedChecks s) ≡ 4 ∷ 15 ∷ 6 ∷ 9 ∷ 9 ∷ []
+  pub loupeNumbers : (h : LoupeHanded) → numbersOf (loupeChecks 3 h) ≡ 4 ∷ 4 ∷ 4 ∷ 15 ∷ 6 ∷ 7 ∷ 7 ∷ 7 ∷ 7 ∷ 7 ∷ 8 ∷ 9 ∷ 9 ∷ 9 ∷ 9 ∷ []
   pub readNumbers : (s : List ℕ) (k n : ℕ) → countIn s ≡ 1 → numbersOf (readChecks s k n) ≡ 7 ∷ 14 ∷ 12 ∷ 14 ∷ 12 ∷ 14 ∷ 13 ∷ 14 ∷ 9 ∷ 7 ∷ []
   pub writeNumbers : (t : CutTable) (samples file : ℕ) → numbersOf (writeChecks t samples file) ≡ 12 ∷ 4 ∷ 7 ∷ 7 ∷ 7 ∷ []

@@ -11,7 +11,7 @@ use Rattle.run_outcomes.specs.Start.{StartOutcome, startOutcome}
 use Rattle.run_calls.specs.Calls.{leftByStart}
 use Rattle.loupe_region.specs.declared.LoupeSetup.{LoupeSetup}
 use Rattle.loupe_region.specs.Outcome.{widenedChecks, widenedRegion, widenedOutcome}
-use Rattle.loupe.specs.Outcome.{LoupeHanded, LoupeOutcome, runSetup, asRun, loupeRefused, loupeOutcome}
+use Rattle.loupe.specs.Outcome.{LoupeHanded, LoupeOutcome, allRows, runSetup, asRun, loupeRefused, loupeOutcome}
 use Rattle.loupe.specs.Pieces.{passedOutcome}
 use Rattle.loupe.specs.Whole.{WholeEqual}
 use Rattle.loupe.proofs.Numbers.{early}
@@ -40,11 +40,11 @@ module _ (n : ℕ) (h : LoupeHanded) (number : ℕ) (is-number : number ≡ earl
     unfolding widenedOutcome
     region-is = ap (λ (a : RegionAnswer). a .region) is-place ∙ rw (place-known n h known)
 
-    module _ (setup : Setup) (is-setup : setup ≡ setupWith (place .region) (place .region) 0 (h .setup .settings) 16384) (start : StartOutcome)
+    module _ (setup : Setup) (is-setup : setup ≡ setupWith (place .region) (place .region) 0 (h .setup .settings) allRows) (start : StartOutcome)
         (is-start : start ≡ startOutcome n (record { setup = setup; frame = h .frame; table = h .table; grids = h .grids; first = h .first; second = h .second; sigmas = h .sigmas })) where
       started-is : start ≡ startOutcome n (asRun h)
       started-is =
-          let e : setup ≡ runSetup (h .setup) = is-setup ∙ ap (λ (r : Region). setupWith r r 0 (h .setup .settings) 16384) region-is in
+          let e : setup ≡ runSetup (h .setup) = is-setup ∙ ap (λ (r : Region). setupWith r r 0 (h .setup .settings) allRows) region-is in
           is-start ∙ ap (λ (s : Setup). startOutcome n (record { setup = s; frame = h .frame; table = h .table; grids = h .grids; first = h .first; second = h .second; sigmas = h .sigmas })) e
 
       number-is : start .answer .number ≡ startOutcome n (asRun h) .answer .number

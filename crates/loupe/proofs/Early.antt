@@ -77,9 +77,9 @@ wanted-passed s e f =
 
 -- ---- the parts of `early_number`
 
-module _ (s : LoupeSetup) (f : Frame) (t : List ℕ) (grids : List Float) (sigmas out : ℕ) (place : ℕ) (is-place : place ≡ firstOf (widenedChecks s)) where
+module _ (n : ℕ) (s : LoupeSetup) (f : Frame) (t : List ℕ) (grids : List Float) (sigmas out : ℕ) (place : ℕ) (is-place : place ≡ firstOf (widenedChecks s)) where
   abbrev checks : List Check
-  checks = earlyChecks 3 s f t grids sigmas out
+  checks = earlyChecks n s f t grids sigmas out
 
   abbrev Number : ℕ → Type 0
   Number k = k ≡ firstOf checks
@@ -146,22 +146,22 @@ module _ (s : LoupeSetup) (f : Frame) (t : List ℕ) (grids : List Float) (sigma
           last = then ∙ tail-number (wholeOnBlocks s) (marginChecks (s .settings)) blocks
 
           abbrev slice : Check
-          slice = always wrongLength (not (eqb out (wantedLength 3 s)))
+          slice = always wrongLength (not (eqb out (wantedLength n s)))
 
-          pub wrong-slice : (out ≡ wantedLength 3 s → ⊥) → Number 7
+          pub wrong-slice : (out ≡ wantedLength n s → ⊥) → Number 7
           unfolding earlyChecks
           wrong-slice e =
-              let wrong : applies slice ≡ true = rw (ne-eqb out (wantedLength 3 s) e) in
+              let wrong : applies slice ≡ true = rw (ne-eqb out (wantedLength n s) e) in
               sym (first-number checks slice (after regions (after sides (after grid-sides (after held (after blocks (found wrong)))))))
 
-          module _ (is-slice : out ≡ wantedLength 3 s) where
+          module _ (is-slice : out ≡ wantedLength n s) where
             abbrev unknown : List Check
             unknown = unknownChecks s f t grids sigmas
 
             rest : firstOf checks ≡ firstOf unknown
             unfolding earlyChecks
             rest =
-                let right : applies slice ≡ false = rw (eq-eqb out (wantedLength 3 s) is-slice) in
+                let right : applies slice ≡ false = rw (eq-eqb out (wantedLength n s) is-slice) in
                 same-number checks unknown (drop regions (drop sides (drop grid-sides (drop held (drop blocks (drop right (keep (keep (keep (keep none))))))))))
 
             pub early-accepted : place ≡ 0 → Number 0
@@ -173,16 +173,16 @@ module _ (s : LoupeSetup) (f : Frame) (t : List ℕ) (grids : List Float) (sigma
 
             margin-unknown : (place ≡ 0 → ⊥) → marginFits (s .settings) ≡ false
             unfolding marginChecks
-            margin-unknown n = go (gaborFits (s .settings)) (iterationsFit (s .settings)) refl refl
+            margin-unknown u = go (gaborFits (s .settings)) (iterationsFit (s .settings)) refl refl
               where
                 go : (g i : Bool) → gaborFits (s .settings) ≡ g → iterationsFit (s .settings) ≡ i → (g && i) ≡ false
-                go true true p q = absurd (n (last ∙ rw (p, q)))
+                go true true p q = absurd (u (last ∙ rw (p, q)))
                 go true false p q = refl
                 go false i p q = refl
 
             pub early-unknown : (place ≡ 0 → ⊥) → (k : ℕ) → k ≡ settingsNumber groups (s .settings .epf .iters) sigmas → Number k
-            early-unknown n k e =
-                let m = margin-unknown n in
+            early-unknown u k e =
+                let m = margin-unknown u in
                 let z : firstOf unknown ≡ cond (applies (tableLength f t)) 7 (cond (applies (gridsLength f t grids)) 7 (cond (eqb (s .settings .epf .iters) 0 && not (eqb sigmas 0)) 7 9)) = rw m in
                 e
                 ∙ ap (λ (j : ℕ). settingsNumber j (s .settings .epf .iters) sigmas) groups-rest

@@ -36,12 +36,12 @@ use Rattle.run_calls.proofs.Promises.{promises}
 use Rattle.loupe_region.specs.Fits.{WantedFits}
 use Rattle.loupe_region.specs.Outcome.{widenedRegion}
 use Rattle.loupe_region.proofs.Laws.{widened-fits, widened-inside, wanted-in-widened, widened-columns, widened-rows, clear-start, clear-end}
-use Rattle.loupe.specs.Outcome.{LoupeHanded, runSetup, asRun, finalState}
+use Rattle.loupe.specs.Outcome.{LoupeHanded, allRows, runSetup, asRun, finalState}
 use Rattle.loupe.specs.Whole.{PartOf}
 use Rattle.loupe.proofs.Passes.{After, unrefused, after-passes, ended}
 
--- a band height of 16,384: one band
-pub one-band : (image filter : Region) (settings : Settings) → T (pictureFits filter) → bandCount (setupWith image filter 0 settings 16384) ≡ 1
+-- the largest band height: one band
+pub one-band : (image filter : Region) (settings : Settings) → T (pictureFits filter) → bandCount (setupWith image filter 0 settings allRows) ≡ 1
 unfolding bandCount layoutOf
 one-band image filter settings t = omega (arith, picture-height filter t, bounds-height filter (picture-bounds filter t))
 

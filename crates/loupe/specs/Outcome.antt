@@ -39,9 +39,13 @@ pub record LoupeHanded : Type 0 where
 
 -- ---- the run over the widened rectangle
 
--- image and filter region alike, with one band for all rows
+-- the largest band height: one band has all rows
+abbrev pub allRows : ℕ
+allRows = 16384
+
+-- image and filter region alike, with one band
 abbrev pub runSetup : LoupeSetup → Setup
-runSetup s = setupWith (widenedRegion s) (widenedRegion s) 0 (s .settings) 16384
+runSetup s = setupWith (widenedRegion s) (widenedRegion s) 0 (s .settings) allRows
 
 -- the arguments of its start
 abbrev pub asRun : LoupeHanded → Handed

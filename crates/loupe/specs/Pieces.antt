@@ -18,7 +18,7 @@ use Rattle.run_outcomes.specs.Band.{State}
 use Rattle.run_outcomes.specs.Result.{resultOutcome}
 use Rattle.loupe_region.specs.declared.LoupeSetup.{LoupeSetup}
 use Rattle.loupe_region.specs.Outcome.{regionsInLimits, wantedInside, wholeOnBlocks}
-use Rattle.loupe.specs.Outcome.{LoupeOutcome, afterPasses, wantedLength, marginFits}
+use Rattle.loupe.specs.Outcome.{LoupeOutcome, allRows, afterPasses, wantedLength, marginFits}
 
 abbrev pub groupsChecks : Frame → List ℕ → List Float → List Check
 groupsChecks f t grids = frameSides f ∷ gridSides f t ∷ tableLength f t ∷ gridsLength f t grids ∷ frameSettings f ∷ presences f t ∷ []
@@ -55,7 +55,7 @@ earlyChecks n s f t grids sigmas out =
 -- ---- the copy of the wanted rectangle from a set of the widened one: the result of a run without passes whose filter region it is
 
 abbrev pub copySetup : Region → Region → Setup
-copySetup widened wanted = setupWith widened wanted 0 noSettings 16384
+copySetup widened wanted = setupWith widened wanted 0 noSettings allRows
 
 abbrev pub copied : ℕ → Region → Region → List Float → List Float → List Float
 copied n widened wanted set out = resultOutcome n (started (copySetup widened wanted)) set set out .out

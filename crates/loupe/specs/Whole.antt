@@ -17,7 +17,7 @@ use Rattle.loupe.specs.Outcome.{LoupeHanded, runSetup, asRun, loupeOutco
 
 -- The arguments show a part of a whole picture, which is given by the arguments of its start.
 pub record PartOf (n : ℕ) (h : LoupeHanded) (whole : Handed) : Type 0 where
-  -- the whole would not be refused under 4 to 9, and its filter region is the one that the loupe was told
+  -- the whole would not be refused under 4 to 9, and its filter region is the setup's `whole`
   pub unrefused : Unrefused n whole
   pub same-region : whole .setup .filter ≡ h .setup .whole
   -- the same passes, and settings that agree in all that these read

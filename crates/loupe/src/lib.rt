@@ -1,6 +1,7 @@
 // A wanted rectangle of a picture, filtered with what it needs around it (Specification 17.4 to 17.6). A run over the
 // widened rectangle gives the samples; its calls are used by their contracts alone.
 use frame::Frame;
+use limits::MAX_SIDE_U32;
 use loupe_region::LoupeSetup;
 use loupe_region::loupe_widened;
 use planes::PLANES;
@@ -17,10 +18,10 @@ use run_passes::Settings;
 use run_passes::pass_count;
 use run_record::Run;
 use run_result::result;
-use run_setup::MAX_BANDS;
 use run_setup::Setup;
 use run_start::no_settings;
 use run_start::start;
+use run_start::started;
 use sigma_groups::blocks::Blocks;
 use sigma_groups::check;
 ghost use mathlib.Core.Path.{_≡_};
@@ -32,14 +33,11 @@ ghost use Rattle.run_setup.specs.Makers.{setupWith};
 ghost use Rattle.run_record.specs.Record.{started};
 ghost use Rattle.run_outcomes.specs.Band.{State};
 ghost use Rattle.loupe_region.specs.Outcome.{widenedChecks};
-ghost use Rattle.loupe.specs.Outcome.{LoupeOutcome, afterPass, afterPasses, loupeOutcome};
+ghost use Rattle.loupe.specs.Outcome.{LoupeOutcome, allRows, afterPass, afterPasses, loupeOutcome};
 ghost use Rattle.loupe.specs.Pieces.{groupsChecks, settingsNumber, earlyChecks, copySetup, copied, passedOutcome};
 ghost use Rattle.loupe.specs.Whole.{WholeEqual};
 
 const NO: u32 = 0;
-
-// A band that has all rows.
-const BAND_HEIGHT: u32 = 16_384;
 
 fn one_block() -> Blocks
     ensures { λ r. ⌜ r ≡ record { left = 0; top = 0; width = 1; height = 1 } ⌝ }
@@ -118,14 +116,14 @@ fn early_number(
 
 // A run over the widened rectangle: image and filter region alike, and one band.
 fn run_setup(widened: Region, settings: Settings) -> Setup
-    ensures { λ r. ⌜ r ≡ setupWith widened widened 0 settings 16384 ⌝ }
+    ensures { λ r. ⌜ r ≡ setupWith widened widened 0 settings allRows ⌝ }
 {
     Setup {
         image: widened,
         filter: widened,
         preserve_outside: NO,
         settings,
-        band_height: BAND_HEIGHT,
+        band_height: MAX_SIDE_U32,
     }
 }
 
@@ -171,13 +169,9 @@ fn copy_run(widened: Region, wanted: Region) -> Run
         filter: wanted,
         preserve_outside: NO,
         settings,
-        band_height: BAND_HEIGHT,
+        band_height: MAX_SIDE_U32,
     };
-    Run {
-        setup,
-        pass: 0,
-        done: [0; MAX_BANDS],
-    }
+    started(setup)
 }
 
 // Copies the wanted rectangle from a set of the widened one.

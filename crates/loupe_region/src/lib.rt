@@ -5,6 +5,7 @@ use refusals::OUT_OF_LIMITS;
 use refusals::WANTED_OUTSIDE;
 use region::Region;
 use region_arithmetic::RegionAnswer;
+use region_arithmetic::refused;
 use region_axis::check_span;
 use region_interval::Span;
 use region_interval::overlap::meet;
@@ -19,7 +20,6 @@ use run_passes::margin;
 ghost use mathlib.Core.Path.{_≡_};
 ghost use lib.Dec.{T};
 ghost use Rattle.region.specs.Measures.{boundsFit};
-ghost use Rattle.region.specs.Regions.{zeroRegion};
 ghost use Rattle.region_interval.specs.Interval.{spanOf, reaching};
 ghost use Rattle.region_interval.specs.Overlap.{meet};
 ghost use Rattle.loupe_region.specs.Widened.{widened};
@@ -33,20 +33,6 @@ pub struct LoupeSetup {
     pub whole: Region,
     pub wanted: Region,
     pub settings: Settings,
-}
-
-fn refused(number: u32) -> RegionAnswer
-    ensures { λ r. ⌜ r ≡ record { number = number; region = zeroRegion } ⌝ }
-{
-    RegionAnswer {
-        number,
-        region: Region {
-            left: 0,
-            top: 0,
-            width: 0,
-            height: 0,
-        },
-    }
 }
 
 // One axis of the widened rectangle: what `len` positions from `start` need, clipped to the whole.

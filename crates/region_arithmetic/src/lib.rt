@@ -27,7 +27,8 @@ pub struct RegionAnswer {
 
 const LARGEST_FACTOR: u32 = 16;
 
-fn refused(number: u32) -> RegionAnswer
+// The answer of a refused call.
+pub fn refused(number: u32) -> RegionAnswer
     ensures { λ r. ⌜ r ≡ record { number = number; region = zeroRegion } ⌝ }
 {
     RegionAnswer {

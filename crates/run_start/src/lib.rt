@@ -149,7 +149,8 @@ fn picture_number(
     lowest(lowest(place.number, own), groups)
 }
 
-fn started(setup: Setup) -> Run
+// The record of a run that has started: no pass and no band is done.
+pub fn started(setup: Setup) -> Run
     ensures { λ r. ⌜ r ≡ started setup ⌝ }
 {
     Run {

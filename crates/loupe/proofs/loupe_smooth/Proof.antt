@@ -18,22 +18,46 @@ handed c = record {
   out = now (c .args .out);
 }
 
+-- ---- the arguments, and the states that each end looks back to
+
+-- the arguments, from the call of `early_number`
+abbrev given : tie.After-early-number → LoupeHanded
+given c = handed (c .before .before .before .before .before .before .before .before)
+
+-- the branch in which the early checks pass, from the call of `start`
+abbrev passed : tie.After-start → tie.Else1
+passed c = c .before .before .before .before .before .before
+
+-- the call of `start`, from the branch in which it is accepted
+abbrev starts : tie.Else2 → tie.After-start
+starts c = c .before .before .before .before .before .before
+
+-- ---- needs
+
 early-number-requires : tie.Need-early-number-requires
 early-number-requires c κs = place-number _ _ (c .loupe-widened .ensures)
 
-returns : tie.Need-returns
-returns c = answered-early 3 (handed (c .before .before .before .before .before .before .before .before .before)) _ (c .before .early-number .ensures) (c .if1 .taken)
+-- refused before the start
+refused-early : tie.Need-returns
+refused-early c = answered-early 3 (given (c .before)) _ (c .before .early-number .ensures) (c .if1 .taken)
 
-returns-2 : tie.Need-returns-2
-returns-2 c =
-    answered-start 3 (handed (c .before .before .before .before .before .before .before .before .before .before .before .before .before .before .before .before .before .before .before .before .before)) _ (c .before .before .before .before .before .before .before .before .before .before .before .before .before .early-number .ensures) (c .before .before .before .before .before .before .before .before .before .before .before .before .if1 .left)
-    _ (c .before .before .before .before .before .before .before .before .before .before .before .before .before .before .loupe-widened .ensures) _ (c .before .before .before .before .before .before .before .before .before .before .run-setup .ensures) _ (c .before .before .before .before .before .before .start .ensures) (c .if2 .taken)
+-- refused by the start
+refused-start : tie.Need-returns-2
+refused-start c =
+    let s = c .before .before .before .before .before .before in
+    let k = passed s in
+    let e = k .before in
+    answered-start 3 (given e) _ (e .early-number .ensures) (k .if1 .left) _ (e .before .loupe-widened .ensures) _ (s .before .before .before .before .run-setup .ensures) _ (s .start .ensures) (c .if2 .taken)
 
-returns-3 : tie.Need-returns-3
-returns-3 c =
-    answered-accepted 3 (handed (c .before .before .before .before .before .before .before .before .before .before .before .before .before .before .before .before .before .before .before .before .before .before .before .before .before .before .before .before .before .before .before .before .before)) _ (c .before .before .before .before .before .before .before .before .before .before .before .before .before .before .before .before .before .before .before .before .before .before .before .before .before .early-number .ensures) (c .before .before .before .before .before .before .before .before .before .before .before .before .before .before .before .before .before .before .before .before .before .before .before .before .if1 .left)
-    _ (c .before .before .before .before .before .before .before .before .before .before .before .before .before .before .before .before .before .before .before .before .before .before .before .before .before .before .loupe-widened .ensures) _ (c .before .before .before .before .before .before .before .before .before .before .before .before .before .before .before .before .before .before .before .before .before .before .run-setup .ensures) _ (c .before .before .before .before .before .before .before .before .before .before .before .before .before .before .before .before .before .before .start .ensures) (c .before .before .before .before .before .before .before .before .before .before .before .before .if2 .left)
-    _ (c .before .before .before .before .before .before .before .before .before .before .before .pass-count .ensures) _ (c .before .before .before .before .before .before .finish .ensures)
+accepted : tie.Need-returns-3
+accepted c =
+    let f = c .before .before .before .before .before .before in
+    let p = f .before .before .before .before .before in
+    let s = starts (p .before) in
+    let k = passed s in
+    let e = k .before in
+    answered-accepted 3 (given e) _ (e .early-number .ensures) (k .if1 .left) _ (e .before .loupe-widened .ensures) _ (s .before .before .before .before .run-setup .ensures) _ (s .start .ensures) (p .before .if2 .left)
+    _ (p .pass-count .ensures) _ (f .finish .ensures)
 
 pub loupe-smooth-spec : {M : Type 1} → statement M
 loupe-smooth-spec =
@@ -41,17 +65,17 @@ loupe-smooth-spec =
     (tie.spec
     (λ c κs. search needs)
     early-number-requires
-    returns
+    refused-early
     (λ c κs. search needs)
     (λ c κs. search needs)
     (λ c. search needs)
     (λ c. search needs)
     (λ c. search needs)
-    returns-2
+    refused-start
     (λ c κs. search needs)
     (λ c κs. search needs)
     (λ c. search needs)
     (λ c. search needs)
     (λ c. search needs)
     (λ c. search needs)
-    returns-3)
+    accepted)
