@@ -25,7 +25,7 @@ use Rattle.run_outcomes.specs.Band.{bandChecks, bandOutcome, advanceOutcome}
 use Rattle.run_outcomes.specs.Result.{resultChecks, resultOutcome}
 use Rattle.loupe_region.specs.Widened.{widened}
 use Rattle.loupe_region.specs.Outcome.{widenedChecks, widenedOutcome}
-use Rattle.loupe.specs.Outcome.{loupeChecks}
+use Rattle.loupe.specs.Outcome.{loupeChecks, loupeOutcome}
 use Rattle.cut_file.specs.File.{bodyAt}
 use Rattle.cut_file.specs.Read.{entryChecks, fileChecks, regionChecks, readChecks}
 use Rattle.cut_file.specs.Write.{rectanglesFit, tableChecks, writeChecks}
@@ -34,7 +34,7 @@ use Rattle.cut_write.specs.Outcome.{lengthOutcome}
 use Rattle.instances.specs.Limits.{Limits, numbersOf}
 
 pub limits : Limits
-unfolding u mirror powerBelow cornerFits sideFits regionOf inside boundsFit pictureFits rectangleFits shrunkBy alignedTo regionAnswer sizesOf badSides badSettings badBlocks badGrid cells gridStart gridLacksBlock someBelow noEntries notHeld someNotHeld tableFits gridsFit layoutOf passOutcome stepChecks epfChecks epfOutcome steps plan stepMargin marginChecks marginOutcome bandCount sizeFits numbersFit setupFits isDone started bandMissing badDone runFits pictureChecks startChecks startOutcome bandChecks bandOutcome advanceOutcome resultChecks resultOutcome passChecks numbersOf widened widenedChecks widenedOutcome loupeChecks bodyAt entryChecks fileChecks regionChecks readChecks rectanglesFit tableChecks writeChecks countOutcome lengthOutcome
+unfolding u mirror powerBelow cornerFits sideFits regionOf inside boundsFit pictureFits rectangleFits shrunkBy alignedTo regionAnswer sizesOf badSides badSettings badBlocks badGrid cells gridStart gridLacksBlock someBelow noEntries notHeld someNotHeld tableFits gridsFit layoutOf passOutcome stepChecks epfChecks epfOutcome steps plan stepMargin marginChecks marginOutcome bandCount sizeFits numbersFit setupFits isDone started bandMissing badDone runFits pictureChecks startChecks startOutcome bandChecks bandOutcome advanceOutcome resultChecks resultOutcome passChecks numbersOf widened widenedChecks widenedOutcome loupeChecks loupeOutcome bodyAt entryChecks fileChecks regionChecks readChecks rectanglesFit tableChecks writeChecks countOutcome lengthOutcome
 limits = record {
   regionSide = (refl, refl);
   regionRight = (refl, refl);
@@ -99,6 +99,12 @@ limits = record {
   wholeOnBlocks = (refl, refl);
   wantedFirst = refl;
   widenedEdges = refl;
+  widenedRefused = refl;
+  widenedPast = refl;
+  loupeSets = (refl, refl, refl, refl);
+  loupeSigmas = (refl, refl, refl, refl, refl);
+  loupeSlice = (refl, refl, refl);
+  loupeHeld = (refl, refl, refl);
   cutBytesMost = λ s e z. rw (e, z) refl;
   cutBytesPast = λ s e. rw e refl;
   cutLeast = (refl, refl);

@@ -11,6 +11,7 @@ use Rattle.refusals.specs.Checks.{Check}
 use Rattle.header_bits.specs.Outcome.{accepted, refused}
 use Rattle.header_bits.specs.Bits.{field, u}
 use Rattle.region.specs.declared.Region.{Region}
+use Rattle.region.specs.Regions.{zeroRegion}
 use Rattle.region.specs.Answers.{isEmptyOutcome}
 use Rattle.region_arithmetic.specs.declared.RegionAnswer.{RegionAnswer}
 use Rattle.region_arithmetic.specs.Answers.{downsampleOutcome, alignedOutcome}
@@ -40,7 +41,7 @@ use Rattle.run_outcomes.specs.Band.{State, bandChecks, bandOutcome, advanceOutc
 use Rattle.run_outcomes.specs.Result.{resultChecks, resultOutcome}
 use Rattle.loupe_region.specs.declared.LoupeSetup.{LoupeSetup}
 use Rattle.loupe_region.specs.Outcome.{widenedChecks, widenedOutcome}
-use Rattle.loupe.specs.Outcome.{LoupeHanded, loupeChecks}
+use Rattle.loupe.specs.Outcome.{LoupeHanded, loupeChecks, loupeOutcome}
 use Rattle.cut_file.specs.declared.CutTable.{CutTable}
 use Rattle.cut_file.specs.Read.{countIn, readChecks}
 use Rattle.cut_file.specs.Write.{writeChecks}
@@ -159,6 +160,21 @@ widenedOf whole wanted = widenedOutcome (record { whole = whole; wanted = wanted
 abbrev pub twoFrom : ℕ → Region
 twoFrom left = record { left = pos left; top = pos 0; width = 2; height = 1 }
 
+-- the loupe on a whole of 16 × 8 samples in one group with a grid of one cell: the left of two wanted positions, Gabor's flag, the iterations, and
+-- the lengths of each set, of the block sigmas and of the result slice
+abbrev pub loupeNumber : ℕ → ℕ → ℕ → ℕ → ℕ → ℕ → ℕ
+loupeNumber left gabor iters set sigmas out =
+    loupeOutcome 3 (record {
+      setup = record { whole = sides 16 8; wanted = twoFrom left; settings = settingsOf gabor iters };
+      frame = record { width = 16; height = 8; upsampling = 1; «lf_level» = 0; «group_size_shift» = 0 };
+      table = 1 ∷ 1 ∷ 1 ∷ [];
+      grids = b1 ∷ [];
+      first = replicate set b0;
+      second = replicate set b0;
+      sigmas = replicate sigmas b0;
+      out = replicate out b0;
+    }) .number
+
 -- the sample width of a frame 1,000 wide at an LF level
 abbrev pub columnsAt : ℕ → ℕ
 columnsAt level = frameOutcome (record { width = 1000; height = 1; upsampling = 1; «lf_level» = level; «group_size_shift» = 0 }) .sizes .«sample_width»
@@ -256,6 +272,15 @@ pub record Limits : Type 0 where
   -- 16, bottom 81 is clipped to 79
   pub widenedEdges : widenedOf (record { left = pos 8; top = pos 0; width = 100; height = 80 }) (record { left = pos 11; top = pos 30; width = 7; height = 45 })
       ≡ record { number = 0; region = record { left = pos 8; top = pos 16; width = 17; height = 64 } }
+  -- zeros beside a refusal; with Gabor alone, a left of −1,048,577 before the intersection is not refused
+  pub widenedRefused : widenedOf (eightFrom 0) (twoFrom 7) ≡ record { number = 15; region = zeroRegion }
+  pub widenedPast : widenedOutcome (record { whole = square (negsuc 1048575) 8; wanted = square (negsuc 1048575) 1; settings = settingsOf 1 0 }) .number ≡ 0
+  -- with one iteration columns 0 and 1 need 4 × 3 samples in one block, columns 6 and 7 need 10 × 3 in two, of which the grid has one. Each check
+  -- is hidden only by the settings that it is computed from.
+  pub loupeSets : (loupeNumber 0 0 1 36 1 6 ≡ 0) × (loupeNumber 0 0 1 35 1 6 ≡ 7) × (loupeNumber 0 0 4 35 1 6 ≡ 9) × (loupeNumber 0 2 1 35 1 6 ≡ 9)
+  pub loupeSigmas : (loupeNumber 0 0 1 36 2 6 ≡ 7) × (loupeNumber 0 0 4 36 2 6 ≡ 9) × (loupeNumber 0 2 1 36 2 6 ≡ 9) × (loupeNumber 0 2 0 36 1 6 ≡ 7) × (loupeNumber 0 2 0 36 0 6 ≡ 9)
+  pub loupeSlice : (loupeNumber 0 0 1 36 1 5 ≡ 7) × (loupeNumber 0 0 4 36 1 5 ≡ 7) × (loupeNumber 0 2 1 36 1 5 ≡ 7)
+  pub loupeHeld : (loupeNumber 6 0 1 90 2 6 ≡ 8) × (loupeNumber 6 0 4 90 2 6 ≡ 9) × (loupeNumber 6 2 1 90 2 6 ≡ 9)
   -- cut files: 16,777,216 bytes, of which the first is wrong; 1 to 64 rectangles; the longest file and one of four bytes more
   pub cutBytesMost : (s : List ℕ) → length s ≡ 16777216 → getD s 0 0 ≡ 0 → countOutcome s .number ≡ 12
   pub cutBytesPast : (s : List ℕ) → length s ≡ 16777217 → countOutcome s .number ≡ 7

@@ -23,7 +23,7 @@ use Rattle.loupe.specs.Outcome.{LoupeOutcome, allRows, afterPasses, want
 abbrev pub groupsChecks : Frame → List ℕ → List Float → List Check
 groupsChecks f t grids = frameSides f ∷ gridSides f t ∷ tableLength f t ∷ gridsLength f t grids ∷ frameSettings f ∷ presences f t ∷ []
 
--- If the margin is not known: 7 for the group table and the grids, whose number `groups` is not 4, or for block sigmas with the EPF off;
+-- If the margin is unknown: 7 for the group table and the grids (`groups` is their number, and not 4), or for block sigmas with the EPF off;
 -- otherwise 9.
 abbrev pub settingsNumber : ℕ → ℕ → ℕ → ℕ
 settingsNumber groups iters sigmas = cond (eqb groups wrongLength || (eqb iters 0 && not (eqb sigmas 0))) wrongLength outOfRange
@@ -41,7 +41,7 @@ unknownChecks s f t grids sigmas =
     ∷ unlessMargin s (always outOfRange true)
     ∷ []
 
--- Before the start: all that the start is not asked. If the margin is not known, no start is asked, and these are all the checks.
+-- The checks that `start` does not make. If the margin is unknown, `start` is not called, and these are all the checks.
 unfoldable pub earlyChecks : ℕ → LoupeSetup → Frame → List ℕ → List Float → ℕ → ℕ → List Check
 earlyChecks n s f t grids sigmas out =
     regionsInLimits s

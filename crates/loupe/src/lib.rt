@@ -79,7 +79,8 @@ fn settings_number(groups: u32, iters: u32, sigmas: usize) -> u32
     OUT_OF_RANGE
 }
 
-// The number of all that the start of the run is not asked. `place` is the number of `loupe_widened`.
+// The first number of the checks that `start` does not make; of all checks if the margin is unknown, since `start` is
+// not called then. `place` is the number of `loupe_widened`.
 fn early_number(
     place: u32,
     s: LoupeSetup,

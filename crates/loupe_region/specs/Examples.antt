@@ -22,8 +22,8 @@ pub plain : widened 7 (region (pos 0) (pos 0) 100 80) (region (pos 20) (pos 30) 
 unfolding widened regionOf
 plain = refl
 
--- the smallest left, and a wanted top over the largest one: limits are not checked before the intersection
-pub at-the-limits : widened 7 (region (negsuc 1048575) (pos 1048576) 16384 1024) (region (negsuc 1048575) (pos 1049000) 1 600) ≡ region (negsuc 1048575) (pos 1048992) 8 608
+-- the smallest left and the largest top: left is −1,048,583 and moved down before the intersection, and no limit is applied to it
+pub at-the-limits : widened 7 (region (negsuc 1048575) (pos 1048576) 16384 1024) (region (negsuc 1048575) (pos 1048576) 1 600) ≡ region (negsuc 1048575) (pos 1048576) 8 607
 unfolding widened regionOf
 at-the-limits = refl
 
@@ -31,6 +31,11 @@ at-the-limits = refl
 pub below-zero : widened 1 (region (negsuc 4) (negsuc 4) 20 20) (region (negsuc 2) (negsuc 2) 2 2) ≡ region (negsuc 4) (negsuc 4) 5 5
 unfolding widened regionOf
 below-zero = refl
+
+-- multiples of 8 count from 0 and not from the corner of the whole: left is 10 − 1 = 9, moved down to 8
+pub from-zero : widened 1 (region (negsuc 4) (negsuc 4) 40 40) (region (pos 10) (pos 10) 2 2) ≡ region (pos 8) (pos 8) 5 5
+unfolding widened regionOf
+from-zero = refl
 
 -- margin 0: left is moved down from 15 to 8, and top, a multiple of 8, stays
 pub moved-down : widened 0 (region (pos 0) (pos 0) 100 100) (region (pos 15) (pos 16) 10 10) ≡ region (pos 8) (pos 16) 17 10

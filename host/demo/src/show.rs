@@ -131,7 +131,7 @@ impl Shown {
         self.say(format!(
             "rectangles  {count} of up to {width} x {height}, edge to edge: {time:.1} ms"
         ));
-        self.say("            each extended by the margin, aligned to blocks, and cropped".into());
+        self.say("            each extended by the margin, left and top aligned to blocks".into());
         Ok(self.compare("compared", "whole picture", &laid?, whole))
     }
 

@@ -94,13 +94,13 @@ impl Filters {
             settings: self.settings,
         };
         let mut given = restoration::loupe_widened(setup).value()?;
-        let margin = self.margin()?;
         let past = |start: i32, side: u32| i64::from(start) + i64::from(side);
+        let whole = picture.region;
         // An edge of the picture is no cut edge and stays.
-        if past(given.left, given.width) == past(part.left, part.width + margin) {
+        if past(given.left, given.width) < past(whole.left, whole.width) {
             given.width -= 1;
         }
-        if past(given.top, given.height) == past(part.top, part.height + margin) {
+        if past(given.top, given.height) < past(whole.top, whole.height) {
             given.height -= 1;
         }
         Ok(self.smooth(picture.cut(given))?.into_part(part))

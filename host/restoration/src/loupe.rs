@@ -45,8 +45,8 @@ entries! {
     /// ```
     loupe_widened = restoration_loupe_widened(setup: LoupeSetup) -> RegionAnswer;
 
-    /// Filters the wanted rectangle: `first` has the planes of the widened one, `second` and `sigmas`
-    /// are scratch, and `out` gets the wanted samples. [`Loupe`] allocates the buffers.
+    /// Filters the wanted rectangle: `first` has the planes of the widened one, and `out` gets the wanted
+    /// samples. `first`, `second` and `sigmas` are overwritten. [`Loupe`] allocates the buffers.
     loupe_smooth = restoration_loupe_smooth(
         setup: LoupeSetup,
         frame: Frame,
@@ -59,7 +59,9 @@ entries! {
     ) -> u32;
 }
 
-/// Filters rectangles of a picture, one call per rectangle, without filtering the rest of it.
+/// Filters rectangles of a picture, one call per rectangle, without filtering the rest of it. The samples are
+/// those that the whole picture would have there if the block sigmas of the widened rectangle are the whole's,
+/// as they are when no grid is missing.
 ///
 /// ```
 /// use restoration::{Frame, Loupe, Region, Settings, Setup, Smoothing};
