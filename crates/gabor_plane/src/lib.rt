@@ -1,10 +1,11 @@
 // The Gabor-like filter on one plane: rows of a region of a slice.
+mod pairs;
 mod reads;
 mod rows;
 
 use gabor_kernel::kernel_of;
 use limits::MAX_SIDE;
-use rows::region_row;
+use pairs::next_rows;
 ghost use mathlib.Core.Path.{_≡_};
 ghost use Prim.Native.Nat.{_+_, _*_, _≤_};
 ghost use lib.ListN.{length};
@@ -32,9 +33,9 @@ fn gabor_rows(src: &[f32], dst: &mut [f32], r: PlaneRegion, from: usize, n: usiz
     let mut i = 0;
     let mut o = r.at + from * r.stride;
     while i < n {
-        region_row(src, dst, r, from + i, o, k);
-        o += r.stride;
-        i += 1;
+        let m = next_rows(src, dst, r, from + i, n - i, o, k);
+        o += m * r.stride;
+        i += m;
     }
 }
 

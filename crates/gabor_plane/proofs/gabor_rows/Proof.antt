@@ -1,16 +1,17 @@
 -- `gabor_plane::gabor_rows` meets its contract. The invariant: i rows of n are written, and the next one starts at o. Assumes nothing.
 use mathlib.Core.Path.{_≡_, refl, _∙_}
-use Prim.Native.Nat.{ℕ, _+_, _-_, _*_, _≤_, _<_}
-use native.Mathlib.Nat.{add-mul}
+use Prim.Native.Nat.{ℕ, _+_, _-_, _*_, _≤_}
+use native.Mathlib.Nat.{add-mul, mul-le-mul}
 use native.Mathlib.Omega.{arith}
 use denote.Ref.{now}
 use borrow.Author.Needs.{needs}
 use lib.ListN.{length}
 use Rattle.planes.specs.Rect.{rowsFill}
-use Rattle.planes.proofs.Rect.{rows-turn, rows-end}
+use Rattle.planes.proofs.Rect.{rows-end}
 use Rattle.gabor_plane.specs.declared.PlaneRegion.{PlaneRegion}
 use Rattle.gabor_plane.specs.Rows.{RegionFits}
-use Rattle.gabor_plane.proofs.RowLaws.{row-room, row-below, start-room}
+use Rattle.gabor_plane.proofs.RowLaws.{start-room}
+use Rattle.gabor_plane.proofs.PairLaws.{rows-then}
 use Rattle.gabor_plane.specs.Plane.{regionRows}
 use Rattle.gabor_plane.proofs.gabor_rows.Statement.{statement}
 use Rattle.gabor_plane.proofs.gabor_rows.Tie as tie
@@ -36,39 +37,56 @@ start s =
       start-room (s .args .r) (length (now (s .args .src))) (s .args .from) (s .pre .0) (omega (arith, s .pre .1 .1)),
     )
 
--- row from + i starts at o and ends within both slices; the start of the next row does not overflow
-record Here (r : PlaneRegion) (len from i o : ℕ) : Type 0 where
-  pub starts : o ≡ r .at + (from + i) * r .stride
-  pub ends : o + r .width ≤ len
-  pub next : o + r .stride ≤ len + r .stride
+-- row from + i starts at o
+starts : (r : PlaneRegion) (from i o : ℕ) → o ≡ r .at + from * r .stride + i * r .stride → o ≡ r .at + (from + i) * r .stride
+starts r from i o e = omega (arith, add-mul from i (r .stride))
 
-here : (r : PlaneRegion) (len from i o : ℕ) → RegionFits r len → from + i < r .height → o ≡ r .at + from * r .stride + i * r .stride → Here r len from i o
-here r len from i o f p e =
-    let s : o ≡ r .at + (from + i) * r .stride = omega (arith, add-mul from i (r .stride)) in
+-- the start of the row after m more rows does not overflow
+record Next (r : PlaneRegion) (len m o : ℕ) : Type 0 where
+  pub span : m * r .stride ≤ 16384 * 16384
+  pub next : o + m * r .stride ≤ len + 16384
+
+next-row : (r : PlaneRegion) (len from i m o : ℕ) → RegionFits r len → from + i + m ≤ r .height → o ≡ r .at + from * r .stride + i * r .stride → Next r len m o
+next-row r len from i m o f p e =
+    let few : m ≤ 16384 = omega (arith, f .height-le) in
     record {
-      starts = s;
-      ends = omega (arith, row-room r len (from + i) f p);
-      next = omega (arith, row-room r len (from + i) f p);
+      span = mul-le-mul few (f .stride-le);
+      next = omega (arith, f .stride-le, starts r from i o e, add-mul (from + i) m (r .stride), start-room r len (from + i + m) f p);
     }
 
-module _ (c : tie.In-loop Inv-loop μ-loop) where
-  turn : let s = c .before .before .before .before .before .before .before in
-      Here (s .args .r) (length (now (s .args .src))) (s .args .from) (c .before .loop .i) (c .before .loop .o)
+module _ (c : tie.After-next-rows Inv-loop μ-loop) where
+  turn : let s = c .before .before .before .before .before .before .before .before .before in
+      Next (s .args .r) (length (now (s .args .src))) (c .next-rows .result) (c .before .before .before .loop .o)
   turn =
-      let s = c .before .before .before .before .before .before .before in
-      here (s .args .r) (length (now (s .args .src))) (s .args .from) (c .before .loop .i) (c .before .loop .o)
-      (s .pre .0) (omega (arith, s .pre .1 .1, c .loop-test .taken)) (c .before .loop .inv .1)
+      let at-loop = c .before .before .before in
+      let s = at-loop .before .before .before .before .before .before in
+      next-row (s .args .r) (length (now (s .args .src))) (s .args .from) (at-loop .loop .i) (c .next-rows .result) (at-loop .loop .o)
+      (s .pre .0) (omega (arith, s .pre .1 .1, c .next-rows .ensures .0 .1, at-loop .loop .inv .0)) (at-loop .loop .inv .1)
+
+next-rows-requires : tie.Need-next-rows-requires Inv-loop μ-loop
+next-rows-requires c κs =
+    let at-loop = c .before .before in
+    let s = at-loop .before .before .before .before .before .before in (
+      s .pre .0,
+      (
+        omega (arith, s .pre .1 .0, at-loop .loop .inv .2),
+        omega (arith, c .before .loop-test .taken),
+        omega (arith, s .pre .1 .1, c .before .loop-test .taken),
+        starts (s .args .r) (s .args .from) (at-loop .loop .i) (at-loop .loop .o) (at-loop .loop .inv .1),
+      ),
+    )
 
 loop-again : tie.Need-loop-again Inv-loop μ-loop
 unfolding regionRows
 loop-again c =
     let called = c .before .before .before in
     let at-loop = called .before .before .before in
+    let s = at-loop .before .before .before .before .before .before in
     let inv = at-loop .loop .inv in (
-      omega arith,
-      omega (arith, row-below (at-loop .loop .i) (at-loop .before .before .before .before .before .before .args .r .stride)),
-      called .region-row .kept .1 .0 ∙ inv .2,
-      rows-turn _ _ _ _ _ _ _ _ _ (inv .3) (inv .1) (called .region-row .ensures),
+      omega (arith, called .next-rows .ensures .0 .1),
+      omega (arith, inv .1, add-mul (at-loop .loop .i) (called .next-rows .result) (s .args .r .stride)),
+      called .next-rows .kept .1 .0 ∙ inv .2,
+      rows-then _ _ _ _ _ _ _ _ _ _ _ (inv .3) (inv .1) (λ j x. let z : s .args .from + at-loop .loop .i + j ≡ s .args .from + (at-loop .loop .i + j) = omega arith in rw z) (called .next-rows .ensures .1),
     )
 
 returns : tie.Need-returns Inv-loop μ-loop
@@ -87,10 +105,12 @@ gabor-rows-spec =
     (λ c. omega (arith, start (c .before .before .before .before .before)))
     loop-holds
     (λ c. omega (arith, c .before .before .before .before .before .before .before .before .pre .1 .1))
-    (λ c κs. let s = c .before .before .before .before .before .before .before .before in let t = turn (c .before) in (s .pre .0, (omega (arith, s .pre .1 .1), t .starts, omega (arith, t .ends, s .pre .1 .0, c .before .before .loop .inv .2))))
-    (λ c. let s = c .before .before .before .before .before .before .before .before .before .before .before .before in let t = turn (c .before .before .before .before .before) in omega (arith, t .next, s .pre .0 .stride-le))
     (λ c. omega arith)
-    (λ c. omega arith)
+    next-rows-requires
+    (λ c. omega (arith, turn (c .before .before .before) .span))
+    (λ c. omega (arith, turn (c .before .before .before) .next))
+    (λ c. omega (arith, c .before .before .before .next-rows .ensures .0 .1))
+    (λ c. omega (arith, c .before .before .before .next-rows .ensures .0))
     loop-again
     (λ c. c .before .loop .inv .2)
     returns)
