@@ -2,25 +2,19 @@
 use mathlib.Core.Path.{_≡_, refl, sym, ap, _∙_}
 use mathlib.Core.Bool.{true, false, _&&_, and-false}
 use mathlib.Core.List.{List}
-use Prim.Native.Nat.{ℕ, zero, suc, _+_, _-_, _*_, _%_, _<_, _≤_}
+use Prim.Native.Nat.{ℕ, suc, _+_, _-_, _*_, _%_, _<_, _≤_}
 use native.Mathlib.Nat.{add-mul, mul-assoc, mul-le-mul, mul-le-mul-right}
-use native.Mathlib.Numerals.{add-one}
 use native.Mathlib.Omega.{arith}
 use borrow.Author.Tests.{leb-true, ltb-true, le-leb, lt-leb, le-ltb, lt-ltb, eq-eqb, ne-eqb}
 use lib.Dec.{leb, ltb}
-use lib.ListN.{length, getD, set}
-use lib.Seq.{set-comm}
+use lib.ListN.{length, getD}
 use lib.IntN.{ℤ, pos, negsuc, _+ℤ_, natAbs}
 use lib.Ieee.{Float, nan}
 use Rattle.rounding.specs.Magnitude.{magnitude}
 use Rattle.planes.specs.declared.Layout.{Layout}
 use Rattle.planes.specs.Samples.{_⊕_, _⊖_, _⊗_, _⊘_, b0, b1}
-use Rattle.planes.specs.Picture.{Picture, Around, around}
+use Rattle.planes.specs.Picture.{Around, around}
 use Rattle.planes.proofs.SetLaws.{around-inside}
-use Rattle.planes.specs.Fill.{fill}
-use Rattle.planes.specs.Rect.{rowsFill, planesFill}
-use Rattle.planes.proofs.Rect.{planes-turn}
-use Rattle.planes.proofs.Join.{rect-below}
 use Rattle.planes.specs.Band.{inner}
 use Rattle.planes.proofs.Stored.{and-first, and-second}
 use Rattle.epf_step.specs.Steps.{kernel, dists, along, scaled, scaledFrom, apart, distance, falloff, weightBy, weightAt, blend, divisor}
@@ -29,9 +23,11 @@ use Rattle.epf_slopes.specs.Slopes.{firstSlope}
 use Rattle.epf_slopes.proofs.Slopes.{first-same}
 use Rattle.epf_rects.specs.declared.Rect.{Rect}
 use Rattle.epf_rects.specs.Rects.{rectFilled, rectFits, RectFits}
+use Rattle.epf_rects.specs.Three.{threeFill}
 use Rattle.epf_rects.proofs.Rects.{rect-true, taken-inner}
+use Rattle.epf_rects.proofs.Three.{rowsTo, row-below}
 use Rattle.epf_interior.specs.declared.Weights.{Weights}
-use Rattle.epf_interior.specs.Inside.{farAt, weightsOf, mixOf, laneIn, threeFill, liesInside, Inside, cornerOf, insideOf, insideFilled}
+use Rattle.epf_interior.specs.Inside.{farAt, weightsOf, mixOf, laneIn, liesInside, Inside, cornerOf, insideOf, insideFilled}
 
 -- ---- a sample and its neighbours, each a function of the channel
 
@@ -48,56 +44,6 @@ pub lane-at : (src : List Float) (stride plane : ℕ) (scales slopes : List Floa
     → w ≡ weightsOf src stride plane scales (k + i) (getD slopes (first + i) nan) → v ≡ mixOf src stride q w → v ≡ laneIn src stride plane scales slopes first k c i
 unfolding laneIn
 lane-at src stride plane scales slopes first k c i q w v eq ew ev = ev ∙ rw (ew, eq)
-
-swap : (d : List Float) (at n : ℕ) (f : ℕ → Float) (k : ℕ) (v : Float) → k < at → set (fill d at n f) k v ≡ fill (set d k v) at n f
-unfolding fill
-swap d at zero f k v h = refl
-swap d at (suc n) f k v h = set-comm (fill d at n f) (at + n) k (f n) v (λ (e : at + n ≡ k). omega arith) ∙ ap (λ (l : List Float). set l (at + n) (f n)) (swap d at n f k v h)
-
-pub three-none : (d : List Float) (o plane : ℕ) (f : ℕ → ℕ → Float) → d ≡ threeFill d o plane 0 f
-unfolding threeFill fill
-three-none d o plane f = refl
-
--- one more sample in each
-pub three-turn : (d a : List Float) (o plane n : ℕ) (f : ℕ → ℕ → Float) (x y z : Float) → n < plane → a ≡ threeFill d o plane n f → x ≡ f 0 n → y ≡ f 1 n → z ≡ f 2 n
-    → set (set (set a (o + n) x) (o + plane + n) y) (o + 2 * plane + n) z ≡ threeFill d o plane (n + 1) f
-unfolding threeFill fill
-three-turn d a o plane n f x y z l e ex ey ez =
-    let d1 = fill d o n (f 0) in
-    let d2 = fill d1 (o + plane) n (f 1) in
-    let e1 = set d1 (o + n) (f 0 n) in
-    let e2 = fill e1 (o + plane) n (f 1) in
-    let s1 : set (fill d2 (o + 2 * plane) n (f 2)) (o + n) (f 0 n) ≡ fill (set d2 (o + n) (f 0 n)) (o + 2 * plane) n (f 2) = swap d2 (o + 2 * plane) n (f 2) (o + n) (f 0 n) (omega arith) in
-    let s2 : set d2 (o + n) (f 0 n) ≡ e2 = swap d1 (o + plane) n (f 1) (o + n) (f 0 n) (omega arith) in
-    let s3 : set (fill e2 (o + 2 * plane) n (f 2)) (o + plane + n) (f 1 n) ≡ fill (set e2 (o + plane + n) (f 1 n)) (o + 2 * plane) n (f 2) = swap e2 (o + 2 * plane) n (f 2) (o + plane + n) (f 1 n) (omega arith) in
-    rw (e, ex, ey, ez, add-one n, s1, s2, s3)
-
-pub three-end : (d a : List Float) (o plane i n : ℕ) (f : ℕ → ℕ → Float) → a ≡ threeFill d o plane i f → i ≤ n → n ≤ i → a ≡ threeFill d o plane n f
-three-end d a o plane i n f e p q = let z : i ≡ n = omega arith in rw (← z) e
-
-one-plane : (w h left n top k o : ℕ) (v : ℕ → ℕ → Float) (d a b : List Float) → a ≡ planesFill w h left n top 1 (λ c i j. v c i) d k → o ≡ (k * h + top) * w + left → b ≡ fill a o n (v k)
-    → b ≡ planesFill w h left n top 1 (λ c i j. v c i) d (k + 1)
-one-plane w h left n top k o v d a b p e q = planes-turn w h left n top 1 (λ c i j. v c i) d a b k p (run (rw e at q))
-  where
-    run : b ≡ fill a ((k * h + top) * w + left) n (v k) → b ≡ rowsFill a ((k * h + top) * w + left) w n 1 (λ i x. v k x)
-    run g = unfold rowsFill in let z : (k * h + top) * w + left + 0 * w ≡ (k * h + top) * w + left = omega arith in g ∙ rw z
-
--- as a row of three planes
-pub three-planes : (w h left n top o plane : ℕ) (v : ℕ → ℕ → Float) (d b : List Float) → o ≡ top * w + left → plane ≡ h * w → b ≡ threeFill d o plane n v
-    → b ≡ planesFill w h left n top 1 (λ c i j. v c i) d 3
-unfolding threeFill
-three-planes w h left n top o plane v d b eo ep e =
-    let m1 : (1 * h + top) * w ≡ 1 * h * w + top * w = add-mul (1 * h) top w in
-    let m2 : (2 * h + top) * w ≡ 2 * h * w + top * w = add-mul (2 * h) top w in
-    let n1 : 1 * h * w ≡ 1 * (h * w) = mul-assoc 1 h w in
-    let n2 : 2 * h * w ≡ 2 * (h * w) = mul-assoc 2 h w in
-    let z : 0 * h + top ≡ top = omega arith in
-    one-plane w h left n top 2 (o + 2 * plane) v d _ b
-    (one-plane w h left n top 1 (o + plane) v d _ _ (one-plane w h left n top 0 o v d d _ none (rw z eo) refl) (omega (arith, eo, ep, m1, n1)) refl)
-    (omega (arith, eo, ep, m2, n2)) e
-  where
-    none : d ≡ planesFill w h left n top 1 (λ c i j. v c i) d 0
-    none = unfold planesFill in refl
 
 -- ---- the code reads the samples of the definition
 
@@ -197,14 +143,6 @@ beside-alike l src q f r i R I c dx dy C X Y =
 
 -- ---- the loop over rows
 
--- the first r rows
-abbrev pub rowsTo : Layout → Rect → ℕ → Picture → List Float → List Float
-rowsTo l q r v d = planesFill (l .image .width) (l .image .height) (l .left + q .x) (q .cols) (l .top + q .y) r v d 3
-
-pub rows-none : (w h left n top : ℕ) (v : Picture) (d : List Float) → d ≡ planesFill w h left n top 0 v d 3
-unfolding planesFill rowsFill
-rows-none w h left n top v d = refl
-
 -- one iteration
 pub row-next : (l : Layout) (src scales slopes : List Float) (top : ℕ) (q : Rect) (r first : ℕ) (d a b : List Float) → Inside l q → RectFits l 3 q (length d) → r < q .rows → first ≡ firstSlope (top % 8 + r)
     → a ≡ rowsTo l q r (insideOf l src scales slopes top q) d
@@ -213,9 +151,7 @@ pub row-next : (l : Layout) (src scales slopes : List Float) (top : ℕ) (q : Re
 unfolding insideOf
 row-next l src scales slopes top q r first d a b f g R ek ea eb =
     let v = insideOf l src scales slopes top q in
-    rect-below 3 (l .image .width) (l .image .height) 3 (omega arith) (l .left + q .x) (q .cols) (l .top + q .y) r 1 v (λ c i j. v c i r) v d a b (g .set) (omega (arith, g .layout .across, g .across)) (omega (arith, g .layout .down, g .down)) ea
-    (three-planes (l .image .width) (l .image .height) (l .left + q .x) (q .cols) (l .top + q .y + r) _ _ (λ c i. v c i r) a b (row-room l q r (length d) f g R .first-index) refl (rw (first-same first top r ek) at eb))
-    (λ c i j p s h. refl) (λ c i j p s h. let z : r + j ≡ r = omega arith in rw z)
+    row-below l q r _ _ v d a b g R (row-room l q r (length d) f g R .first-index) refl ea (rw (first-same first top r ek) at eb)
 
 -- ---- the code's tests
 module _ (l : Layout) (q : Rect) where

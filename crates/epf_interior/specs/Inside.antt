@@ -9,7 +9,6 @@ use Rattle.rounding.specs.Magnitude.{magnitude}
 use Rattle.planes.specs.declared.Layout.{Layout}
 use Rattle.planes.specs.Samples.{_⊕_, _⊖_, _⊗_, _⊘_, b0, b1}
 use Rattle.planes.specs.Picture.{Picture}
-use Rattle.planes.specs.Fill.{fill}
 use Rattle.epf_step.specs.Steps.{weightBy}
 use Rattle.epf_slopes.specs.Slopes.{slopeColumns, firstSlope}
 use Rattle.epf_rects.specs.declared.Rect.{Rect}
@@ -41,11 +40,6 @@ mixOf src stride k w =
 -- sample i of a row in channel c; k is the corner of the row's first sample, and its slopes start at index `first`
 unfoldable pub laneIn : List Float → ℕ → ℕ → List Float → List Float → ℕ → ℕ → ℕ → ℕ → Float
 laneIn src stride plane scales slopes first k c i = mixOf src stride (k + i + c * plane) (weightsOf src stride plane scales (k + i) (getD slopes (first + i) nan))
-
--- ---- three runs, one per plane
-
-unfoldable pub threeFill : List Float → ℕ → ℕ → ℕ → (ℕ → ℕ → Float) → List Float
-threeFill d o plane n f = fill (fill (fill d o n (f 0)) (o + plane) n (f 1)) (o + 2 * plane) n (f 2)
 
 -- ---- a rectangle whose samples have neighbours inside the filter region on every side
 

@@ -13,8 +13,9 @@ ghost use mathlib.Core.Path.{_≡_};
 ghost use Prim.Native.Nat.{ℕ, _+_, _-_, _*_, _<_, _≤_};
 ghost use lib.ListN.{length};
 ghost use Rattle.epf_rects.specs.Rects.{rectFilled, RectFits};
+ghost use Rattle.epf_rects.specs.Three.{threeFill};
 ghost use Rattle.epf_slopes.specs.Slopes.{slopeColumns, slopesLength};
-ghost use Rattle.epf_interior.specs.Inside.{farAt, weightsOf, mixOf, laneIn, threeFill, liesInside, Inside};
+ghost use Rattle.epf_interior.specs.Inside.{farAt, weightsOf, mixOf, laneIn, liesInside, Inside};
 ghost use Rattle.epf_interior.specs.Inside.{insideOf, insideFilled};
 ghost use Rattle.epf_interior.specs.Divisor.{ThreeScalesBounded};
 

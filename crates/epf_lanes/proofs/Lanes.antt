@@ -1,68 +1,54 @@
--- Invariants of the loops over a tile's lanes. Assumes nothing.
+-- A lane computed by four neighbours at a time is the lane of the definition; rows of lanes make a tile. Assumes nothing.
 use mathlib.Core.Path.{_≡_, refl, sym, ap, _∙_}
-use mathlib.Core.Bool.{and-false}
+use mathlib.Core.Bool.{false, and-false}
 use mathlib.Core.List.{List}
-use Prim.Native.Nat.{ℕ, zero, suc, _+_, _*_, _<_, _≤_}
-use native.Mathlib.Decide.{decLt}
-use native.Mathlib.Numerals.{add-one}
+use Prim.Native.Nat.{ℕ, zero, suc, _+_, _*_, _%_, _<_, _≤_}
+use native.Mathlib.Nat.{add-mul, mul-assoc, mul-le-mul, mul-le-mul-right}
 use native.Mathlib.Omega.{arith}
-use borrow.Author.Tests.{le-leb, lt-leb, eq-eqb, ne-eqb}
-use lib.ListN.{length, getD, set}
+use borrow.Author.Tests.{le-leb, lt-leb}
+use lib.ListN.{length, getD}
 use lib.Ieee.{Float, nan}
+use Rattle.planes.specs.declared.Layout.{Layout}
 use Rattle.planes.specs.Samples.{_⊕_, _⊗_, _⊘_, b1}
-use Rattle.planes.specs.Picture.{Picture}
 use Rattle.planes.specs.Fill.{fill}
-use Rattle.planes.proofs.Fill.{length-fill, fill-before, fill-cong}
-use Rattle.planes.proofs.Loop.{Written, written-more}
-use Rattle.planes.specs.Rect.{rowsFill, planesFill}
-use Rattle.planes.proofs.Rect.{planes-turn}
-use Rattle.planes.proofs.Join.{planes-cong, rect-below}
-use Rattle.epf_step.specs.Steps.{kernel}
+use Rattle.planes.specs.Rect.{rowsFill}
+use Rattle.planes.proofs.Rect.{rows-turn}
+use Rattle.epf_rects.specs.declared.Rect.{Rect}
+use Rattle.epf_rects.specs.Rects.{rectFilled, rectFits, RectFits}
+use Rattle.epf_rects.specs.Three.{threeFill}
+use Rattle.epf_rects.proofs.Rects.{rect-true}
+use Rattle.epf_rects.proofs.Three.{rowsTo, row-below}
+use Rattle.epf_step.specs.Steps.{kernel, weightBy}
 use Rattle.epf_slopes.specs.Slopes.{firstSlope}
-use Rattle.epf_distances.proofs.Runs.{run-at, run-anew, run-same, run-more}
+use Rattle.epf_slopes.proofs.Slopes.{first-same}
 use Rattle.epf_distances.specs.Taps.{tapOf}
-use Rattle.epf_lanes.specs.Lanes.{weightsTo, samplesTo, weightOf, sampleOf, neighbourOf, laneOf, lanesOf, Weighed, storedTo}
+use Rattle.epf_lanes.specs.declared.Four.{Four}
+use Rattle.epf_lanes.specs.declared.Twelve.{Twelve}
+use Rattle.epf_lanes.specs.declared.Cross.{Cross}
+use Rattle.epf_lanes.specs.Lanes.{weightsTo, samplesTo, weightIn, weightOf, sampleOf, neighbourOf, laneOf, fourOf, twelveOf, crossOf, sampleAt, mixTwelve, mixCross, rowOf, tileOf, lanesStored}
+use Rattle.epf_lanes.specs.Divisors.{LaneBounded}
+use Rattle.epf_lanes.proofs.Divisors.{lane-bounded}
 
--- ---- runs from index 0
+pub twelve-neighbours : length (kernel 0) ≡ 12
+unfolding kernel
+twelve-neighbours = refl
 
-pub written-more0 : {d dst : List Float} {n i : ℕ} {f : ℕ → Float} {v : Float} → Written d 0 n f dst i → i < n → v ≡ f i → Written d 0 n f (set dst i v) (i + 1)
-written-more0 {i = i} w l e = let z : 0 + i ≡ i = omega arith in rw z at (written-more w l e)
+pub four-neighbours : length (kernel 1) ≡ 4
+unfolding kernel
+four-neighbours = refl
 
-pub run-more0 : {d dst : List Float} {n i : ℕ} {v : Float} (g : Float → ℕ → Float) → Written d 0 n (λ (j : ℕ). g (getD d (0 + j) nan) j) dst i → i < n
-    → v ≡ g (getD dst i nan) i → Written d 0 n (λ (j : ℕ). g (getD d (0 + j) nan) j) (set dst i v) (i + 1)
-run-more0 {i = i} {v = v} g w l e = let z : 0 + i ≡ i = omega arith in rw z at (run-more {v = v} g w l (rw z e))
+-- ---- four neighbours at a time
 
-pub run-at0 : (d t : List Float) (n : ℕ) (f : ℕ → Float) (i : ℕ) → n ≤ length d → i < n → t ≡ fill d 0 n f → getD t i nan ≡ f i
-run-at0 d t n f i r l e = let z : 0 + i ≡ i = omega arith in rw e (rw z at (run-at d 0 n f i (omega arith) l))
-
-pub weighed-none : (f : ℕ → ℕ → Float) (t s sum : List Float) → length t ≡ 768 → length s ≡ 64 → sum ≡ fill s 0 56 (λ i. b1) → Weighed f t sum 0
+weights-four : (f : ℕ → Float) (v : Float) (q : ℕ) → v ≡ weightsTo f q → v ⊕ f q ⊕ f (q + 1) ⊕ f (q + 2) ⊕ f (q + 3) ≡ weightsTo f (q + 4)
 unfolding weightsTo
-weighed-none f t s sum lt ls e = record {
-  weights-length = lt;
-  sum-length = ap length e ∙ length-fill s 0 56 _ ∙ ls;
-  each = λ p i l h. absurd (omega arith);
-  total = λ i h. run-at0 s sum 56 _ i (omega arith) h e;
-}
+weights-four f v q e =
+    let a : q + 1 ≡ suc q = omega arith in
+    let b : q + 2 ≡ suc (suc q) = omega arith in
+    let c : q + 3 ≡ suc (suc (suc q)) = omega arith in
+    let d : q + 4 ≡ suc (suc (suc (suc q))) = omega arith in
+    rw (e, a, b, c, d)
 
--- one more neighbour
-pub weighed-more : (f : ℕ → ℕ → Float) (t t' s s' : List Float) (q : ℕ) → q < 12 → Weighed f t s q → t' ≡ fill t (q * 64) 56 (λ i. f i q) → s' ≡ fill s 0 56 (λ i. getD s (0 + i) nan ⊕ f i q)
-    → Weighed f t' s' (q + 1)
-unfolding weightsTo
-weighed-more f t t' s s' q l w et es = record {
-  weights-length = ap length et ∙ length-fill t (q * 64) 56 _ ∙ w .weights-length;
-  sum-length = ap length es ∙ length-fill s 0 56 _ ∙ w .sum-length;
-  each = λ p i a b. go p i b (decLt p q) (omega arith);
-  total = λ i h. let z : 0 + i ≡ i = omega arith in rw (add-one q) (run-at0 s s' 56 _ i (omega (arith, w .sum-length)) h es ∙ rw (z, w .total i h));
-}
-  where
-    go : (p i : ℕ) → i < 56 → Dec (p < q) → p ≤ q → getD t' (p * 64 + i) nan ≡ f i p
-    go p i b (yes h) a = rw et (fill-before t (q * 64) 56 _ (p * 64 + i) (omega arith) ∙ w .each p i h b)
-    go p i b (no h) a = let z : p ≡ q = omega arith in rw (z, et) (run-at t (q * 64) 56 _ i (omega (arith, w .weights-length)) b)
-
--- ---- samples: q neighbours are added
-
--- four at a time
-pub samples-four : (f s : ℕ → Float) (x v : Float) (q : ℕ) → v ≡ samplesTo f s x q
+samples-four : (f s : ℕ → Float) (x v : Float) (q : ℕ) → v ≡ samplesTo f s x q
     → v ⊕ f q ⊗ s q ⊕ f (q + 1) ⊗ s (q + 1) ⊕ f (q + 2) ⊗ s (q + 2) ⊕ f (q + 3) ⊗ s (q + 3) ≡ samplesTo f s x (q + 4)
 unfolding samplesTo
 samples-four f s x v q e =
@@ -72,118 +58,161 @@ samples-four f s x v q e =
     let d : q + 4 ≡ suc (suc (suc (suc q))) = omega arith in
     rw (e, a, b, c, d)
 
-module _ (f s : ℕ → ℕ → Float) (x : ℕ → Float) (at : ℕ) where
-  -- the samples themselves
-  pub added-none : (d a : List Float) → a ≡ fill d at 56 x → a ≡ fill a at 56 (λ i. samplesTo (f i) (s i) (x i) 0)
-  unfolding samplesTo
-  added-none d a e = run-same a at 56 _ (λ i l r. sym (rw e (run-at d at 56 x i (omega (arith, ap length e, length-fill d at 56 x)) l)))
-
-  -- four more neighbours
-  pub added-four : (d a b : List Float) (q : ℕ) → a ≡ fill d at 56 (λ i. samplesTo (f i) (s i) (x i) q)
-      → b ≡ fill a at 56 (λ i. getD a (at + i) nan ⊕ f i q ⊗ s i q ⊕ f i (q + 1) ⊗ s i (q + 1) ⊕ f i (q + 2) ⊗ s i (q + 2) ⊕ f i (q + 3) ⊗ s i (q + 3))
-      → b ≡ fill d at 56 (λ i. samplesTo (f i) (s i) (x i) (q + 4))
-  added-four d a b q ea eb = run-anew d a b at 56 _ _ _ ea eb (λ i l e. samples-four (f i) (s i) (x i) _ q e)
-
-  pub added-end : (d z a : List Float) (q n : ℕ) → z ≡ fill d at 56 x → a ≡ fill z at 56 (λ i. samplesTo (f i) (s i) (x i) q) → q ≡ n
-      → a ≡ fill d at 56 (λ i. samplesTo (f i) (s i) (x i) n)
-  added-end d z a q n ez ea h = rw (← h) (run-anew d z a at 56 _ _ _ ez ea (λ i l e. refl))
-
-  -- divided by the divisors
-  pub divided : (d a b : List Float) (y : ℕ → Float) (n : ℕ) → a ≡ fill d at 56 (λ i. samplesTo (f i) (s i) (x i) n) → b ≡ fill a at 56 (λ i. getD a (at + i) nan ⊘ y i)
-      → b ≡ fill d at 56 (λ i. samplesTo (f i) (s i) (x i) n ⊘ y i)
-  divided d a b y n ea eb = run-anew d a b at 56 _ _ _ ea eb (λ i l e. rw e)
-
-module _ (step : ℕ) (t win : List Float) (c r at : ℕ) where
-  pub stored-none : (d a : List Float) → a ≡ fill d at 56 (sampleOf win c r 196) → a ≡ fill a at 56 (storedTo step t win c r 0)
-  unfolding storedTo
-  stored-none d a e = added-none (λ i p. getD t (p * 64 + i) nan) (neighbourOf step win c r) (sampleOf win c r 196) at d a e
-
-  -- the row after adding four neighbours; their samples start at k0 to k3
-  pub stored-four : (d a b : List Float) (q k0 k1 k2 k3 : ℕ) → a ≡ fill d at 56 (storedTo step t win c r q)
-      → k0 ≡ c * 896 + r * 64 + tapOf step q .index → k1 ≡ c * 896 + r * 64 + tapOf step (q + 1) .index → k2 ≡ c * 896 + r * 64 + tapOf step (q + 2) .index → k3 ≡ c * 896 + r * 64 + tapOf step (q + 3) .index
-      → b ≡ fill a at 56 (λ i. getD a (at + i) nan ⊕ getD t (q * 64 + i) nan ⊗ getD win (k0 + i) nan ⊕ getD t (q * 64 + i + 64) nan ⊗ getD win (k1 + i) nan
-      ⊕ getD t (q * 64 + i + 128) nan ⊗ getD win (k2 + i) nan ⊕ getD t (q * 64 + i + 192) nan ⊗ getD win (k3 + i) nan)
-      → b ≡ fill d at 56 (storedTo step t win c r (q + 4))
-  unfolding storedTo neighbourOf
-  stored-four d a b q k0 k1 k2 k3 ea e0 e1 e2 e3 eb = added-four (λ i p. getD t (p * 64 + i) nan) (neighbourOf step win c r) (sampleOf win c r 196) at d a b q ea (eb ∙ fill-cong a at 56 _ _ (λ i l.
-      let x : q * 64 + i + 64 ≡ (q + 1) * 64 + i = omega arith in
-      let y : q * 64 + i + 128 ≡ (q + 2) * 64 + i = omega arith in
-      let z : q * 64 + i + 192 ≡ (q + 3) * 64 + i = omega arith in
-      rw (x, y, z, e0, e1, e2, e3)))
-
-  pub stored-end : (d z a : List Float) (q n : ℕ) → z ≡ fill d at 56 (sampleOf win c r 196) → a ≡ fill z at 56 (storedTo step t win c r q) → q ≡ n → a ≡ fill d at 56 (storedTo step t win c r n)
-  unfolding storedTo
-  stored-end d z a q n = added-end (λ i p. getD t (p * 64 + i) nan) (neighbourOf step win c r) (sampleOf win c r 196) at d z a q n
-
-  -- divided by the divisors
-  pub stored-divided : (d a b y : List Float) (n : ℕ) → a ≡ fill d at 56 (storedTo step t win c r n) → b ≡ fill a at 56 (λ i. getD a (at + i) nan ⊘ getD y i nan)
-      → b ≡ fill d at 56 (λ i. storedTo step t win c r n i ⊘ getD y i nan)
-  unfolding storedTo
-  stored-divided d a b y n = divided (λ i p. getD t (p * 64 + i) nan) (neighbourOf step win c r) (sampleOf win c r 196) at d a b (λ i. getD y i nan) n
-
-samples-same : (f g s : ℕ → Float) (x : Float) (n : ℕ) → ((q : ℕ) → q < n → f q ≡ g q) → samplesTo f s x n ≡ samplesTo g s x n
+samples-same : (f s t : ℕ → Float) (x y : Float) (n : ℕ) → x ≡ y → ((q : ℕ) → s q ≡ t q) → samplesTo f s x n ≡ samplesTo f t y n
 unfolding samplesTo
-samples-same f g s x zero h = refl
-samples-same f g s x (suc n) h = rw (samples-same f g s x n (λ q l. h q (omega arith)), h n (omega arith))
+samples-same f s t x y zero e h = e
+samples-same f s t x y (suc n) e h = rw (samples-same f s t x y n e h, h n)
 
--- with the weights of a row, these are its lanes
-pub stored-lane : (step : ℕ) (e slopes win t sum : List Float) (first c r i : ℕ) → Weighed (λ i q. weightOf step e slopes first r i q) t sum (length (kernel step)) → i < 56
-    → storedTo step t win c r (length (kernel step)) i ⊘ getD sum i nan ≡ laneOf step e slopes win first c i r
-unfolding storedTo laneOf
-stored-lane step e slopes win t sum first c r i w l =
-    rw (samples-same _ (weightOf step e slopes first r i) (neighbourOf step win c r i) (sampleOf win c r 196 i) (length (kernel step)) (λ q h. w .each q i h l), w .total i l)
+-- ---- `weights_0` and `weights_1`
 
--- ---- planes and rows
+-- four weights of a lane at index j of a field
+pub four-in : (step : ℕ) (e : List Float) (slope : Float) (r i j q : ℕ) (w : Four) → j ≡ r * 64 + i
+    → w ≡ fourOf (λ (k : ℕ). weightBy slope (getD e (tapOf step k .start + j) nan)) q → w ≡ fourOf (weightIn step e slope r i) q
+four-in step e slope r i j q w ej ew =
+    let at : (k : ℕ) → tapOf step k .start + j ≡ tapOf step k .start + r * 64 + i = λ k. omega arith in
+    ew ∙ rw (at q, at (q + 1), at (q + 2), at (q + 3))
 
--- one row of a plane
-pub one-row : (d b : List Float) (at n : ℕ) (f : ℕ → Float) → b ≡ fill d at n f → b ≡ rowsFill d at 64 n 1 (λ i x. f x)
-unfolding rowsFill
-one-row d b at n f e = let z : at + 0 * 64 ≡ at = omega arith in e ∙ rw z
+-- four more weights are added
+summed : (f : ℕ → Float) (q : ℕ) (w : Four) (x y : Float) → w ≡ fourOf f q → x ≡ weightsTo f q → y ≡ x ⊕ w .a ⊕ w .b ⊕ w .c ⊕ w .d → y ≡ weightsTo f (q + 4)
+summed f q w x y ew ex ey = ey ∙ rw ew (weights-four f x q ex)
 
--- an iteration of the loop over planes
-pub plane-next : (r : ℕ) (v : ℕ → ℕ → Float) (d a b : List Float) (k at : ℕ) → a ≡ planesFill 64 8 0 56 r 1 (λ c i j. v c i) d k → at ≡ k * 512 + r * 64
-    → b ≡ fill a at 56 (v k) → b ≡ planesFill 64 8 0 56 r 1 (λ c i j. v c i) d (k + 1)
-plane-next r v d a b k at p e q =
-    let z : at ≡ (k * 8 + r) * 64 + 0 = omega arith in
-    planes-turn 64 8 0 56 r 1 (λ c i j. v c i) d a b k p (rw z at (one-row a b at 56 (v k) q))
+module _ (e : List Float) (slope : Float) (r i : ℕ) where
+  none-summed : (f : ℕ → Float) → b1 ≡ weightsTo f 0
+  unfolding weightsTo
+  none-summed f = refl
 
--- the lanes of row r in all planes
-pub row-lanes : (step : ℕ) (e slopes win t sum d b : List Float) (first r k : ℕ) → Weighed (λ i q. weightOf step e slopes first r i q) t sum (length (kernel step))
-    → b ≡ planesFill 64 8 0 56 r 1 (λ c i j. storedTo step t win c r (length (kernel step)) i ⊘ getD sum i nan) d k
-    → b ≡ planesFill 64 8 0 56 r 1 (λ c i j. laneOf step e slopes win first c i r) d k
-row-lanes step e slopes win t sum d b first r k w p = p ∙ planes-cong 64 8 0 56 r 1 _ _ d k (λ c i j a l h. stored-lane step e slopes win t sum first c r i w l)
+  pub twelve-weighed : (u v w : Four) (x y z : Float) → u ≡ fourOf (weightIn 0 e slope r i) 0 → v ≡ fourOf (weightIn 0 e slope r i) 4 → w ≡ fourOf (weightIn 0 e slope r i) 8
+      → x ≡ b1 ⊕ u .a ⊕ u .b ⊕ u .c ⊕ u .d → y ≡ x ⊕ v .a ⊕ v .b ⊕ v .c ⊕ v .d → z ≡ y ⊕ w .a ⊕ w .b ⊕ w .c ⊕ w .d
+      → (_≡_ {A = Twelve} (record { u = u; v = v; w = w; sum = z }) (twelveOf (weightIn 0 e slope r i))) × LaneBounded 0 e slope r i z
+  twelve-weighed u v w x y z eu ev ew ex ey ez =
+      let f = weightIn 0 e slope r i in
+      let sum : z ≡ weightsTo f 12 = summed f 8 w y z ew (summed f 4 v x y ev (summed f 0 u b1 x eu (none-summed f) ex) ey) ez in
+      let all : weightsTo f 12 ≡ weightsTo f (length (kernel 0)) = rw twelve-neighbours in
+      (rw (eu, ev, ew, sum), rw (sum ∙ all) (lane-bounded 0 e slope r i))
 
--- an iteration of the loop over rows
-pub row-next : (v : ℕ → ℕ → ℕ → Float) (d a b : List Float) (k r : ℕ) → k ≤ 3 → r < 8 → length d ≡ 1536 → a ≡ planesFill 64 8 0 56 0 r v d k
-    → b ≡ planesFill 64 8 0 56 r 1 (λ c i j. v c i r) a k → b ≡ planesFill 64 8 0 56 0 (r + 1) v d k
-row-next v d a b k r few h len ea eb =
-    rect-below 3 64 8 k few 0 56 0 r 1 v (λ c i j. v c i r) v d a b len (omega arith) (omega arith) ea (let z : 0 + r ≡ r = omega arith in rw z eb)
-    (λ c x i p q s. refl) (λ c x i p q s. let z : r + i ≡ r = omega arith in rw z)
+  pub cross-weighed : (w : Four) (x : Float) → w ≡ fourOf (weightIn 1 e slope r i) 0 → x ≡ b1 ⊕ w .a ⊕ w .b ⊕ w .c ⊕ w .d
+      → (_≡_ {A = Cross} (record { w = w; sum = x }) (crossOf (weightIn 1 e slope r i))) × LaneBounded 1 e slope r i x
+  cross-weighed w x ew ex =
+      let f = weightIn 1 e slope r i in
+      let sum : x ≡ weightsTo f 4 = summed f 0 w b1 x ew (none-summed f) ex in
+      let all : weightsTo f 4 ≡ weightsTo f (length (kernel 1)) = rw four-neighbours in
+      (rw (ew, sum), rw (sum ∙ all) (lane-bounded 1 e slope r i))
 
--- before the loop, and after it
-pub rows-done : (v : Picture) (d : List Float) (k : ℕ) → d ≡ planesFill 64 8 0 56 0 0 v d k
-unfolding planesFill rowsFill
-rows-done v d zero = refl
-rows-done v d (suc k) = rows-done v d k
+-- ---- a lane
 
-pub rows-end : (v : Picture) (d a : List Float) (k r m : ℕ) → a ≡ planesFill 64 8 0 56 0 r v d k → r ≤ m → m ≤ r → a ≡ planesFill 64 8 0 56 0 m v d k
-rows-end v d a k r m e p q = let z : r ≡ m = omega arith in rw (← z) e
+module _ (f : ℕ → Float) (win : List Float) (p : ℕ) where
+  none-added : (s : ℕ → Float) (x : Float) → x ≡ samplesTo f s x 0
+  unfolding samplesTo
+  none-added s x = refl
+
+  mixed-twelve : mixTwelve win p (twelveOf f) ≡ samplesTo f (sampleAt 0 win p) (getD win (p + 196) nan) 12 ⊘ weightsTo f 12
+  mixed-twelve =
+      let s = sampleAt 0 win p in
+      let x = getD win (p + 196) nan in
+      ap (λ (y : Float). y ⊘ weightsTo f 12) (samples-four f s x _ 8 (samples-four f s x _ 4 (samples-four f s x x 0 (none-added s x))))
+
+  mixed-cross : mixCross win p (crossOf f) ≡ samplesTo f (sampleAt 1 win p) (getD win (p + 196) nan) 4 ⊘ weightsTo f 4
+  mixed-cross =
+      let s = sampleAt 1 win p in
+      let x = getD win (p + 196) nan in
+      ap (λ (y : Float). y ⊘ weightsTo f 4) (samples-four f s x x 0 (none-added s x))
+
+module _ (e slopes win : List Float) (first c i r p : ℕ) (v : Float) (ep : p ≡ c * 896 + r * 64 + i) where
+  -- the windows' samples at p are those of the lane
+  seen-same : (step n : ℕ) (f : ℕ → Float) → samplesTo f (sampleAt step win p) (getD win (p + 196) nan) n ≡ samplesTo f (neighbourOf step win c r i) (sampleOf win c r 196 i) n
+  unfolding neighbourOf
+  seen-same step n f = samples-same f _ _ _ _ n (ap (λ (k : ℕ). getD win k nan) (omega arith)) (λ q. ap (λ (k : ℕ). getD win k nan) (omega arith))
+
+  pub lane-0 : (w : Twelve) → w ≡ twelveOf (weightIn 0 e (getD slopes (first + i) nan) r i) → v ≡ mixTwelve win p w → v ≡ rowOf 0 e slopes win first r c i
+  unfolding laneOf weightOf kernel
+  lane-0 w ew ev =
+      let f = weightIn 0 e (getD slopes (first + i) nan) r i in
+      ev ∙ rw ew (mixed-twelve f win p ∙ rw (seen-same 0 12 f))
+
+  pub lane-1 : (w : Cross) → w ≡ crossOf (weightIn 1 e (getD slopes (first + i) nan) r i) → v ≡ mixCross win p w → v ≡ rowOf 1 e slopes win first r c i
+  unfolding laneOf weightOf kernel
+  lane-1 w ew ev =
+      let f = weightIn 1 e (getD slopes (first + i) nan) r i in
+      ev ∙ rw ew (mixed-cross f win p ∙ rw (seen-same 1 4 f))
+
+-- ---- a row in any step
+
+-- steps 1 and 2 have the same lanes
+lanes-same : (s : ℕ) (e slopes win : List Float) (first r : ℕ) → rowOf 1 e slopes win first r ≡ rowOf (suc s) e slopes win first r
+unfolding laneOf weightOf neighbourOf tapOf kernel
+lanes-same s e slopes win first r = refl
+
+pub row-first : (step : ℕ) (e slopes win : List Float) (first r : ℕ) → step ≡ 0 → rowOf 0 e slopes win first r ≡ rowOf step e slopes win first r
+row-first step e slopes win first r h = rw h
+
+pub row-later : (step : ℕ) (e slopes win : List Float) (first r : ℕ) → (step ≡ 0 → ⊥) → rowOf 1 e slopes win first r ≡ rowOf step e slopes win first r
+row-later zero e slopes win first r h = absurd (h refl)
+row-later (suc s) e slopes win first r h = lanes-same s e slopes win first r
+
+-- ---- loops over rows
+
+-- one more row of plane c
+pub one-next : (step : ℕ) (e slopes win : List Float) (top c r first start stride n at : ℕ) (d a b : List Float) → first ≡ firstSlope (top % 8 + r)
+    → a ≡ rowsFill d start stride n r (λ k i. tileOf step e slopes win top c i k) → at ≡ start + r * stride → b ≡ fill a at n (rowOf step e slopes win first r c)
+    → b ≡ rowsFill d start stride n (r + 1) (λ k i. tileOf step e slopes win top c i k)
+one-next step e slopes win top c r first start stride n at d a b ef ea eo eb =
+    rows-turn d a b start stride n r at (λ k i. tileOf step e slopes win top c i k) ea eo (rw (first-same first top r ef) at eb)
+
+-- one more row of three planes
+pub three-next : (step : ℕ) (e slopes win : List Float) (l : Layout) (top : ℕ) (q : Rect) (r first at plane : ℕ) (d a b : List Float) → RectFits l 3 q (length d) → r < q .rows → first ≡ firstSlope (top % 8 + r)
+    → at ≡ (l .top + q .y + r) * l .image .width + (l .left + q .x) → plane ≡ l .image .height * l .image .width
+    → a ≡ rowsTo l q r (tileOf step e slopes win top) d → b ≡ threeFill a at plane (q .cols) (rowOf step e slopes win first r) → b ≡ rowsTo l q (r + 1) (tileOf step e slopes win top) d
+three-next step e slopes win l top q r first at plane d a b g R ef eo ep ea eb =
+    row-below l q r at plane (tileOf step e slopes win top) d a b g R eo ep ea (rw (first-same first top r ef) at eb)
+
+-- row r of a rectangle in three planes, in machine integers
+pub record ThreeRoom (l : Layout) (q : Rect) (r len : ℕ) : Type 0 where
+  pub plane-le : l .image .height * l .image .width ≤ 268435456
+  pub start-le : (l .top + q .y + r) * l .image .width ≤ 268435456
+  pub left-le : l .left + q .x ≤ 16384
+  pub top-le : l .top + q .y + r ≤ 16384
+  pub cols-le : q .cols ≤ l .image .height * l .image .width
+  pub end-le : (l .top + q .y + r) * l .image .width + (l .left + q .x) + 2 * (l .image .height * l .image .width) + q .cols ≤ len
+
+pub three-room : (l : Layout) (q : Rect) (r len : ℕ) → RectFits l 3 q len → r < q .rows → ThreeRoom l q r len
+three-room l q r len g R =
+    let t = l .top + q .y + r in
+    let w = l .image .width in
+    let h = l .image .height in
+    let high : t + 1 ≤ h = omega (arith, g .down, g .layout .down) in
+    let all = mul-le-mul-right w high in
+    let one = add-mul t 1 w in
+    let wide : l .left + q .x + q .cols ≤ w = omega (arith, g .across, g .layout .across) in
+    record {
+      plane-le = mul-le-mul (g .layout .height-le) (g .layout .width-le);
+      start-le = omega (arith, all, one, mul-le-mul (g .layout .height-le) (g .layout .width-le));
+      left-le = omega (arith, wide, g .layout .width-le);
+      top-le = omega (arith, high, g .layout .height-le);
+      cols-le = omega (arith, all, one, wide);
+      end-le = omega (arith, all, one, wide, g .set, mul-assoc 3 h w);
+    }
 
 -- ---- the code's tests
-module _ (step : ℕ) (e slopes win : List Float) (planes top rows : ℕ) (out : List Float) where
-  pub no-tile : (length out ≡ 1536 → ⊥) → out ≡ lanesOf step e slopes win planes top rows out
-  unfolding lanesOf
-  no-tile h = rw (ne-eqb (length out) 1536 h)
+module _ (step : ℕ) (e slopes win : List Float) (l : Layout) (n top : ℕ) (q : Rect) (d : List Float) where
+  pub no-rect : rectFits l n q (length d) ≡ false → d ≡ lanesStored step e slopes win l n top q d
+  unfolding lanesStored
+  no-rect h = rw h
 
-  pub many-planes : 3 < planes → out ≡ lanesOf step e slopes win planes top rows out
-  unfolding lanesOf
-  many-planes h = simp (lt-leb planes 3 h, and-false)
+  pub many-rows : 8 < q .rows → d ≡ lanesStored step e slopes win l n top q d
+  unfolding lanesStored
+  many-rows h = simp (lt-leb (q .rows) 8 h, and-false)
 
-  pub many-rows : 8 < rows → out ≡ lanesOf step e slopes win planes top rows out
-  unfolding lanesOf
-  many-rows h = simp (lt-leb rows 8 h, and-false)
+  pub many-columns : 56 < q .cols → d ≡ lanesStored step e slopes win l n top q d
+  unfolding lanesStored
+  many-columns h = simp (lt-leb (q .cols) 56 h, and-false)
 
-  pub lanes-done : length out ≡ 1536 → planes ≤ 3 → rows ≤ 8
-      → lanesOf step e slopes win planes top rows out ≡ planesFill 64 8 0 56 0 rows (λ c i r. laneOf step e slopes win (firstSlope (top + r)) c i r) out planes
-  unfolding lanesOf
-  lanes-done l p q = rw (eq-eqb (length out) 1536 l, le-leb planes 3 p, le-leb rows 8 q)
+  pub lanes-done : RectFits l n q (length d) → q .rows ≤ 8 → q .cols ≤ 56 → lanesStored step e slopes win l n top q d ≡ rectFilled l n q (tileOf step e slopes win top) d
+  unfolding lanesStored
+  lanes-done f h k = rw (rect-true l n q (length d) f, le-leb (q .rows) 8 h, le-leb (q .cols) 56 k)
+
+  -- the loops write m planes
+  pub tile-done : (b : List Float) (m : ℕ) → n ≡ m → RectFits l n q (length d) → q .rows ≤ 8 → q .cols ≤ 56 → b ≡ rectFilled l m q (tileOf step e slopes win top) d → b ≡ lanesStored step e slopes win l n top q d
+  tile-done b m same f h k eb = eb ∙ rw (← same) (sym (lanes-done f h k))
+
+pub three-fits : (l : Layout) (n : ℕ) (q : Rect) (len : ℕ) → n ≡ 3 → RectFits l n q len → RectFits l 3 q len
+three-fits l n q len e f = rw e at f

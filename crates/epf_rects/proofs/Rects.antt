@@ -18,7 +18,7 @@ use Rattle.planes.specs.Band.{inner, setFits}
 use Rattle.planes.proofs.Stored.{and-first, and-second}
 use Rattle.planes.proofs.Room.{set-facts, set-true}
 use Rattle.epf_rects.specs.declared.Rect.{Rect}
-use Rattle.epf_rects.specs.Rects.{taken, rectFilled, rectFits, copiedRect, storedTile, Lies, RectFits}
+use Rattle.epf_rects.specs.Rects.{taken, rectFilled, rectFits, copiedRect, Lies, RectFits}
 
 pub rect-long : {l : Layout} {n : ℕ} {q : Rect} {a b : ℕ} → a ≡ b → RectFits l n q b → RectFits l n q a
 rect-long e f = rw e f
@@ -145,28 +145,3 @@ module _ (l : Layout) (n : ℕ) (q : Rect) (src d : List Float) where
   -- the set after the loop over planes
   pub copied-as : (a : List Float) → a ≡ rectFilled l n q (taken src (firstAt l q) (l .image .width) (l .image .height * l .image .width)) d → a ≡ rectFilled l n q (λ c i r. inner l src c (q .x + i) (q .y + r)) d
   copied-as a h = h ∙ planes-cong _ _ _ _ _ _ _ _ d n (λ c i r _ _ _. taken-inner l src (q .x) (q .y) _ _ c i r refl refl)
-
-module _ (l : Layout) (n : ℕ) (q : Rect) (tile d : List Float) where
-  pub not-stored : rectFits l n q (length d) ≡ false → d ≡ storedTile l n q tile d
-  unfolding storedTile
-  not-stored e = rw e
-
-  pub no-tile : (length tile ≡ 1536 → ⊥) → d ≡ storedTile l n q tile d
-  unfolding storedTile
-  no-tile h = simp (ne-eqb (length tile) 1536 h, and-false)
-
-  pub many-rows : 8 < q .rows → d ≡ storedTile l n q tile d
-  unfolding storedTile
-  many-rows h = simp (lt-leb (q .rows) 8 h, and-false)
-
-  pub many-columns : 64 < q .cols → d ≡ storedTile l n q tile d
-  unfolding storedTile
-  many-columns h = simp (lt-leb (q .cols) 64 h, and-false)
-
-  pub tile-stored : RectFits l n q (length d) → length tile ≡ 1536 → q .rows ≤ 8 → q .cols ≤ 64 → storedTile l n q tile d ≡ rectFilled l n q (taken tile 0 64 512) d
-  unfolding storedTile
-  tile-stored f e h k = rw (rect-true l n q (length d) f, eq-eqb (length tile) 1536 e, le-leb (q .rows) 8 h, le-leb (q .cols) 64 k)
-
-  -- the rectangle's rows lie inside the list
-  pub tile-lies : n ≤ 3 → length tile ≡ 1536 → q .rows ≤ 8 → q .cols ≤ 64 → Lies 0 64 512 n (q .rows) (q .cols) (length tile)
-  tile-lies f e h k c r C R = omega arith

@@ -12,7 +12,6 @@ use Rattle.planes.specs.Rect.{planesFill}
 use Rattle.planes.specs.Band.{inner, setFits}
 use Rattle.planes.specs.Fits.{LayoutFits}
 use Rattle.epf_rects.specs.declared.Rect.{Rect}
-use Rattle.epf_sizes.specs.Sizes.{tileRows, stride, tilePlane, tileLength}
 
 -- ---- the definitions
 
@@ -31,11 +30,6 @@ rectFits l n q len = setFits l n len && (leb (q .x + q .cols) (l .width) && (leb
 -- the set after copying a rectangle; unchanged if the rectangle or the sets do not fit
 unfoldable pub copiedRect : Layout → ℕ → Rect → List Float → List Float → List Float
 copiedRect l n q src d = cond (rectFits l n q (length d) && eqb (length src) (length d)) (rectFilled l n q (λ c i r. inner l src c (q .x + i) (q .y + r)) d) d
-
--- the set after storing a tile of three planes; unchanged if the tile, the rectangle or the set do not fit
-unfoldable pub storedTile : Layout → ℕ → Rect → List Float → List Float → List Float
-storedTile l n q tile d =
-    cond (rectFits l n q (length d) && (eqb (length tile) tileLength && (leb (q .rows) tileRows && leb (q .cols) stride))) (rectFilled l n q (taken tile 0 stride tilePlane) d) d
 
 -- ---- what the loops require
 

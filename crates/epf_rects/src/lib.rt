@@ -1,8 +1,4 @@
 // Copies rectangles of a filter region from another list. These functions only move data.
-use epf_sizes::STRIDE;
-use epf_sizes::TILE;
-use epf_sizes::TILE_PLANE;
-use epf_sizes::TILE_ROWS;
 use planes::Layout;
 use planes::copy_run;
 use planes::set_fits;
@@ -11,7 +7,7 @@ ghost use Prim.Native.Nat.{ℕ, _+_, _*_, _<_, _≤_};
 ghost use lib.ListN.{length, getD};
 ghost use lib.Ieee.{nan};
 ghost use Rattle.planes.specs.Rect.{rowsFill};
-ghost use Rattle.epf_rects.specs.Rects.{taken, Lies, rectFilled, rectFits, RectFits, copiedRect, storedTile};
+ghost use Rattle.epf_rects.specs.Rects.{taken, Lies, rectFilled, rectFits, RectFits, copiedRect};
 
 // Columns x up to x + cols and rows y up to y + rows of the filter region.
 pub struct Rect {
@@ -110,24 +106,4 @@ pub fn copy_rect(dst: &mut [f32], src: &[f32], l: Layout, n: usize, rect: Rect)
     let stride = l.image.width;
     let from = (l.top + rect.y) * stride + (l.left + rect.x);
     store_planes(dst, l, n, rect, src, from, stride, l.image.height * stride);
-}
-
-// Copies the first rows and columns of a tile to a rectangle of a set. Does nothing if the rectangle, the set or the
-// tile do not fit.
-pub fn store_tile(dst: &mut [f32], tile: &[f32], l: Layout, n: usize, rect: Rect)
-    ensures { λ _. ⌜ now (dst .exit) ≡ storedTile l n rect (now (tile .entry)) (now (dst .entry)) ⌝ }
-{
-    if !rect_fits(l, n, rect, dst.len()) {
-        return;
-    }
-    if tile.len() != TILE {
-        return;
-    }
-    if TILE_ROWS < rect.rows {
-        return;
-    }
-    if STRIDE < rect.cols {
-        return;
-    }
-    store_planes(dst, l, n, rect, tile, 0, STRIDE, TILE_PLANE);
 }

@@ -1,7 +1,7 @@
 -- Sizes of a tile and of the arrays computed for it, as in src/lib.rt.
 use Prim.Native.Nat.{ℕ}
 
--- the columns of a tile that are computed
+-- the largest number of columns of a tile
 abbrev pub lanes : ℕ
 lanes = 56
 
@@ -9,17 +9,9 @@ lanes = 56
 abbrev pub tileRows : ℕ
 tileRows = 8
 
--- the distance from one row to the next, in a tile and in a window
+-- the distance from one row to the next, in a window and in a field
 abbrev pub stride : ℕ
 stride = 64
-
--- a tile's plane
-abbrev pub tilePlane : ℕ
-tilePlane = 512
-
--- three planes of a tile
-abbrev pub tileLength : ℕ
-tileLength = 1536
 
 -- the rows of a window
 abbrev pub windowRows : ℕ
@@ -40,10 +32,6 @@ windowCentre = 196
 -- six fields of distances, each as long as a window's plane
 abbrev pub fieldsLength : ℕ
 fieldsLength = 5376
-
--- the weights of a row: a stride for each of at most twelve neighbours
-abbrev pub weightsLength : ℕ
-weightsLength = 768
 
 -- the longest side of a region (Specification 4.1), `limits::MAX_SIDE`
 abbrev pub maxSide : ℕ

@@ -1,20 +1,12 @@
 // The parts of the formula for one sample of a step of the edge-preserving filter (Specification 11).
 ghost use mathlib.Core.Path.{_≡_};
-ghost use lib.ListN.{length};
 ghost use Rattle.planes.specs.Samples.{_⊘_};
-ghost use Rattle.epf_step.specs.Steps.{kernel, positive as positiveOf, falloff, weightBy};
+ghost use Rattle.epf_step.specs.Steps.{positive as positiveOf, falloff, weightBy};
 ghost use Rattle.epf_step.specs.Steps.{copied as copiedOf, border, multiplier as multiplierOf};
 ghost use Rattle.epf_step.specs.Bounds.{WeightBounded};
 
 // Steps are 0 to 2.
 pub const LAST_STEP: usize = 2;
-
-// The number of neighbours of a step.
-pub fn kernel_len(step: usize) -> usize
-    ensures { λ r. ⌜ r ≡ length (kernel step) ⌝ }
-{
-    if step == 0 { 12 } else { 4 }
-}
 
 // NaN and negatives become 0.
 fn positive(x: f32) -> f32

@@ -22,8 +22,8 @@ use Rattle.planes.proofs.Join.{planes-cong, rect-at, rect-inside}
 use Rattle.planes.specs.Band.{inner}
 use Rattle.frame.specs.Sizes.{blocksAlong}
 use Rattle.epf_rects.specs.declared.Rect.{Rect}
-use Rattle.epf_rects.specs.Rects.{taken, rectFilled, RectFits, copiedRect, storedTile}
-use Rattle.epf_rects.proofs.Rects.{rect-copied, tile-stored}
+use Rattle.epf_rects.specs.Rects.{rectFilled, RectFits, copiedRect}
+use Rattle.epf_rects.proofs.Rects.{rect-copied}
 use Rattle.epf_slopes.specs.Slopes.{firstSlope, slopesOf, Sloped}
 use Rattle.epf_slopes.proofs.Slopes.{sloped, slope-of, multiplier-same}
 use Rattle.epf_window.specs.Window.{windowSample, loaded, WindowFits}
@@ -34,7 +34,7 @@ use Rattle.epf_distances.proofs.Seen.{seen}
 use Rattle.epf_distances.specs.Taps.{half}
 use Rattle.epf_distances.specs.Fields.{fieldsFill, distancesOf}
 use Rattle.epf_distances.proofs.Fields.{distances-done, length-fields, neighbour-at}
-use Rattle.epf_lanes.specs.Lanes.{laneOf, lanesOf}
+use Rattle.epf_lanes.specs.Lanes.{laneOf, tileOf, lanesStored}
 use Rattle.epf_lanes.proofs.Lanes.{lanes-done}
 use Rattle.epf_lanes.proofs.Meaning.{lane-means}
 use Rattle.epf_interior.specs.Inside.{liesInside, Inside, insideOf, insideFilled, cornerOf}
@@ -249,39 +249,26 @@ module _ (p : Pass) (src : List Float) (q : Rect) (d : List Float) (fit : TileIn
   small = omega (arith, fits .rows-le)
 
   -- from its windows
-  module _ (w₀ e₀ o₀ slopes win e out : List Float) (z : Scratch w₀ e₀ slopes o₀) (ew : win ≡ loaded l n src (q .x) (q .y) (s .step) (q .rows + 6 - 2 * s .step) (q .cols + 8) w₀)
-      (ee : e ≡ distancesOf (s .step) n (s .scales) win (q .rows) e₀) (eo : out ≡ lanesOf (s .step) e slopes win n (top + q .y) (q .rows) o₀) where
+  module _ (w₀ e₀ slopes win e : List Float) (z : Scratch w₀ e₀ slopes) (ew : win ≡ loaded l n src (q .x) (q .y) (s .step) (q .rows + 6 - 2 * s .step) (q .cols + 8) w₀)
+      (ee : e ≡ distancesOf (s .step) n (s .scales) win (q .rows) e₀) where
     win-is : win ≡ planesFill 64 14 0 (q .cols + 8) (s .step) (q .rows + 6 - 2 * s .step) (λ c j i. windowSample l src (q .x) (q .y) c j (s .step + i)) w₀ n
     win-is = ew ∙ window-loaded l n src (q .x) (q .y) (s .step) (q .rows + 6 - 2 * s .step) (q .cols + 8) w₀ window-fits
 
     e-is : e ≡ fieldsFill (s .step) (scaled n (s .scales)) win (q .rows) e₀ (half (s .step))
     e-is = ee ∙ distances-done (s .step) n (s .scales) win (q .rows) e₀ (fits .planes-le) (fits .rows-pos) small
 
-    out-is : out ≡ planesFill 64 8 0 56 0 (q .rows) (λ c i r. laneOf (s .step) e slopes win (firstSlope (top + q .y + r)) c i r) o₀ n
-    out-is = eo ∙ lanes-done (s .step) e slopes win n (top + q .y) (q .rows) o₀ (z .lanes-length) (fits .planes-le) small
-
-    out-long : length out ≡ 1536
-    out-long = rw out-is (length-planesFill 64 8 0 56 0 (q .rows) _ (omega arith) (omega (arith, small)) o₀ n ∙ z .lanes-length)
-
-    pub scratch-kept : Scratch win e slopes out
+    pub scratch-kept : Scratch win e slopes
     scratch-kept = record {
       win-length = rw win-is (length-planesFill 64 14 0 (q .cols + 8) (s .step) (q .rows + 6 - 2 * s .step) _ (omega (arith, fits .cols-le)) (omega (arith, small)) w₀ n ∙ z .win-length);
       fields-length = rw e-is (length-fields (s .step) (scaled n (s .scales)) win (q .rows) small e₀ (half (s .step)) ∙ z .fields-length);
       slopes-length = z .slopes-length;
-      lanes-length = out-long;
     }
 
-    lane-at : (c r i : ℕ) → c < n → r < q .rows → i < q .cols → taken out 0 64 512 c i r ≡ laneOf (s .step) e slopes win (firstSlope (top + q .y + r)) c i r
-    unfolding of
-    lane-at c r i C R I =
-        let k : 0 + c * 512 + r * 64 + i ≡ (c * 8 + (0 + r)) * 64 + (0 + i) = omega arith in
-        rw (k, out-is) (rect-at 64 8 0 56 0 (q .rows) (λ c i r. laneOf (s .step) e slopes win (firstSlope (top + q .y + r)) c i r) o₀ n c i r (omega arith) (omega (arith, small)) (omega (arith, z .lanes-length, fits .planes-le)) C (omega (arith, fits .cols-le)) R)
-
-    pub computed : (a : List Float) → a ≡ storedTile l n q out d → FilteredBy p slopes src q d a
+    pub computed : (a : List Float) → a ≡ lanesStored (s .step) e slopes win l n (top + q .y) q d → FilteredBy p slopes src q d a
     computed a ea sigmas steep = record {
-      lanes = taken out 0 64 512;
-      stored = ea ∙ tile-stored l n q out d room out-long small (omega (arith, fits .cols-le));
-      agrees = λ c r i C R I u. lane-at c r i C R I ∙ lane-is l n s top sigmas src q fits slopes steep win w₀ e e₀ (fit .step-lt) (z .win-length) (omega (arith, z .fields-length)) win-is e-is c r i C R I u;
+      lanes = tileOf (s .step) e slopes win (top + q .y);
+      stored = ea ∙ lanes-done (s .step) e slopes win l n (top + q .y) q d room small (fits .cols-le);
+      agrees = lane-is l n s top sigmas src q fits slopes steep win w₀ e e₀ (fit .step-lt) (z .win-length) (omega (arith, z .fields-length)) win-is e-is;
     }
 
   -- from the planes

@@ -17,7 +17,7 @@ use Rattle.epf_step.specs.Steps.{scaled, copied, EpfPass, epfPass}
 use Rattle.epf_tiles.specs.declared.Pass.{Pass}
 use Rattle.epf_tiles.specs.declared.Step.{Step}
 use Rattle.epf_tiles.specs.Blocks.{blockSide, blockColumns, sigmaOf}
-use Rattle.epf_sizes.specs.Sizes.{lanes as tileColumns, fieldsLength, windowsLength, tileLength}
+use Rattle.epf_sizes.specs.Sizes.{lanes as tileColumns, fieldsLength, windowsLength}
 
 -- ---- the step over the filter region
 
@@ -77,11 +77,10 @@ module _ (l : Layout) (n : ℕ) (limit : Float) (sigmas src : List Float) (first
 -- ---- what the functions write
 
 -- the arrays that a tile is computed in
-pub record Scratch (win fields slopes lanes : List Float) : Type 0 where
+pub record Scratch (win fields slopes : List Float) : Type 0 where
   pub win-length : length win ≡ windowsLength
   pub fields-length : length fields ≡ fieldsLength
   pub slopes-length : length slopes ≡ 128
-  pub lanes-length : length lanes ≡ tileLength
 
 -- the set with a rectangle's samples copied, and with those of the step
 abbrev pub rectCopied : Pass → Rect → List Float → List Float → List Float

@@ -6,7 +6,6 @@ use crate::tile::tile;
 use epf_rects::Rect;
 use epf_sizes::FIELDS;
 use epf_sizes::LANES;
-use epf_sizes::TILE;
 use epf_sizes::WINDOWS;
 use epf_slopes::SLOPES;
 use epf_step::LAST_STEP;
@@ -39,14 +38,13 @@ fn strip(
     win: &mut [f32; WINDOWS],
     fields: &mut [f32; FIELDS],
     slopes: &mut [f32; SLOPES],
-    lanes: &mut [f32],
 )
     requires { ⌜ PassFits pass (length (now src)) (length (now dst)) (length (now sigmas)) ⌝ }
     requires { ⌜ StripFits (pass .layout) (span .y) (span .rows) ⌝ }
-    requires { ⌜ Scratch (now win) (now fields) (now slopes) (now lanes) ⌝ }
+    requires { ⌜ Scratch (now win) (now fields) (now slopes) ⌝ }
     ensures { λ _. ⌜ (now (dst .exit) ≡ rowsStepped pass (span .y) (span .rows) (now (sigmas .entry))
         (now (src .entry)) (now (dst .entry)))
-        × Scratch (now (win .exit)) (now (fields .exit)) (now (slopes .exit)) (now (lanes .exit)) ⌝ }
+        × Scratch (now (win .exit)) (now (fields .exit)) (now (slopes .exit)) ⌝ }
 {
     let width = pass.layout.width;
     let y = span.y;
@@ -55,7 +53,7 @@ fn strip(
     while x < width {
         let cols = min(width - x, LANES);
         let rect = Rect { x, y, rows, cols };
-        tile(dst, src, pass, sigmas, rect, win, fields, slopes, lanes);
+        tile(dst, src, pass, sigmas, rect, win, fields, slopes);
         x += cols;
     }
 }
@@ -70,7 +68,6 @@ fn strips(dst: &mut [f32], src: &[f32], pass: Pass, sigmas: &[f32], from: usize,
     let mut win = [0.0; WINDOWS];
     let mut fields = [0.0; FIELDS];
     let mut slopes = [0.0; SLOPES];
-    let mut lanes = [0.0; TILE];
     let mut y = from;
     while y < to {
         let rows = min(to - y, BLOCK - y % BLOCK);
@@ -84,7 +81,6 @@ fn strips(dst: &mut [f32], src: &[f32], pass: Pass, sigmas: &[f32], from: usize,
             &mut win,
             &mut fields,
             &mut slopes,
-            &mut lanes,
         );
         y += rows;
     }

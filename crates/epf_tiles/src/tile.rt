@@ -6,7 +6,6 @@ use epf_interior::lies_inside;
 use epf_lanes::filter_tile;
 use epf_rects::Rect;
 use epf_rects::copy_rect;
-use epf_rects::store_tile;
 use epf_sizes::FIELDS;
 use epf_sizes::WINDOWS;
 use epf_slopes::SLOPES;
@@ -111,13 +110,12 @@ fn filter_window(
     win: &mut [f32; WINDOWS],
     fields: &mut [f32; FIELDS],
     slopes: &[f32; SLOPES],
-    lanes: &mut [f32],
 )
     requires { ⌜ TileInPass pass rect (length (now src)) (length (now dst)) ⌝ }
-    requires { ⌜ Scratch (now win) (now fields) (now slopes) (now lanes) ⌝ }
+    requires { ⌜ Scratch (now win) (now fields) (now slopes) ⌝ }
     ensures { λ _. ⌜ FilteredBy pass (now (slopes .entry)) (now (src .entry)) rect (now (dst .entry))
         (now (dst .exit))
-        × Scratch (now (win .exit)) (now (fields .exit)) (now (slopes .entry)) (now (lanes .exit)) ⌝ }
+        × Scratch (now (win .exit)) (now (fields .exit)) (now (slopes .entry)) ⌝ }
 {
     let l = pass.layout;
     let n = pass.planes;
@@ -137,8 +135,8 @@ fn filter_window(
         rect.cols + 8,
     );
     distances(fields, win, step, &scales, n, rows);
-    filter_tile(lanes, fields, slopes, win, step, n, pass.top + rect.y, rows);
-    store_tile(dst, lanes, l, n, rect);
+    let top = pass.top + rect.y;
+    filter_tile(dst, fields, slopes, win, step, l, n, top, rect);
 }
 
 // Filters all blocks of a tile.
@@ -151,13 +149,12 @@ fn filter(
     win: &mut [f32; WINDOWS],
     fields: &mut [f32; FIELDS],
     slopes: &mut [f32; SLOPES],
-    lanes: &mut [f32],
 )
     requires { ⌜ TileInPass pass rect (length (now src)) (length (now dst)) ⌝ }
     requires { ⌜ sigmaFirst (pass .layout) rect + blocksAlong (rect .cols) ≤ length (now sigmas) ⌝ }
-    requires { ⌜ Scratch (now win) (now fields) (now slopes) (now lanes) ⌝ }
+    requires { ⌜ Scratch (now win) (now fields) (now slopes) ⌝ }
     ensures { λ _. ⌜ Filtered pass (now (sigmas .entry)) (now (src .entry)) rect (now (dst .entry)) (now (dst .exit))
-        × Scratch (now (win .exit)) (now (fields .exit)) (now (slopes .exit)) (now (lanes .exit)) ⌝ }
+        × Scratch (now (win .exit)) (now (fields .exit)) (now (slopes .exit)) ⌝ }
 {
     let l = pass.layout;
     let n = pass.planes;
@@ -174,7 +171,7 @@ fn filter(
             }
         }
     }
-    filter_window(dst, src, pass, rect, win, fields, slopes, lanes)
+    filter_window(dst, src, pass, rect, win, fields, slopes)
 }
 
 // Computes one tile: copies it if all its blocks are copied, otherwise filters it and restores the copied blocks.
@@ -187,14 +184,13 @@ pub(crate) fn tile(
     win: &mut [f32; WINDOWS],
     fields: &mut [f32; FIELDS],
     slopes: &mut [f32; SLOPES],
-    lanes: &mut [f32],
 )
     requires { ⌜ TileInPass pass rect (length (now src)) (length (now dst)) ⌝ }
     requires { ⌜ sigmaFirst (pass .layout) rect + blocksAlong (rect .cols) ≤ length (now sigmas) ⌝ }
-    requires { ⌜ Scratch (now win) (now fields) (now slopes) (now lanes) ⌝ }
+    requires { ⌜ Scratch (now win) (now fields) (now slopes) ⌝ }
     ensures { λ _. ⌜ (now (dst .exit) ≡ tileStepped pass rect (now (sigmas .entry)) (now (src .entry))
         (now (dst .entry)))
-        × Scratch (now (win .exit)) (now (fields .exit)) (now (slopes .exit)) (now (lanes .exit)) ⌝ }
+        × Scratch (now (win .exit)) (now (fields .exit)) (now (slopes .exit)) ⌝ }
 {
     let l = pass.layout;
     let first = first_sigma(l, rect);
@@ -202,6 +198,6 @@ pub(crate) fn tile(
         copy_rect(dst, src, l, pass.planes, rect);
         return;
     }
-    filter(dst, src, pass, sigmas, rect, win, fields, slopes, lanes);
+    filter(dst, src, pass, sigmas, rect, win, fields, slopes);
     restore(dst, src, pass, sigmas, first, rect);
 }

@@ -4,8 +4,10 @@ use Prim.Native.Nat.{ℕ, _+_, _-_, _*_, _≤_, _<_}
 use native.Mathlib.Omega.{arith}
 use denote.Ref.{now}
 use lib.ListN.{length, length-set}
-use Rattle.epf_interior.specs.Inside.{laneIn, threeFill}
-use Rattle.epf_interior.proofs.Inside.{lane-at, three-none, three-turn, three-end}
+use Rattle.epf_rects.specs.Three.{threeFill}
+use Rattle.epf_rects.proofs.Three.{three-none, three-turn, three-end}
+use Rattle.epf_interior.specs.Inside.{laneIn}
+use Rattle.epf_interior.proofs.Inside.{lane-at}
 use Rattle.epf_interior.proofs.row.Statement.{statement}
 use Rattle.epf_interior.proofs.row.Tie as tie
 

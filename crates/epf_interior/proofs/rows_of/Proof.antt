@@ -7,8 +7,9 @@ use borrow.Author.Needs.{needs}
 use denote.Ref.{now}
 use lib.ListN.{length}
 use Rattle.epf_slopes.proofs.Slopes.{first-small}
+use Rattle.epf_rects.proofs.Three.{rowsTo, rows-none}
 use Rattle.epf_interior.specs.Inside.{insideOf}
-use Rattle.epf_interior.proofs.Inside.{rowsTo, RowRoom, row-room, rows-none, row-next}
+use Rattle.epf_interior.proofs.Inside.{RowRoom, row-room, row-next}
 use Rattle.epf_interior.proofs.rows_of.Statement.{statement}
 use Rattle.epf_interior.proofs.rows_of.Tie as tie
 

@@ -1,5 +1,5 @@
 -- `epf_tiles::strips::strips` meets its contract. The invariant: the rows above y are written. Assumes nothing.
-use mathlib.Core.Path.{_≡_, refl, sym, _∙_}
+use mathlib.Core.Path.{_≡_, refl, _∙_}
 use Prim.Native.Nat.{ℕ, _+_, _-_, _≤_}
 use native.Mathlib.Omega.{arith}
 use borrow.Author.Needs.{needs}
@@ -12,12 +12,12 @@ use Rattle.epf_tiles.proofs.strips.strips.Statement.{statement}
 use Rattle.epf_tiles.proofs.strips.strips.Tie as tie
 
 abbrev Inv-loop : tie.InvT-loop
-Inv-loop dst₀ src pass sigmas from to win₀ fields₀ slopes₀ lanes₀ y₀ dst win fields slopes lanes y =
-    (from ≤ y) × (y ≤ to) × (length dst ≡ length dst₀) × Scratch win fields slopes lanes
+Inv-loop dst₀ src pass sigmas from to win₀ fields₀ slopes₀ y₀ dst win fields slopes y =
+    (from ≤ y) × (y ≤ to) × (length dst ≡ length dst₀) × Scratch win fields slopes
     × (dst ≡ rowsStepped pass from (y - from) sigmas src dst₀)
 
 abbrev μ-loop : tie.MeasureT-loop
-μ-loop dst₀ src pass sigmas from to win₀ fields₀ slopes₀ lanes₀ y₀ dst win fields slopes lanes y = to - y
+μ-loop dst₀ src pass sigmas from to win₀ fields₀ slopes₀ y₀ dst win fields slopes y = to - y
 
 -- in an iteration
 module _ (c : tie.After-min Inv-loop μ-loop) where
@@ -32,12 +32,12 @@ module _ (c : tie.After-min Inv-loop μ-loop) where
 
 loop-again : tie.Need-loop-again Inv-loop μ-loop
 loop-again c =
-    let d = c .before .before .before .before .before .before .before .before .before in
+    let d = c .before .before .before .before .before .before .before in
     let s = start d in
     let a = s .args in
     let f = s .pre .0 .region in
     let inv = at d .loop .inv in
-    let t = c .before .before .before .strip in (
+    let t = c .before .before .strip in (
       omega (arith, inv .0),
       omega (arith, d .min .ensures),
       t .kept .0 ∙ inv .2,
@@ -56,14 +56,13 @@ strips-spec = tie.close
     (tie.spec
     Inv-loop
     μ-loop
-    (λ c. (omega arith, c .before .before .before .pre .1 .0, refl, record { win-length = refl; fields-length = refl; slopes-length = refl; lanes-length = refl }, rows-start _ _ _ _ _ _ _ _ _))
+    (λ c. (omega arith, c .before .before .before .pre .1 .0, refl, record { win-length = refl; fields-length = refl; slopes-length = refl }, rows-start _ _ _ _ _ _ _ _ _))
     (λ c. omega arith)
     (λ c. omega arith)
     (λ c κs. search needs)
-    (λ c. sym (c .before .before .before .before .before .before .before .loop .inv .3 .lanes-length))
-    (λ c κs. let d = c .before .before .before .before .before in let s = start d in let inv = at d .loop .inv in (pass-long (inv .2) (s .pre .0), (fits d, inv .3)))
-    (λ c. let d = c .before .before .before .before .before .before .before .before .before in omega (arith, fits d .inside, start d .pre .0 .region .layout))
-    (λ c. let d = c .before .before .before .before .before .before .before .before .before in omega (arith, fits d .rows-pos, d .min .ensures))
+    (λ c κs. let d = c .before .before .before .before in let s = start d in let inv = at d .loop .inv in (pass-long (inv .2) (s .pre .0), (fits d, inv .3)))
+    (λ c. let d = c .before .before .before .before .before .before .before in omega (arith, fits d .inside, start d .pre .0 .region .layout))
+    (λ c. let d = c .before .before .before .before .before .before .before in omega (arith, fits d .rows-pos, d .min .ensures))
     loop-again
     (λ c. c .before .loop .inv .2)
     returns)

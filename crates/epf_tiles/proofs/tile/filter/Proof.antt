@@ -24,7 +24,7 @@ steep s first b slopes ef eb e =
 -- after them
 module _ (c : tie.After-tile-slopes) where
   abbrev start : tie.Start
-  start = c .before .before .before .before .before .before .before .before .before .before
+  start = c .before .before .before .before .before .before .before .before .before
 
   sloped : Sloped (now (start .args .sigmas)) (sigmaFirst (start .args .pass .layout) (start .args .rect)) (blocksAlong (start .args .rect .cols)) (start .args .pass .settings .scale) (start .args .pass .settings .edge) (c .tile-slopes .last .0)
   sloped = steep start _ _ _ (c .before .before .before .first-sigma .ensures) (c .before .blocks-of .ensures) (c .tile-slopes .ensures)
@@ -36,21 +36,20 @@ returns c =
     let z = start d .pre .1 .1 in
     let k = sloped d in (
       inside-filtered (a .pass) (now (a .src)) (a .rect) (now (a .dst)) (start d .pre .0) _ _ (c .before .before .before .before .before .before .before .before .before .before .if2 .taken) (c .before .before .before .before .before .before .before .before .before .before .before .if1 .taken) (sym (c .before .before .before .before .before .before .before .before .before .lies-inside .ensures) ∙ c .before .before .before .before .before .before .before .before .if3 .taken) (c .before .before .filter-inside .ensures) _ k,
-      record { win-length = z .win-length; fields-length = z .fields-length; slopes-length = k .slopes-length; lanes-length = z .lanes-length },
+      record { win-length = z .win-length; fields-length = z .fields-length; slopes-length = k .slopes-length },
     )
 
 pub filter-spec : {M : Type 1} → statement M
 filter-spec = tie.close
     (tie.spec
-    (λ c κs. let p = c .before .before .before .before .before .before .pre .0 in omega (arith, p .tile .across, p .tile .down, p .room .layout .across, p .room .layout .width-le, p .room .layout .down, p .room .layout .height-le))
-    (λ c κs. omega (arith, c .before .before .before .before .before .before .before .before .pre .0 .tile .cols-le))
+    (λ c κs. let p = c .before .before .before .before .before .pre .0 in omega (arith, p .tile .across, p .tile .down, p .room .layout .across, p .room .layout .width-le, p .room .layout .down, p .room .layout .height-le))
+    (λ c κs. omega (arith, c .before .before .before .before .before .before .before .pre .0 .tile .cols-le))
     (λ c κs. search needs)
     (λ c κs. search needs)
     (λ c. let p = start (c .before .before .before .before .before .before .before .before .before .before .before) .pre .0 in omega (arith, p .tile .down, p .room .layout .down, p .room .layout .height-le, p .top-le))
     (λ c κs. search needs)
     (λ c. search needs)
     returns
-    (λ c κs. let d = c .before .before .before .before .before .before .before .before in let z = start d .pre .1 .1 in (start d .pre .0, record { win-length = z .win-length; fields-length = z .fields-length; slopes-length = sloped d .slopes-length; lanes-length = z .lanes-length }))
+    (λ c κs. let d = c .before .before .before .before .before .before .before in let z = start d .pre .1 .1 in (start d .pre .0, record { win-length = z .win-length; fields-length = z .fields-length; slopes-length = sloped d .slopes-length }))
     (λ c. search needs)
-    (λ c. search needs)
-    (λ c. let d = c .before .before .before .before .before .before .before .before .before .before .before .before .before in let f = c .before .before .before .before .filter-window .ensures in (f .0 _ (sloped d), f .1)))
+    (λ c. let d = c .before .before .before .before .before .before .before .before .before .before in let f = c .before .before .filter-window .ensures in (f .0 _ (sloped d), f .1)))

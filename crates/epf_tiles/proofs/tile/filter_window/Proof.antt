@@ -9,13 +9,12 @@ use Rattle.epf_tiles.proofs.tile.filter_window.Tie as tie
 
 returns : tie.Need-returns
 returns c =
-    let s = c .before .before .before .before .before .before .before .before .before .before .before .before .before .before .before .before .before .before .before .before .before .before .before .before .before .before in
+    let s = c .before .before .before .before .before .before .before .before .before .before .before .before .before .before .before .before .before .before .before .before in
     let a = s .args in
-    let ew = c .before .before .before .before .before .before .before .before .before .before .before .before .before .before .before .before .before .load .ensures in
-    let ee = c .before .before .before .before .before .before .before .before .before .before .before .before .before .distances .ensures in
-    let eo = c .before .before .before .before .before .before .before .filter-tile .ensures in (
-      computed (a .pass) (now (a .src)) (a .rect) (now (a .dst)) (s .pre .0) _ _ _ _ _ _ _ (s .pre .1) ew ee eo _ (c .before .before .store-tile .ensures),
-      scratch-kept (a .pass) (now (a .src)) (a .rect) (now (a .dst)) (s .pre .0) _ _ _ _ _ _ _ (s .pre .1) ew ee eo,
+    let ew = c .before .before .before .before .before .before .before .before .before .before .before .before .load .ensures in
+    let ee = c .before .before .before .before .before .before .before .before .distances .ensures in (
+      computed (a .pass) (now (a .src)) (a .rect) (now (a .dst)) (s .pre .0) _ _ _ _ _ (s .pre .1) ew ee _ (c .before .before .filter-tile .ensures),
+      scratch-kept (a .pass) (now (a .src)) (a .rect) (now (a .dst)) (s .pre .0) _ _ _ _ _ (s .pre .1) ew ee,
     )
 
 pub filter-window-spec : {M : Type 1} → statement M
@@ -27,9 +26,7 @@ filter-window-spec = tie.close
     (λ c. search needs)
     (λ c κs. search needs)
     (λ c κs. search needs)
-    (λ c. let p = c .before .before .before .before .before .before .before .before .before .before .before .before .before .before .before .before .before .before .pre .0 in omega (arith, p .tile .down, p .room .layout .down, p .room .layout .height-le, p .top-le))
+    (λ c. let p = c .before .before .before .before .before .before .before .before .before .before .before .before .before .before .pre .0 in omega (arith, p .tile .down, p .room .layout .down, p .room .layout .height-le, p .top-le))
     (λ c κs. search needs)
-    (λ c κs. search needs)
-    (λ c. search needs)
     (λ c. search needs)
     returns)
