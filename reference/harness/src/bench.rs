@@ -7,14 +7,16 @@ mod loupe;
 mod memory;
 mod passes;
 mod plot;
+mod rectangles;
 mod run;
 
 use std::{
+    fmt,
     hint::black_box,
     time::{Duration, Instant},
 };
 
-use restoration::CHANNELS;
+use restoration::{BLOCK, CHANNELS, Region};
 
 use crate::random::Random;
 
@@ -22,14 +24,19 @@ use crate::random::Random;
 const PER_CASE: Duration = Duration::from_secs(2);
 const FEWEST_RUNS: u32 = 9;
 
-/// A sigma with which blocks are filtered.
+/// A sigma with which blocks are filtered, and one with which they are copied.
 const FILTERED: f32 = 1.5;
+const COPIED: f32 = 0.1;
+
+/// The columns of passes beside the original's.
+const COLUMNS: [&str; 5] = ["pass", "picture", "ours, ns", "Rust, ns", "ratio"];
 
 /// Memory is measured first, before the other sections allocate.
-const SECTIONS: [(&str, fn()); 7] = [
+const SECTIONS: [(&str, fn()); 8] = [
     ("memory", memory::print),
     ("passes", passes::print),
     ("cases", passes::print_cases),
+    ("rectangles", rectangles::print),
     ("runs", run::print),
     ("growth", growth::print),
     ("loupe", loupe::print),
@@ -51,6 +58,58 @@ pub fn print(names: &[&str]) -> bool {
     true
 }
 
+/// The names of all sections.
+pub fn sections() -> [&'static str; SECTIONS.len()] {
+    SECTIONS.map(|(section, _)| section)
+}
+
+/// A picture of a table; it has three planes.
+#[derive(Clone, Copy)]
+struct Picture {
+    width: u32,
+    height: u32,
+}
+
+impl Picture {
+    const fn new(width: u32, height: u32) -> Self {
+        Self { width, height }
+    }
+
+    const fn square(side: u32) -> Self {
+        Self::new(side, side)
+    }
+
+    /// Samples of one plane.
+    fn plane(self) -> usize {
+        self.width as usize * self.height as usize
+    }
+
+    /// Samples of all planes.
+    fn samples(self) -> usize {
+        CHANNELS * self.plane()
+    }
+
+    /// Blocks across and down.
+    fn blocks(self) -> (u32, u32) {
+        (self.width.div_ceil(BLOCK), self.height.div_ceil(BLOCK))
+    }
+
+    fn block_count(self) -> usize {
+        let (across, down) = self.blocks();
+        (across * down) as usize
+    }
+
+    fn region(self) -> Region {
+        Region::with_size(self.width, self.height)
+    }
+}
+
+impl fmt::Display for Picture {
+    fn fmt(&self, f: &mut fmt::Formatter) -> fmt::Result {
+        write!(f, "{} × {}", self.width, self.height)
+    }
+}
+
 /// The shortest time of each side, in ns.
 #[derive(Clone, Copy)]
 struct Times {
@@ -59,9 +118,9 @@ struct Times {
 }
 
 impl Times {
-    /// In ns per sample of the three planes.
-    fn per_sample(self, plane: usize) -> Self {
-        let samples = (CHANNELS * plane) as f64;
+    /// In ns per sample of all planes.
+    fn per_sample(self, picture: Picture) -> Self {
+        let samples = picture.samples() as f64;
         Self {
             ours: self.ours / samples,
             theirs: self.theirs / samples,
@@ -109,21 +168,21 @@ fn head(columns: &[&str]) {
     println!("|{}", "---|".repeat(columns.len()));
 }
 
-/// A row with both times in ns per sample of the three planes.
-fn row(name: &str, (width, height): (u32, u32), times: Times) {
-    let times = times.per_sample((width * height) as usize);
+/// A row with both times in ns per sample of all planes.
+fn row(name: &str, picture: Picture, times: Times) {
+    let times = times.per_sample(picture);
     println!(
-        "| {name} | {width} × {height} | {:.2} | {:.2} | {:.2} |",
+        "| {name} | {picture} | {:.2} | {:.2} | {:.2} |",
         times.ours,
         times.theirs,
         times.ratio()
     );
 }
 
-/// Three planes whose samples differ little, so that neighbours have weight.
-fn smooth(plane: usize) -> Vec<f32> {
+/// Samples that differ little, so that neighbours have weight.
+fn smooth(count: usize) -> Vec<f32> {
     let mut random = Random::for_name("bench epf");
-    (0..CHANNELS * plane)
+    (0..count)
         .map(|_| 0.5 + random.within(0, 1 << 20) as f32 / (1 << 26) as f32)
         .collect()
 }

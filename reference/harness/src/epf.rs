@@ -1,7 +1,9 @@
 //! The edge-preserving steps. Each is compared with `epf_row`, band by band, on small pictures of all
-//! sizes, on random ones and on wide ones; all together, with block sigmas, with `apply_epf`; and
-//! refusals. Samples that are not written must keep their bits.
+//! sizes, on random ones, on wide ones and on low ones of every width with blocks copied at random; all
+//! together, with block sigmas, with `apply_epf`; and refusals. Samples that are not written must keep
+//! their bits.
 
+mod copied;
 mod scaled;
 mod tiled;
 mod whole;
@@ -147,6 +149,7 @@ pub fn compare(amount: Amount, report: &mut Report) {
         let mut row = Row::new(name, "wide pictures");
         tiled::compare(step, amount, &mut random, &mut row);
         report.add(row);
+        copied::compare(step, amount, report);
         scaled::compare(step, amount, &mut random, report);
     }
     whole::compare(amount, report);

@@ -62,7 +62,9 @@ fn main() -> ExitCode {
 
 fn usage() -> ExitCode {
     eprintln!(
-        "usage: harness [--scale N | --some [K N]] | harness bench [SECTION...] | harness record"
+        "usage: harness [--scale N | --some [K N]] | harness bench [SECTION...] | harness record\n\
+         sections of bench, all if none is named: {}",
+        bench::sections().join(", ")
     );
     ExitCode::from(2)
 }
@@ -81,7 +83,7 @@ const SECTIONS: [Section; 8] = [
     (header::compare, 23),
     (gabor::compare, 7),
     (sigma::compare, 5),
-    (epf::compare, 23),
+    (epf::compare, 26),
     (runs::compare, 16),
     (rectangles::compare, 2),
     (loupe::compare, 2),

@@ -1,6 +1,6 @@
 //! How the cost of a whole run grows with the area.
 
-use super::{head, plot, run};
+use super::{Picture, head, plot, run};
 
 const SIDES: [u32; 7] = [64, 128, 256, 504, 1020, 2040, 4080];
 const PLOT: &str = "docs/cost.svg";
@@ -16,10 +16,11 @@ pub fn print() {
         "ratio",
     ]);
     let costs = SIDES.map(|side| {
-        let times = run::beside_original(side);
-        let per_sample = times.per_sample((side * side) as usize);
+        let picture = Picture::square(side);
+        let times = run::beside_original(&run::input(picture));
+        let per_sample = times.per_sample(picture);
         println!(
-            "| {side} × {side} | {:.2} | {:.2} | {:.1} | {:.1} | {:.2} |",
+            "| {picture} | {:.2} | {:.2} | {:.1} | {:.1} | {:.2} |",
             times.ours / 1e6,
             times.theirs / 1e6,
             per_sample.ours,

@@ -5,15 +5,14 @@ use std::hint::black_box;
 use restoration::{LoupeSetup, MAX_SIDE, Region, accepted};
 
 use super::{
-    best_timed, head,
+    Picture, Times, best_timed, head,
     memory::stack_of,
     run::{BAND, part_input, to_the_finish},
     timed,
 };
 use crate::{convert, runs::Input};
 
-/// Sides of the picture.
-const SIDE: u32 = 4080;
+const WHOLE: Picture = Picture::square(4080);
 /// Left and top minus the margin, 7, are 7 modulo 8, so the widened rectangle is as large as it can be.
 const WANTED: Region = Region {
     left: 1902,
@@ -23,7 +22,7 @@ const WANTED: Region = Region {
 };
 
 pub fn print() {
-    let given = part_input(SIDE, widened());
+    let given = part_input(WHOLE, widened());
     let Region { width, height, .. } = given.setup.image;
     head(&[
         "plain run",
@@ -52,9 +51,9 @@ pub fn print() {
 
 fn setup() -> LoupeSetup {
     LoupeSetup {
-        whole: Region::with_size(SIDE, SIDE),
+        whole: WHOLE.region(),
         wanted: WANTED,
-        settings: part_input(SIDE, WANTED).setup.settings,
+        settings: part_input(WHOLE, WANTED).setup.settings,
         ..LoupeSetup::DEFAULT
     }
 }
@@ -67,7 +66,7 @@ fn widened() -> Region {
 
 /// Times of `loupe_widened` and `loupe_smooth`, and of start, bands and advances. The first set is filled before
 /// each.
-fn with_run(given: &Input, band_height: u32) -> super::Times {
+fn with_run(given: &Input, band_height: u32) -> Times {
     let (mut shown, mut plain) = (given.clone(), given.clone());
     plain.setup.band_height = band_height;
     let mut out = vec![0.0; WANTED.sample_count()];

@@ -4,12 +4,12 @@ use std::{arch::asm, fs, hint::black_box, thread};
 
 use restoration::Run;
 
-use super::{head, run};
+use super::{Picture, head, run};
 
 /// The largest picture of the plot.
-const LARGEST: u32 = 4080;
+const LARGEST: Picture = Picture::square(4080);
 /// Pictures for which the stack is measured.
-const SIDES: [u32; 3] = [64, 504, LARGEST];
+const PICTURES: [Picture; 3] = [Picture::square(64), Picture::square(504), LARGEST];
 const CALLS: [&str; 7] = [
     "start",
     "band, Gabor-like",
@@ -36,11 +36,12 @@ pub fn print() {
     println!();
     let stacks = thread::Builder::new()
         .stack_size(STACK)
-        .spawn(|| SIDES.map(stacks))
+        .spawn(|| PICTURES.map(stacks))
         .expect("a thread")
         .join()
         .expect("accepted calls");
-    head(&["stack, bytes", "64 × 64", "504 × 504", "4080 × 4080"]);
+    let [small, middle, large] = PICTURES.map(|picture| picture.to_string());
+    head(&["stack, bytes", &small, &middle, &large]);
     for (call, name) in CALLS.iter().enumerate() {
         let [small, middle, large] = stacks.map(|stack| stack[call]);
         println!("| {name} | {small} | {middle} | {large} |");
@@ -61,7 +62,7 @@ fn buffers() {
     let sets = input.first.len() + input.second.len();
     let blocks = input.sigmas.len() + input.grids.len() + input.table.len();
     let mib = |samples: usize| 4.0 * samples as f64 / f64::from(1 << 20);
-    head(&[&format!("caller's buffers, {LARGEST} × {LARGEST}"), "MiB"]);
+    head(&[&format!("caller's buffers, {LARGEST}"), "MiB"]);
     println!("| both sets | {:.2} |", mib(sets));
     println!("| block sigmas, grids and table | {:.2} |", mib(blocks));
     println!("| the result's slice | {:.2} |", mib(out.len()));
@@ -101,15 +102,15 @@ fn status(name: &str) -> f64 {
 }
 
 /// The most stack that each kind of call of a whole run uses.
-fn stacks(side: u32) -> [usize; CALLS.len()] {
-    let mut input = run::input(side);
-    let mut out = run::result_slice(side);
+fn stacks(picture: Picture) -> [usize; CALLS.len()] {
+    let mut input = run::input(picture);
+    let mut out = run::result_slice(picture);
     let mut most = [0; CALLS.len()];
     let mut answer = None;
     most[START] = stack_of(|| answer = Some(input.start()));
     let mut run = answer.and_then(|a| a.value().ok()).expect("accepted");
     for pass in 0..run::PASSES as usize {
-        for k in 0..side.div_ceil(run.setup.band_height) {
+        for k in 0..picture.height.div_ceil(run.setup.band_height) {
             let sets = (&mut input.first, &mut input.second);
             let used =
                 stack_of(|| run = restoration::band(run, &input.sigmas, sets.0, sets.1, k).run);

@@ -2,62 +2,69 @@
 
 use std::{cell::RefCell, hint::black_box};
 
-use restoration::{BLOCK, CHANNELS, EpfStep, GaborSettings, MAX_HEADER_BYTES, Region};
+use restoration::{EpfStep, GaborSettings, MAX_HEADER_BYTES, Region};
 
-use super::{FILTERED, Times, best, head, row, run, smooth};
+use super::{COLUMNS, COPIED, FILTERED, Picture, Times, best, head, row, run, smooth};
 use crate::{
+    bits,
     epf::{DEFAULTS, step_of},
     gabor::DEFAULT_WEIGHTS,
     random::Random,
 };
 
-/// Sides of the pictures.
-const SIDES: [u32; 3] = [64, 504, 2040];
+const PICTURES: [Picture; 3] = [
+    Picture::square(64),
+    Picture::square(504),
+    Picture::square(2040),
+];
 /// Other pictures of the Gabor-like pass.
-const GABOR_SIZES: [(u32, u32); 3] = [(256, 256), (1024, 1024), (7, 2040)];
-/// A sigma with which blocks are copied.
-const COPIED: f32 = 0.1;
-
-const COLUMNS: [&str; 5] = ["pass", "picture", "ours, ns", "Rust, ns", "ratio"];
+const GABOR_PICTURES: [Picture; 4] = [
+    Picture::new(143, 111),
+    Picture::square(256),
+    Picture::square(1024),
+    Picture::new(7, 2040),
+];
 
 /// Every pass by itself, and a whole run from start to result.
 pub fn print() {
     head(&COLUMNS);
-    for side in SIDES {
-        row("Gabor-like", (side, side), gabor(side, side));
+    for picture in PICTURES {
+        row("Gabor-like", picture, gabor(picture));
+        let sigmas = vec![FILTERED; picture.block_count()];
         for step in 0..3 {
-            let times = epf(step, side, FILTERED);
-            row(&format!("step {step}"), (side, side), times);
+            let times = epf(step, picture, &sigmas);
+            row(&format!("step {step}"), picture, times);
         }
-        row("whole run", (side, side), run::beside_original(side));
+        let times = run::beside_original(&run::input(picture));
+        row("whole run", picture, times);
     }
 }
 
 /// Other sizes, copied blocks, and headers.
 pub fn print_cases() {
     head(&COLUMNS);
-    for (width, height) in GABOR_SIZES {
-        row("Gabor-like", (width, height), gabor(width, height));
+    for picture in GABOR_PICTURES {
+        row("Gabor-like", picture, gabor(picture));
     }
     for step in 0..3 {
-        for side in SIDES {
-            let times = epf(step, side, COPIED);
-            row(&format!("step {step}, all copied"), (side, side), times);
+        for picture in PICTURES {
+            let times = epf(step, picture, &vec![COPIED; picture.block_count()]);
+            row(&format!("step {step}, all copied"), picture, times);
         }
     }
     header();
 }
 
-fn gabor(width: u32, height: u32) -> Times {
-    let plane = width as usize * height as usize;
+pub fn gabor(picture: Picture) -> Times {
+    let (plane, width) = (picture.plane(), picture.width as usize);
     let mut random = Random::for_name("bench gabor");
-    let source: Vec<f32> = (0..CHANNELS * plane)
+    let source: Vec<f32> = (0..picture.samples())
         .map(|_| random.within(0, 1 << 20) as f32 / 1024.0)
         .collect();
-    let target = RefCell::new(vec![0.0f32; CHANNELS * plane]);
+    let target = RefCell::new(vec![0.0f32; picture.samples()]);
     let weights = black_box(DEFAULT_WEIGHTS);
     let ours = || {
-        let image = Region::with_size(width, height);
+        let image = picture.region();
         let settings = GaborSettings::with_weights(weights);
         let source = black_box(&source);
         gabor_pass(image, settings, source, &mut target.borrow_mut());
@@ -67,33 +74,48 @@ fn gabor(width: u32, height: u32) -> Times {
         for (channel, &weights) in weights.iter().enumerate() {
             let planes = channel * plane..(channel + 1) * plane;
             let source = &black_box(&source)[planes.clone()];
-            oracle::gabor_plane(source, &mut target[planes], width as usize, weights);
+            oracle::gabor_plane(source, &mut target[planes], width, weights);
         }
     };
-    best(ours, theirs)
+    best_of_same(&target, ours, theirs)
 }
 
-/// One edge-preserving step with the default settings, all blocks with the same sigma.
-fn epf(step: u32, side: u32, sigma: f32) -> Times {
-    let width = side as usize;
-    let plane = width * width;
-    let source = smooth(plane);
-    let target = RefCell::new(vec![0.0f32; CHANNELS * plane]);
-    let sigmas = vec![sigma; width.div_ceil(BLOCK as usize).pow(2)];
+/// One edge-preserving step with the default settings and one sigma per block.
+pub fn epf(step: u32, picture: Picture, sigmas: &[f32]) -> Times {
+    let (plane, width) = (picture.plane(), picture.width as usize);
+    let source = smooth(picture.samples());
+    let target = RefCell::new(vec![0.0f32; picture.samples()]);
     let settings = black_box(DEFAULTS);
     let ours = || {
-        let (image, step) = (Region::with_size(side, side), step_of(step, settings));
+        let (image, step) = (picture.region(), step_of(step, settings));
         let source = black_box(&source);
-        epf_pass(image, step, &sigmas, source, &mut target.borrow_mut());
+        epf_pass(image, step, sigmas, source, &mut target.borrow_mut());
     };
     let theirs = || {
         let mut target = target.borrow_mut();
         let mut parts = target.chunks_exact_mut(plane);
         let targets = core::array::from_fn(|_| parts.next().expect("three planes"));
         let sources = core::array::from_fn(|c| &black_box(&source)[c * plane..][..plane]);
-        oracle::epf_step(step, settings, &sigmas, (width, 0), sources, targets);
+        oracle::epf_step(step, settings, sigmas, (width, 0), sources, targets);
     };
-    best(ours, theirs)
+    best_of_same(&target, ours, theirs)
+}
+
+/// Runs both alternately on the same target. Afterwards both must write all of it, with the same bits.
+fn best_of_same(
+    target: &RefCell<Vec<f32>>,
+    mut ours: impl FnMut(),
+    mut theirs: impl FnMut(),
+) -> Times {
+    let times = best(&mut ours, &mut theirs);
+    // The two targets differ in every sample, so that one that is not written is noticed.
+    target.borrow_mut().fill(0.0);
+    ours();
+    let result = target.replace_with(|target| vec![f32::NAN; target.len()]);
+    theirs();
+    let same = bits::same(&result, &target.borrow());
+    assert!(same, "both give the same samples");
+    times
 }
 
 /// All rows of an image whose filter region is the whole image.

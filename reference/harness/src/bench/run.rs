@@ -2,19 +2,20 @@
 
 use std::hint::black_box;
 
-use restoration::{BLOCK, CHANNELS, MAX_ITERS, Region, Run, Setup};
+use restoration::{BLOCK, MAX_ITERS, Region, Run, Setup};
 
 use super::{
-    FILTERED, Times, best_timed, head,
+    FILTERED, Picture, Times, best_timed, head,
     passes::{epf_pass, gabor_pass},
     row, smooth, timed,
 };
 use crate::{
+    bits,
     epf::{DEFAULTS, step_of},
     runs::{Input, Passes, defaults},
 };
 
-const SIDE: u32 = 504;
+const PICTURE: Picture = Picture::square(504);
 pub const BAND: u32 = 64;
 /// With this group size shift the largest picture, 4080 × 4080, has one group.
 const ONE_GROUP: u32 = 2;
@@ -37,14 +38,14 @@ pub fn print() {
     let times = beside_passes(|input, _| {
         to_the_finish(input);
     });
-    row("start, bands, advances", (SIDE, SIDE), times);
-    row("with the result", (SIDE, SIDE), beside_passes(with_result));
+    row("start, bands, advances", PICTURE, times);
+    row("with the result", PICTURE, beside_passes(with_result));
 }
 
 fn beside_passes(mut run: impl FnMut(&mut Input, &mut [f32])) -> Times {
-    let given = input(SIDE);
+    let given = input(PICTURE);
     let (mut by_bands, mut alone) = (given.clone(), given.clone());
-    let mut out = result_slice(SIDE);
+    let mut out = result_slice(PICTURE);
     best_timed(
         || {
             by_bands.first.copy_from_slice(&given.first);
@@ -59,10 +60,9 @@ fn beside_passes(mut run: impl FnMut(&mut Input, &mut [f32])) -> Times {
 
 /// Start, all bands and advances, and the result, beside `apply_gabor_like` and `apply_epf`. Both
 /// filter the same picture each time: the first set, which a run overwrites, is filled before it.
-pub fn beside_original(side: u32) -> Times {
-    let given = input(side);
+pub fn beside_original(given: &Input) -> Times {
     let mut input = given.clone();
-    let mut out = result_slice(side);
+    let mut out = vec![0.0; given.first.len()];
     let times = best_timed(
         || {
             input.first.copy_from_slice(&given.first);
@@ -70,20 +70,22 @@ pub fn beside_original(side: u32) -> Times {
         },
         || timed(black_box(given.original_run())),
     );
-    assert!(out == given.original(), "both give the same samples");
+    assert!(
+        bits::same(&out, &given.original()),
+        "both give the same samples"
+    );
     times
 }
 
 /// The inputs of start for the Gabor-like pass and three iterations over a whole image of one group.
-pub fn input(side: u32) -> Input {
-    part_input(side, Region::with_size(side, side))
+pub fn input(picture: Picture) -> Input {
+    part_input(picture, picture.region())
 }
 
 /// The same over a part of such an image, as an image of its own.
-pub fn part_input(side: u32, part: Region) -> Input {
-    let plane = (part.width * part.height) as usize;
-    let blocks = side.div_ceil(BLOCK);
-    let cells = (blocks * blocks) as usize;
+pub fn part_input(whole: Picture, part: Region) -> Input {
+    let samples = part.sample_count();
+    let (across, down) = whole.blocks();
     let own = part.width.div_ceil(BLOCK) * part.height.div_ceil(BLOCK);
     Input {
         setup: Setup {
@@ -93,22 +95,22 @@ pub fn part_input(side: u32, part: Region) -> Input {
             ..Setup::whole(part)
         },
         frame: oracle::Frame {
-            width: side,
-            height: side,
+            width: whole.width,
+            height: whole.height,
             upsampling: 1,
             lf_level: 0,
             group_size_shift: ONE_GROUP,
         },
-        table: vec![1, blocks, blocks],
-        grids: vec![FILTERED; cells],
-        first: smooth(plane),
-        second: vec![0.0; CHANNELS * plane],
+        table: vec![1, across, down],
+        grids: vec![FILTERED; whole.block_count()],
+        first: smooth(samples),
+        second: vec![0.0; samples],
         sigmas: vec![FILTERED; own as usize],
     }
 }
 
-pub fn result_slice(side: u32) -> Vec<f32> {
-    vec![0.0; CHANNELS * (side * side) as usize]
+pub fn result_slice(picture: Picture) -> Vec<f32> {
+    vec![0.0; picture.samples()]
 }
 
 /// Start, and all bands and advances.
