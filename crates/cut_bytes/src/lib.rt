@@ -1,4 +1,6 @@
 // Numbers in the bytes of a cut file, the least significant byte first (Specification 16.1).
+#![tactic(auto)]
+
 ghost use Rattle.std.specs.Prelude.{◌≡◌, ◌<◌, get_or};
 ghost use Rattle.cut_bytes.specs.Bytes.{bytes_of, number_at, stored, unsigned, signed};
 

@@ -1,4 +1,6 @@
 // The table of a cut file, and the checks of a file (Specification 16).
+#![tactic(auto)]
+
 ghost use Rattle.std.specs.Prelude.{◌≡◌, ◌+◌, ◌*◌, ◌≤◌, ◌<◌, length, cond};
 ghost use Rattle.refusals.specs.Checks.{first_of};
 ghost use Rattle.region.specs.Measures.{picture_fits};
@@ -28,7 +30,7 @@ pub const ENTRY: usize = 16;
 
 // The rectangles of a file: the first `count` of the regions.
 #[repr(C)]
-#[derive(Drop)]
+#[derive(Clone, Copy)]
 pub struct CutTable {
     pub count: u32,
     pub regions: [Region; 64],

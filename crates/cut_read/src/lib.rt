@@ -1,4 +1,6 @@
 // Reading a cut file: how many rectangles it has, the region of one, and its samples (Specification 16).
+#![tactic(auto)]
+
 ghost use Rattle.std.specs.Prelude.{◌≡◌, ◌+◌, ◌*◌, ◌≤◌, length};
 ghost use Rattle.region.specs.Regions.{zero_region};
 ghost use Rattle.cut_bytes.specs.Bytes.{number_at};
@@ -12,7 +14,7 @@ use region::Region;
 
 // How many rectangles a file has; 0 in a refused call.
 #[repr(C)]
-#[derive(Drop)]
+#[derive(Clone, Copy)]
 pub struct CountAnswer {
     pub number: u32,
     pub count: u32,
@@ -20,7 +22,7 @@ pub struct CountAnswer {
 
 // The region of a rectangle.
 #[repr(C)]
-#[derive(Drop)]
+#[derive(Clone, Copy)]
 pub struct CutAnswer {
     pub number: u32,
     pub region: Region,

@@ -1,4 +1,6 @@
 // Writing a cut file: the length that a table needs, and the file (Specification 16).
+#![tactic(auto)]
+
 ghost use Rattle.std.specs.Prelude.{◌≡◌, ◌+◌, ◌*◌, ◌≤◌, length};
 ghost use Rattle.std.proofs.lemmas.List.Edits.{sets};
 ghost use Rattle.cut_bytes.specs.Bytes.{bytes_of};
@@ -15,7 +17,7 @@ use region_placement::picture_fits;
 
 // The length of a file, in bytes.
 #[repr(C)]
-#[derive(Drop)]
+#[derive(Clone, Copy)]
 pub struct LengthAnswer {
     pub number: u32,
     pub length: usize,

@@ -1,5 +1,7 @@
 // One step of the edge-preserving filter over rows of the result region; the filter region lies anywhere inside the
 // image region.
+#![tactic(auto)]
+
 ghost use Rattle.std.specs.Prelude.{◌≡◌, ◌≤◌, length};
 ghost use Rattle.refusals.specs.Checks.{first_of};
 ghost use Rattle.planes.specs.Band.{passed};
@@ -27,7 +29,7 @@ const COPYING_LIMIT: f32 = 0.3;
 // The settings of one step of the edge-preserving filter. `multiplier` is the step's scale: `pass0_sigma_scale`, 1 or
 // `pass2_sigma_scale` for steps 0, 1 or 2. `border_sad_mul` multiplies it at the borders of blocks.
 #[repr(C)]
-#[derive(Drop)]
+#[derive(Clone, Copy)]
 pub struct EpfStep {
     pub step: u32,
     pub channel_scale: [f32; 3],

@@ -1,6 +1,8 @@
 // Distances between the samples of a tile and their neighbours, from one window of 14 rows of 64 columns per plane.
 // Two opposite neighbours share a field of distances: the distances of one are those of the other, read from an
 // earlier index. So a step has one field per pair of opposite neighbours.
+#![tactic(auto)]
+
 ghost use Rattle.std.specs.Prelude.{◌≡◌, ℕ, ◌+◌, ◌-◌, ◌*◌, ◌<◌, ◌≤◌, length, get_or};
 ghost use Rattle.std.specs.Float.{nan};
 ghost use Rattle.planes.specs.Samples.{◌⊕◌, ◌⊗◌, b0};
@@ -22,14 +24,14 @@ const PAST: usize = 188;
 const PAIRS: usize = 6;
 
 // The index in a window's plane where a neighbour's samples start, and where its distances start among the fields.
-#[derive(Drop)]
+#[derive(Clone, Copy)]
 pub struct Tap {
     pub index: usize,
     pub start: usize,
 }
 
 // A run of n distances: where it starts among the fields, and the index in a window's plane of its first sample.
-#[derive(Drop)]
+#[derive(Clone, Copy)]
 struct Run {
     at: usize,
     from: usize,

@@ -1,5 +1,7 @@
 // Step 2 on a rectangle whose samples all have neighbours inside the filter region. Nothing is mirrored there, so it
 // reads the planes directly. The corner of a sample is the index one column left of it and one row above it.
+#![tactic(auto)]
+
 ghost use Rattle.std.specs.Prelude.{◌≡◌, ℕ, ◌+◌, ◌-◌, ◌*◌, ◌<◌, ◌≤◌, length};
 ghost use Rattle.epf_rects.specs.Rects.{rect_filled, RectFits};
 ghost use Rattle.epf_rects.specs.Three.{three_fill};
@@ -19,7 +21,7 @@ use rounding::difference;
 const COLUMNS: usize = 64;
 
 // The weights of a sample's neighbours, and the divisor: 1 plus their sum.
-#[derive(Drop)]
+#[derive(Clone, Copy)]
 struct Weights {
     up: f32,
     down: f32,

@@ -1,5 +1,7 @@
 // Weighted sums of a tile of a step of the edge-preserving filter, from fields of distances, slopes and windows. A
 // tile has at most three planes, eight rows and 56 columns; lane i of a row is its column i.
+#![tactic(auto)]
+
 mod rows;
 mod weights;
 
@@ -13,7 +15,7 @@ use epf_slopes::SLOPES;
 use planes::{Layout, PLANES};
 
 // The weights of four neighbours.
-#[derive(Drop)]
+#[derive(Clone, Copy)]
 pub(crate) struct Four {
     a: f32,
     b: f32,
@@ -22,7 +24,7 @@ pub(crate) struct Four {
 }
 
 // The weights of step 0's neighbours in the order of the kernel offsets, and the divisor: 1 plus their sum.
-#[derive(Drop)]
+#[derive(Clone, Copy)]
 pub(crate) struct Twelve {
     u: Four,
     v: Four,
@@ -31,7 +33,7 @@ pub(crate) struct Twelve {
 }
 
 // The same for steps 1 and 2, whose neighbours form a cross.
-#[derive(Drop)]
+#[derive(Clone, Copy)]
 pub(crate) struct Cross {
     w: Four,
     sum: f32,

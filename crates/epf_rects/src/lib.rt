@@ -1,4 +1,6 @@
 // Copies rectangles of a filter region from another list. These functions only move data.
+#![tactic(auto)]
+
 ghost use Rattle.std.specs.Prelude.{◌≡◌, ℕ, ◌+◌, ◌*◌, ◌<◌, ◌≤◌, length, get_or};
 ghost use Rattle.std.specs.Float.{nan};
 ghost use Rattle.planes.specs.Rect.{rows_fill};
@@ -7,7 +9,7 @@ ghost use Rattle.epf_rects.specs.Rects.{taken, Lies, rect_filled, rect_fits, Rec
 use planes::{Layout, copy_run, set_fits};
 
 // Columns x up to x + cols and rows y up to y + rows of the filter region.
-#[derive(Drop)]
+#[derive(Clone, Copy)]
 pub struct Rect {
     pub x: usize,
     pub y: usize,

@@ -2,6 +2,8 @@
 // numbers for contracts.
 
 // The largest number of columns of a tile, and of rows.
+#![tactic(auto)]
+
 pub const LANES: usize = 56;
 
 pub const TILE_ROWS: usize = 8;

@@ -1,5 +1,7 @@
 // The slopes of a tile's columns, from the sigmas of its blocks: first for rows inside a block, then for rows at a
 // block's border.
+#![tactic(auto)]
+
 ghost use Rattle.std.specs.Prelude.{◌≡◌, ℕ, ◌+◌, ◌*◌, ◌<◌, ◌≤◌, length};
 ghost use Rattle.planes.specs.Samples.{◌⊗◌};
 ghost use Rattle.planes.specs.Fill.{fill};

@@ -1,4 +1,6 @@
 // The parts of the formula for one sample of a step of the edge-preserving filter (Specification 11).
+#![tactic(auto)]
+
 ghost use Rattle.std.specs.Prelude.{◌≡◌};
 ghost use Rattle.planes.specs.Samples.{◌⊘◌};
 ghost use Rattle.epf_step.specs.Steps.{positive as positive_of, falloff, weight_by};

@@ -1,4 +1,6 @@
 // A step of the edge-preserving filter in tiles of at most 8 rows of 56 columns, each within one row of blocks.
+#![tactic(auto)]
+
 pub mod strips;
 mod tile;
 
@@ -6,7 +8,7 @@ use planes::Layout;
 
 // The settings of a step: one scale per channel, the step's multiplier as `scale`, the border multiplier as `edge`,
 // and the copying limit.
-#[derive(Drop)]
+#[derive(Clone, Copy)]
 pub struct Step {
     pub step: usize,
     pub scales: [f32; 3],
@@ -17,7 +19,7 @@ pub struct Step {
 
 // What the tiles of a pass share: the layout and the number of planes of its sets, the step's settings, and the y of
 // the filter region's row 0.
-#[derive(Drop)]
+#[derive(Clone, Copy)]
 pub(crate) struct Pass {
     layout: Layout,
     planes: usize,

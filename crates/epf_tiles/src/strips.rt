@@ -16,7 +16,7 @@ use planes::{Layout, set_fits};
 const MAX_TOP: usize = 4_294_967_296;
 
 // Rows y up to y + rows of the filter region.
-#[derive(Drop)]
+#[derive(Clone, Copy)]
 struct RowSpan {
     y: usize,
     rows: usize,

@@ -1,6 +1,8 @@
 // A window on a filter region: the rows and columns around a position in each plane, mirrored at the filter region's
 // edges, as planes of 14 rows of 64 columns. A step mirrors only here. Step 2 away from the edges needs no mirror and
 // reads the planes directly.
+#![tactic(auto)]
+
 mod row;
 
 ghost use Rattle.std.specs.Prelude.{◌≡◌, length};
@@ -19,7 +21,7 @@ const LEFT: usize = 4;
 const ABOVE: usize = 3;
 
 // Rows `top` up to top + rows and the first `cols` columns of a window on column x and row y.
-#[derive(Drop)]
+#[derive(Clone, Copy)]
 struct WindowPart {
     x: usize,
     y: usize,
@@ -29,7 +31,7 @@ struct WindowPart {
 }
 
 // A region of a plane: row 0 starts at index `start`, and rows lie `stride` apart.
-#[derive(Drop)]
+#[derive(Clone, Copy)]
 struct PlaneRegion {
     start: usize,
     stride: usize,

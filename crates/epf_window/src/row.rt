@@ -11,7 +11,7 @@ use mirror::mirrored;
 use planes::copy_run;
 
 // A row that a step reads: the plane, the index where the row starts, and its number of samples.
-#[derive(Drop)]
+#[derive(Clone, Copy)]
 pub(crate) struct EpfInputRow<'a> {
     plane: &'a [f32],
     place: usize,

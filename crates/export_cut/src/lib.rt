@@ -1,4 +1,6 @@
 // The C boundary of cut files: each function passes its arguments on to one function of the library.
+#![tactic(auto)]
+
 ghost use Rattle.std.specs.Prelude.{◌≡◌};
 ghost use Rattle.cut_read.specs.Outcome.{count_outcome, region_outcome, ReadOutcome, read_outcome};
 ghost use Rattle.cut_write.specs.Outcome.{length_outcome, WriteOutcome, write_outcome};

@@ -1,4 +1,6 @@
 // The C boundary of frames and block sigmas: each function passes its arguments on to one function of the library.
+#![tactic(auto)]
+
 ghost use Rattle.std.specs.Prelude.{◌≡◌};
 ghost use Rattle.frame.specs.Outcome.{frame_outcome, split_outcome};
 ghost use Rattle.sigma.specs.Outcome.{SigmasOutcome, sigmas_outcome};

@@ -1,5 +1,7 @@
 // The C boundary of the header: each function passes its arguments on to one function of the library. VarDCT and
 // Modular have separate functions, so the encoding is not an argument.
+#![tactic(auto)]
+
 ghost use Rattle.std.specs.Prelude.{◌≡◌};
 ghost use Rattle.header_epf.specs.EdgeFilter.{epf_at, epf_answer};
 ghost use Rattle.header_epf.specs.declared.Encoding.TheVariants.{VarDct, Modular};

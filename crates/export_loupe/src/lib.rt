@@ -1,4 +1,6 @@
 // The C boundary of the loupe: each function passes its arguments on to one function of the library.
+#![tactic(auto)]
+
 ghost use Rattle.std.specs.Prelude.{◌≡◌};
 ghost use Rattle.loupe_region.specs.Outcome.{widened_outcome};
 ghost use Rattle.loupe.specs.Outcome.{LoupeOutcome, loupe_outcome};

@@ -1,5 +1,7 @@
 // The C boundary of the mirror and of single passes: each function passes its arguments on to one function of the
 // library.
+#![tactic(auto)]
+
 ghost use Rattle.std.specs.Prelude.{◌≡◌};
 ghost use Rattle.epf.specs.Outcome.{epf_outcome};
 ghost use Rattle.gabor.specs.Outcome.{gabor_outcome};

@@ -1,4 +1,6 @@
 // The C boundary of regions: each function passes its arguments on to one function of the library.
+#![tactic(auto)]
+
 ghost use Rattle.std.specs.Prelude.{◌≡◌};
 ghost use Rattle.region.specs.Answers.{is_empty_outcome, right_outcome, bottom_outcome, contains_outcome};
 ghost use Rattle.region_arithmetic.specs.Answers.{translate_outcome, intersection_outcome, pad_outcome};

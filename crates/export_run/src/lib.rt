@@ -1,4 +1,6 @@
 // The C boundary of runs: each function passes its arguments on to one function of the library.
+#![tactic(auto)]
+
 ghost use Rattle.std.specs.Prelude.{◌≡◌};
 ghost use Rattle.run_passes.specs.Plan.{margin_outcome};
 ghost use Rattle.run_outcomes.specs.Start.{StartOutcome, start_outcome};

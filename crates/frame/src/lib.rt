@@ -1,5 +1,7 @@
 // Sample sides, group dimension and shift and LF groups of a frame, and the group and inner cell of a block
 // (Specification 7.1, 7.2).
+#![tactic(auto)]
+
 ghost use Rattle.std.specs.Prelude.{◌≡◌, ◌<◌, ◌≤◌};
 ghost use Rattle.refusals.specs.Checks.{first_of};
 ghost use Rattle.frame.specs.Sizes.{divided_up, sample_side, group_dim_of, groups_along, sizes_of};
@@ -15,7 +17,7 @@ const MAX_GROUP_SIZE_SHIFT: u32 = 3;
 
 // The fields of a frame header that determine its sizes.
 #[repr(C)]
-#[derive(Drop)]
+#[derive(Clone, Copy)]
 pub struct Frame {
     pub width: u32,
     pub height: u32,
@@ -26,7 +28,7 @@ pub struct Frame {
 
 // Sample sides, and the LF groups that they are divided into.
 #[repr(C)]
-#[derive(Drop)]
+#[derive(Clone, Copy)]
 pub struct GroupSizes {
     pub sample_width: u32,
     pub sample_height: u32,
@@ -39,7 +41,7 @@ pub struct GroupSizes {
 
 // The sizes of a frame.
 #[repr(C)]
-#[derive(Drop)]
+#[derive(Clone, Copy)]
 pub struct FrameAnswer {
     pub number: u32,
     pub sizes: GroupSizes,
@@ -47,7 +49,7 @@ pub struct FrameAnswer {
 
 // The group of a column or row of blocks, and the cell in it.
 #[repr(C)]
-#[derive(Drop)]
+#[derive(Clone, Copy)]
 pub struct SplitAnswer {
     pub number: u32,
     pub group: u32,

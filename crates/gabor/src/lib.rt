@@ -1,4 +1,6 @@
 // The pass of the Gabor-like filter (Specification 9.3, 10) over rows of the result region.
+#![tactic(auto)]
+
 mod pass;
 
 ghost use Rattle.std.specs.Prelude.{◌≡◌};

@@ -1,4 +1,6 @@
 // The Gabor-like filter on one plane: rows of a region of a slice.
+#![tactic(auto)]
+
 mod pairs;
 mod reads;
 mod rows;
@@ -14,7 +16,7 @@ use limits::MAX_SIDE;
 use pairs::next_rows;
 
 // A region of a plane: row y of it starts at index at + y * stride of a slice.
-#[derive(Drop)]
+#[derive(Clone, Copy)]
 pub struct PlaneRegion {
     pub at: usize,
     pub stride: usize,

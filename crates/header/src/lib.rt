@@ -1,5 +1,7 @@
 // The Gabor bundle and then the EPF bundle of a frame header, as in the original's `RestorationFilter` (without
 // `all_default` and extensions).
+#![tactic(auto)]
+
 ghost use Rattle.std.specs.Prelude.{◌≡◌};
 ghost use Rattle.header_bits.specs.Outcome.{refused};
 ghost use Rattle.header.specs.Restoration.{restoration_at, restoration_answer};
@@ -9,7 +11,7 @@ use header_gabor::Gabor;
 
 // Both bundles of a frame header.
 #[repr(C)]
-#[derive(Drop)]
+#[derive(Clone, Copy)]
 pub struct RestorationFilter {
     pub gabor: Gabor,
     pub epf: EdgePreservingFilter,
@@ -17,7 +19,7 @@ pub struct RestorationFilter {
 
 // Both bundles, and the next bit position.
 #[repr(C)]
-#[derive(Drop)]
+#[derive(Clone, Copy)]
 pub struct RestorationAnswer {
     pub number: u32,
     pub filter: RestorationFilter,

@@ -1,4 +1,6 @@
 // Bit fields of a header, read from any bit position.
+#![tactic(auto)]
+
 ghost use Rattle.std.specs.Prelude.{◌≡◌, ◌+◌, ◌*◌, ◌<◌, ◌≤◌, length};
 ghost use Rattle.header_bits.specs.Bits.{bit, field, u, bits_outcome};
 
@@ -6,7 +8,7 @@ ghost use Rattle.header_bits.specs.Bits.{bit, field, u, bits_outcome};
 const MAX_BYTES: usize = 65536;
 
 // A bit field: its value and the next bit position, or the number of a refusal.
-#[derive(Drop)]
+#[derive(Clone, Copy)]
 pub enum Bits {
     Value(u32, usize),
     Refused(u32),

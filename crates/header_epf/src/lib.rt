@@ -1,4 +1,6 @@
 // The edge-preserving filter (EPF) bundle of a frame header, read from any bit position.
+#![tactic(auto)]
+
 ghost use Rattle.std.specs.Prelude.{◌≡◌};
 ghost use Rattle.header_bits.specs.Outcome.{refused};
 ghost use Rattle.header_fields.specs.Fields.{read};
@@ -10,7 +12,7 @@ use header_epf_sigma::{EpfSigma, Sigma, read_half_if, read_sigma};
 use header_epf_tables::{read_channel_scale, read_sharp_lut};
 use header_half::Half;
 
-#[derive(Drop)]
+#[derive(Clone, Copy)]
 pub enum Encoding {
     VarDct,
     Modular,
@@ -18,7 +20,7 @@ pub enum Encoding {
 
 // The edge-preserving filter's bundle, as read from a frame header.
 #[repr(C)]
-#[derive(Drop)]
+#[derive(Clone, Copy)]
 pub struct EdgePreservingFilter {
     pub enabled: bool,
     pub iters: u32,
@@ -30,7 +32,7 @@ pub struct EdgePreservingFilter {
 
 // An edge-preserving filter's bundle, and the next bit position.
 #[repr(C)]
-#[derive(Drop)]
+#[derive(Clone, Copy)]
 pub struct EpfAnswer {
     pub number: u32,
     pub epf: EdgePreservingFilter,

@@ -1,4 +1,6 @@
 // The sigma settings of the EPF bundle.
+#![tactic(auto)]
+
 ghost use Rattle.std.specs.Prelude.{◌≡◌, true};
 ghost use Rattle.header_half.specs.Half.{f16, half_outcome};
 ghost use Rattle.header_fields.specs.Fields.{if_there, read};
@@ -9,7 +11,7 @@ use header_half::Half;
 
 // The edge-preserving filter's sigma settings: `quant_mul`, the scales of steps 0 and 2, and that of block borders.
 #[repr(C)]
-#[derive(Drop)]
+#[derive(Clone, Copy)]
 pub struct EpfSigma {
     pub quant_mul: f32,
     pub pass0_sigma_scale: f32,
@@ -18,7 +20,7 @@ pub struct EpfSigma {
 }
 
 // The sigma settings and the next bit position, or the number of a refusal.
-#[derive(Drop)]
+#[derive(Clone, Copy)]
 pub enum Sigma {
     Value(EpfSigma, usize),
     Refused(u32),

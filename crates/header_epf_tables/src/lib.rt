@@ -1,4 +1,6 @@
 // The two arrays of the EPF bundle: the sharpness table and the channel scales.
+#![tactic(auto)]
+
 ghost use Rattle.std.specs.Prelude.{◌≡◌, true, length};
 ghost use Rattle.header_bits.specs.Outcome.{refused};
 ghost use Rattle.header_bits.specs.Bits.{u, bits_outcome};
@@ -10,14 +12,14 @@ ghost use Rattle.header_epf_tables.specs.Place.{place_outcome};
 use header_bits::Bits;
 use header_half::Half;
 
-#[derive(Drop)]
+#[derive(Clone, Copy)]
 pub struct SharpLut {
     pub number: u32,
     pub lut: [f32; 8],
     pub next: usize,
 }
 
-#[derive(Drop)]
+#[derive(Clone, Copy)]
 pub struct ChannelScale {
     pub number: u32,
     pub scale: [f32; 3],
@@ -25,7 +27,7 @@ pub struct ChannelScale {
 }
 
 // The bit position after a reading that fills an array, or the number of a refusal.
-#[derive(Drop)]
+#[derive(Clone, Copy)]
 enum Place {
     Next(usize),
     Refused(u32),

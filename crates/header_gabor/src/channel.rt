@@ -11,7 +11,7 @@ use header_half::Half;
 const EPSILON: f32 = 0.00000011920929;
 
 // The two weights of a channel and the next bit position, or the number of a refusal.
-#[derive(Drop)]
+#[derive(Clone, Copy)]
 pub enum Channel {
     Weights(f32, f32, usize),
     Refused(u32),

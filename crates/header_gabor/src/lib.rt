@@ -1,4 +1,6 @@
 // The Gabor bundle of a frame header, read from any bit position.
+#![tactic(auto)]
+
 pub mod channel;
 
 ghost use Rattle.std.specs.Prelude.{◌≡◌, true};
@@ -11,7 +13,7 @@ use header_bits::Bits;
 
 // Two weights for each of the channels X, Y and B: of the side neighbours and of the diagonal ones.
 #[repr(C)]
-#[derive(Drop)]
+#[derive(Clone, Copy)]
 pub struct Gabor {
     pub enabled: bool,
     pub weights: [[f32; 2]; 3],
@@ -19,7 +21,7 @@ pub struct Gabor {
 
 // A Gabor-like filter's bundle, and the next bit position.
 #[repr(C)]
-#[derive(Drop)]
+#[derive(Clone, Copy)]
 pub struct GaborAnswer {
     pub number: u32,
     pub gabor: Gabor,

@@ -1,4 +1,6 @@
 // Half-precision numbers, read from any bit position of a header.
+#![tactic(auto)]
+
 ghost use Rattle.std.specs.Prelude.{◌≡◌, ◌<◌, leb};
 ghost use Rattle.std.specs.Float.{binary32};
 ghost use Rattle.std.specs.Float.Ieee.{of_fields};
@@ -8,7 +10,7 @@ ghost use Rattle.header_half.specs.Half.{f16, finite, half_outcome, half_answer}
 use header_bits::Bits;
 
 // A half-precision number: its value and the next bit position, or the number of a refusal.
-#[derive(Drop)]
+#[derive(Clone, Copy)]
 pub enum Half {
     Value(f32, usize),
     Refused(u32),
@@ -16,7 +18,7 @@ pub enum Half {
 
 // A half-precision reading as a struct.
 #[repr(C)]
-#[derive(Drop)]
+#[derive(Clone, Copy)]
 pub struct HalfAnswer {
     pub number: u32,
     pub value: f32,

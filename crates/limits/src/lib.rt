@@ -1,4 +1,6 @@
 // Limits of Specification 4.1, sizes that several crates use, and the minimum of two numbers; one per type.
+#![tactic(auto)]
+
 ghost use Rattle.std.specs.Prelude.{◌≡◌, min};
 
 // The longest side of a region or a frame, in samples.

@@ -1,5 +1,7 @@
 // A wanted rectangle of a picture, filtered with what it needs around it (Specification 17.4 to 17.6). A run over the
 // widened rectangle gives the samples; its calls are used by their contracts alone.
+#![tactic(auto)]
+
 ghost use Rattle.std.specs.Prelude.{◌≡◌, ◌*◌, T};
 ghost use Rattle.refusals.specs.Checks.{first_of};
 ghost use Rattle.region.specs.Measures.{picture_fits};

@@ -1,4 +1,6 @@
 // The rectangle of a picture that the filters need for a wanted one (Specification 17.1 to 17.3).
+#![tactic(auto)]
+
 ghost use Rattle.std.specs.Prelude.{◌≡◌, T};
 ghost use Rattle.region.specs.Measures.{bounds_fit};
 ghost use Rattle.region_interval.specs.Interval.{span_of, reaching};
@@ -19,7 +21,7 @@ use run_passes::{MAX_ITERS, Settings, margin};
 // What the loupe shows: the filter region of a whole picture, the wanted rectangle of it, and the settings of the
 // filters.
 #[repr(C)]
-#[derive(Drop)]
+#[derive(Clone, Copy)]
 pub struct LoupeSetup {
     pub whole: Region,
     pub wanted: Region,

@@ -1,4 +1,6 @@
 // The mirrored index of an integer among n samples (Specification 8.1).
+#![tactic(auto)]
+
 ghost use Rattle.std.specs.Prelude.{◌≡◌, pos};
 ghost use Rattle.std.specs.Int.Signed.{mag};
 ghost use Rattle.std.proofs.Math.IntN.{sub_ℕ};
@@ -14,7 +16,7 @@ const MAX_OFFSET: isize = 1_048_576;
 
 // The mirrored place, counted from 0; 0 in a refused call.
 #[repr(C)]
-#[derive(Drop)]
+#[derive(Clone, Copy)]
 pub struct MirrorAnswer {
     pub number: u32,
     pub index: usize,

@@ -1,5 +1,7 @@
 // Planes stored one after another, row by row without gaps: the layout of a filter region in them, and tests that sets
 // and rows fit it.
+#![tactic(auto)]
+
 ghost use Rattle.std.specs.Prelude.{◌≡◌, ℕ, ◌+◌, ◌≤◌, leb, length, get_or};
 ghost use Rattle.std.specs.Float.{nan};
 ghost use Rattle.planes.specs.Fill.{fill};
@@ -12,7 +14,7 @@ use limits::MAX_SIDE;
 pub const PLANES: usize = 3;
 
 // The sides of a region, in samples.
-#[derive(Drop)]
+#[derive(Clone, Copy)]
 pub struct Size {
     pub width: usize,
     pub height: usize,
@@ -20,7 +22,7 @@ pub struct Size {
 
 // The position of a filter region in an image region: `left` and `top` count from the image region's corner.
 // `full`: the result region is the image region (`preserve_outside` is 1), otherwise the filter region.
-#[derive(Drop)]
+#[derive(Clone, Copy)]
 pub struct Layout {
     pub image: Size,
     pub left: usize,

@@ -1,4 +1,6 @@
 // The layout of a filter region in the planes of an image region, which every pass uses.
+#![tactic(auto)]
+
 ghost use Rattle.std.specs.Prelude.{◌≡◌};
 ghost use Rattle.planes_layout.specs.Outcome.{layout_outcome, no_layout};
 
@@ -7,7 +9,7 @@ use refusals::ACCEPTED;
 use region::Region;
 use region_placement::placed;
 
-#[derive(Drop)]
+#[derive(Clone, Copy)]
 pub struct LayoutAnswer {
     pub number: u32,
     pub layout: Layout,

@@ -1,4 +1,6 @@
 // Copies of the samples outside the filter region, which every pass writes besides its filtered samples.
+#![tactic(auto)]
+
 ghost use Rattle.std.specs.Prelude.{◌≡◌, ◌&&◌, ◌+◌, ◌*◌, ◌≤◌, eqb, length};
 ghost use Rattle.planes.specs.Fill.{fill};
 ghost use Rattle.planes.specs.Rect.{rows_fill, planes_fill};

@@ -1,5 +1,7 @@
 // The numbers of Specification 3.1, grouped by where they come from. All other crates use these names;
 // specs/Numbers.antt has the same names for definitions.
+#![tactic(auto)]
+
 ghost use Rattle.std.specs.Prelude.{◌≡◌};
 ghost use Rattle.refusals.specs.Flags.{flag_fits, flag_set};
 

@@ -1,5 +1,7 @@
 // Regions and tests on them (region.rs of the original). Each method checks the given regions against the limits of
 // Specification 4.1.
+#![tactic(auto)]
+
 ghost use Rattle.std.specs.Prelude.{◌≡◌, false, ◌<◌, T, pos};
 ghost use Rattle.std.specs.Int.Signed.{mag};
 ghost use Rattle.refusals.specs.Checks.{first_of};
@@ -14,7 +16,7 @@ use region_interval::Span;
 
 // A rectangle of samples: the column and row of its corner, and its sides. It is empty if a side is 0.
 #[repr(C)]
-#[derive(Drop)]
+#[derive(Clone, Copy)]
 pub struct Region {
     pub left: i32,
     pub top: i32,
@@ -24,7 +26,7 @@ pub struct Region {
 
 // Whether a test of regions holds; false in a refused call.
 #[repr(C)]
-#[derive(Drop)]
+#[derive(Clone, Copy)]
 pub struct BoolAnswer {
     pub number: u32,
     pub holds: bool,
@@ -32,7 +34,7 @@ pub struct BoolAnswer {
 
 // The first column right of a region or the first row below it; 0 in a refused call.
 #[repr(C)]
-#[derive(Drop)]
+#[derive(Clone, Copy)]
 pub struct EdgeAnswer {
     pub number: u32,
     pub edge: i32,

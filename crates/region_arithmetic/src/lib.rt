@@ -1,5 +1,7 @@
 // Operations that return a region (region.rs of the original). Each function checks the given regions and its result
 // against the limits of Specification 4.1.
+#![tactic(auto)]
+
 ghost use Rattle.std.specs.Prelude.{◌≡◌, T};
 ghost use Rattle.region_interval.specs.Interval.{span_of};
 ghost use Rattle.region_interval.specs.Overlap.{meet};
@@ -16,7 +18,7 @@ use region_interval::{LARGEST_EXPONENT, Span};
 
 // A region made from others; zeros in a refused call.
 #[repr(C)]
-#[derive(Drop)]
+#[derive(Clone, Copy)]
 pub struct RegionAnswer {
     pub number: u32,
     pub region: Region,

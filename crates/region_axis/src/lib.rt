@@ -1,5 +1,7 @@
 // The limits of one axis (Specification 4.1): an interval as a start and a length, if it is within them, and the
 // distance of two positions.
+#![tactic(auto)]
+
 ghost use Rattle.std.specs.Prelude.{◌≡◌, false, ◌<◌, pos, nat_abs, ◌-ℤ◌};
 ghost use Rattle.std.specs.Int.Signed.{mag};
 ghost use Rattle.region_axis.specs.Measures.{corner_fits, axis_of};
@@ -8,7 +10,7 @@ use limits::MAX_SIDE_U64;
 use region_interval::Span;
 
 // A span within the limits, as the start and length that a region has.
-#[derive(Drop)]
+#[derive(Clone, Copy)]
 pub struct Axis {
     pub ok: bool,
     pub start: i32,

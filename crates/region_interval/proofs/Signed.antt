@@ -23,7 +23,7 @@ mag-ceil z m = omega (arith, mag-neg (floor_div (neg_ℤ z) m), mag-floor (neg_�
 
 -- an integer in range of i64 is unchanged
 pub back : (z : ℤ) → mag z < 9223372036854775808 → to_z w64 (of_z w64 z) ≡ z
-back z h = to_z-of_z (record { sfits = h })
+back z h = to_z-of_z {w = w64} {z = z} (record { sfits = h })
 
 pub in64 : (n : ℕ) {z : ℤ} → mag z < n → n ≤ 9223372036854775808 → SFits w64 z
 in64 n h k = record { sfits = omega arith }
@@ -32,7 +32,7 @@ pub wider : {z : ℤ} → SFits w32 z → SFits w64 z
 wider h = record { sfits = omega (arith, h.sfits) }
 
 pub shifted : {z : ℤ} (m : ℕ) → SFits w64 z → to_z w64 (of_z w64 (shr_z (to_z w64 (of_z w64 z)) m)) ≡ floor_div z m
-shifted {z} m h = rw (to_z-of_z h) (to_z-of_z (record { sfits = omega (arith, h.sfits, mag_shr z m) }) ∙ same z)
+shifted {z} m h = rw (to_z-of_z h) (to_z-of_z {w = w64} {z = shr_z z m} (record { sfits = omega (arith, h.sfits, mag_shr z m) }) ∙ same z)
   where
     same : (z : ℤ) → shr_z z m ≡ floor_div z m
     same (pos a) = refl

@@ -1,4 +1,6 @@
 // One axis of a region: the positions p with start ≤ p < end, on integers wide enough that nothing overflows.
+#![tactic(auto)]
+
 pub mod overlap;
 
 ghost use Rattle.std.specs.Prelude.{◌≡◌, ◌+◌, ◌≤◌, ◌<◌, ◌^◌, min, pos, neg_ℤ, ◌+ℤ◌, ◌*ℤ◌};
@@ -8,7 +10,7 @@ ghost use Rattle.region_interval.specs.Interval.{span_of, moved, padded, reachin
 
 use limits::min_u32;
 
-#[derive(Drop)]
+#[derive(Clone, Copy)]
 pub struct Span {
     pub start: i64,
     pub end: i64,

@@ -1,4 +1,6 @@
 // The position of a filter region in an image region, and whether it starts at multiples of 8.
+#![tactic(auto)]
+
 ghost use Rattle.std.specs.Prelude.{◌≡◌, ◌≤◌};
 ghost use Rattle.region.specs.Measures.{picture_fits, area_fits, rectangle_fits};
 ghost use Rattle.region_placement.specs.Placed.{placed_outcome};
@@ -10,7 +12,7 @@ use region::{Region, bounds_fit};
 
 // Columns and rows from the image region's corner.
 #[repr(C)]
-#[derive(Drop)]
+#[derive(Clone, Copy)]
 pub struct PlacedAnswer {
     pub number: u32,
     pub x: u32,

@@ -11,7 +11,7 @@ use header_gabor::Gabor;
 // Every header of the list is shorter.
 const MOST_BYTES: usize = 64;
 
-#[derive(Drop)]
+#[derive(Clone, Copy)]
 pub enum Reader {
     Half,
     Gabor,

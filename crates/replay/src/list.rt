@@ -5,13 +5,13 @@ ghost use Rattle.std.specs.Prelude.{◌≤◌, length};
 use crate::subjects::Subject;
 use replay_text::Number;
 
-#[derive(Drop)]
+#[derive(Clone, Copy)]
 pub struct Tally {
     pub rows: u64,
     pub differ: u64,
 }
 
-#[derive(Drop)]
+#[derive(Clone, Copy)]
 enum Count {
     Of(usize),
     Malformed,

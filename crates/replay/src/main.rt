@@ -1,4 +1,6 @@
 // Compares the proved functions with a list of the original's answers, read from standard input.
+#![tactic(auto)]
+
 mod forms;
 mod headers;
 mod list;

@@ -2,7 +2,7 @@
 use crate::headers::Reader;
 use crate::{headers, regions, sizes};
 
-#[derive(Drop)]
+#[derive(Clone, Copy)]
 pub enum Subject {
     IsEmpty,
     Right,

@@ -1,9 +1,11 @@
 // Rows of text: the end of a word or a line, and the number that a word denotes.
+#![tactic(auto)]
+
 ghost use Rattle.std.specs.Prelude.{◌≡◌, ◌≤◌, drop};
 ghost use Rattle.replay_text.specs.Words.{end_of};
 ghost use Rattle.replay_text.specs.Numbers.{digit_of, value_of, spelled, number_of};
 
-#[derive(Drop)]
+#[derive(Clone, Copy)]
 pub enum Number {
     Value(i64),
     Malformed,

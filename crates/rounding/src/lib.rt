@@ -1,4 +1,6 @@
 // Arithmetic on binary32 numbers that is correct for all values, infinities and NaN included.
+#![tactic(auto)]
+
 ghost use Rattle.std.specs.Prelude.{◌≡◌};
 ghost use Rattle.std.specs.Float.{binary32};
 ghost use Rattle.std.specs.Float.Ieee.{sub};

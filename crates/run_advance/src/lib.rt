@@ -1,4 +1,6 @@
 // The advance call of a run.
+#![tactic(auto)]
+
 ghost use Rattle.std.specs.Prelude.{◌≡◌, ◌<◌};
 ghost use Rattle.run_record.specs.Record.{advanced};
 ghost use Rattle.run_outcomes.specs.Band.{advance_outcome};

@@ -1,4 +1,6 @@
 // The band call of a run.
+#![tactic(auto)]
+
 ghost use Rattle.std.specs.Prelude.{◌≡◌, ◌∷◌, ◌<◌, length};
 ghost use Rattle.refusals.specs.Checks.{first_of};
 ghost use Rattle.run_setup.specs.Setup.{max_bands};

@@ -1,5 +1,7 @@
 // Runs: the answers of the calls, and the lengths of the slices that they are given. The outcomes of start, band,
 // advance and result are defined in specs/.
+#![tactic(auto)]
+
 ghost use Rattle.std.specs.Prelude.{◌≡◌, true, ◌*◌};
 ghost use Rattle.refusals.specs.Checks.{applies};
 ghost use Rattle.run_setup.specs.Setup.{size_fits, result_region};
@@ -17,7 +19,7 @@ use sigma_groups::blocks::blocks_along;
 // The number and the record after the call. A refused band or advance returns the record that it was given, a refused
 // start returns zeros.
 #[repr(C)]
-#[derive(Drop)]
+#[derive(Clone, Copy)]
 pub struct RunAnswer {
     pub number: u32,
     pub run: Run,

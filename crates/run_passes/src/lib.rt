@@ -1,4 +1,6 @@
 // The passes of the settings, in order, and how far they read together.
+#![tactic(auto)]
+
 ghost use Rattle.std.specs.Prelude.{◌≡◌, ◌≤◌, length};
 ghost use Rattle.refusals.specs.Numbers.{out_of_range};
 ghost use Rattle.run_passes.specs.Plan.{plan, gabor_on, one_if, step_margin, margin, margin_outcome};
@@ -11,7 +13,7 @@ use refusals::{ACCEPTED, OUT_OF_RANGE, flag_fits, flag_set};
 // The Gabor-like filter. `enabled` is a flag: 1 is on, 0 is off. `weights` has two weights for each of the channels
 // X, Y and B: of the side neighbours and of the diagonal ones.
 #[repr(C)]
-#[derive(Drop)]
+#[derive(Clone, Copy)]
 pub struct GaborSettings {
     pub enabled: u32,
     pub weights: [[f32; 2]; 3],
@@ -19,7 +21,7 @@ pub struct GaborSettings {
 
 // The edge-preserving filter: off with 0 iterations, on with 1 to 3.
 #[repr(C)]
-#[derive(Drop)]
+#[derive(Clone, Copy)]
 pub struct EpfSettings {
     pub iters: u32,
     pub channel_scale: [f32; 3],
@@ -29,7 +31,7 @@ pub struct EpfSettings {
 
 // The settings of both filters.
 #[repr(C)]
-#[derive(Drop)]
+#[derive(Clone, Copy)]
 pub struct Settings {
     pub gabor: GaborSettings,
     pub epf: EpfSettings,
@@ -37,7 +39,7 @@ pub struct Settings {
 
 // The margin in samples; 0 in a refused call.
 #[repr(C)]
-#[derive(Drop)]
+#[derive(Clone, Copy)]
 pub struct MarginAnswer {
     pub number: u32,
     pub margin: u32,

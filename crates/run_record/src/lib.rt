@@ -1,5 +1,7 @@
 // The record of a run: the setup, the number of completed passes, and the done bands of the next pass. Calls take it
 // by value and return it by value.
+#![tactic(auto)]
+
 ghost use Rattle.std.specs.Prelude.{◌≡◌, not, ℕ, ◌<◌, ◌≤◌, get_or};
 ghost use Rattle.refusals.specs.Checks.{first_of};
 ghost use Rattle.sigma_grids.specs.Table.{some_below};
@@ -14,7 +16,7 @@ use run_setup::{MAX_BANDS, Setup, band_count, setup_fits};
 // The record of a run. `pass` counts the completed passes. `done` has one flag per band of the next pass: 1 if the
 // band is done.
 #[repr(C)]
-#[derive(Drop)]
+#[derive(Clone, Copy)]
 pub struct Run {
     pub setup: Setup,
     pub pass: u32,

@@ -1,5 +1,7 @@
 // The result of a finished run: the result region of the set that the next pass would read, copied plane by plane
 // (Specification 12.11).
+#![tactic(auto)]
+
 ghost use Rattle.std.specs.Prelude.{◌≡◌, ◌+◌, ◌*◌, ◌≤◌, length};
 ghost use Rattle.planes.specs.Rect.{rows_fill, planes_fill};
 ghost use Rattle.planes.specs.Fits.{LayoutFits};

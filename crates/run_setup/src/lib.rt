@@ -1,4 +1,6 @@
 // The setup of a run: which values are in range, and the rows and bands of the result region.
+#![tactic(auto)]
+
 ghost use Rattle.std.specs.Prelude.{◌≡◌, ◌<◌};
 ghost use Rattle.run_setup.specs.Setup.{row_count, size_fits, band_count, blocks_fit, height_fits};
 ghost use Rattle.run_setup.specs.Setup.{numbers_fit, setup_fits};
@@ -16,7 +18,7 @@ pub const MAX_BANDS: usize = 256;
 // is 1, the filter region if it is 0. `band_height` is the number of rows of the result region in a band; the last
 // band may have fewer.
 #[repr(C)]
-#[derive(Drop)]
+#[derive(Clone, Copy)]
 pub struct Setup {
     pub image: Region,
     pub filter: Region,

@@ -1,4 +1,6 @@
 // Start: checks all arguments before anything is written, and makes the record of the run.
+#![tactic(auto)]
+
 ghost use Rattle.std.specs.Prelude.{◌≡◌, ◌&&◌, not};
 ghost use Rattle.refusals.specs.Checks.{first_of};
 ghost use Rattle.region.specs.Regions.{zero_region};

@@ -1,4 +1,6 @@
 // The sigma of each block of a filter region, from the frame's groups and their grids (Specification 7.6).
+#![tactic(auto)]
+
 ghost use Rattle.std.specs.Prelude.{◌≡◌, ℕ, ◌+◌, ◌*◌, ◌<◌, ◌≤◌, length};
 ghost use Rattle.planes.specs.Fill.{fill};
 ghost use Rattle.frame.specs.Sizes.{group_of, sizes_of};
@@ -48,7 +50,7 @@ fn fill_missing(modular: f32, across: u32, sigmas: &mut [f32], at: usize, n: u32
 }
 
 // A part of a row of blocks that lies in one group: the group, the cell of the first block, the number of blocks.
-#[derive(Drop)]
+#[derive(Clone, Copy)]
 struct Run {
     group: u32,
     column: u32,
@@ -102,7 +104,7 @@ fn run_at(frame: Frame, sizes: GroupSizes, bx: u32, by: u32, limit: u32) -> Run
 }
 
 // A row of blocks of the filter region: its first block (left, by) in the frame, and the number of blocks across.
-#[derive(Drop)]
+#[derive(Clone, Copy)]
 struct BlockRow {
     left: u32,
     by: u32,

@@ -1,4 +1,6 @@
 // The group table of a frame, and where each group's grid starts in the grids slice (Specification 7.4).
+#![tactic(auto)]
+
 ghost use Rattle.std.specs.Prelude.{◌≡◌, false, ◌+◌, ◌*◌, ◌≤◌, length};
 ghost use Rattle.sigma_grids.specs.Table.{bad_grid_side, bad_grid, cells, grid_start, some_below};
 ghost use Rattle.sigma_grids.specs.Start.{start_outcome};
@@ -14,7 +16,7 @@ pub const PRESENT: u32 = 1;
 const MAX_TABLE: usize = 768;
 
 #[repr(C)]
-#[derive(Drop)]
+#[derive(Clone, Copy)]
 pub struct StartAnswer {
     pub number: u32,
     pub start: usize,

@@ -10,7 +10,7 @@ const MAX_BLOCK: u32 = 131_072;
 
 // A filter region whose left and top are multiples of 8. Left and top are in blocks, width and height in samples.
 #[repr(C)]
-#[derive(Drop)]
+#[derive(Clone, Copy)]
 pub struct Blocks {
     pub left: u32,
     pub top: u32,

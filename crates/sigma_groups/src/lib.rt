@@ -1,4 +1,6 @@
 // Whether the grids hold a filter region's blocks, and the number of `block_sigmas` (Specification 7.7, 7.9).
+#![tactic(auto)]
+
 pub mod blocks;
 
 ghost use Rattle.std.specs.Prelude.{◌≡◌, not, ◌&&◌, ℕ, ◌+◌, ◌*◌, ◌≤◌, eqb, length};

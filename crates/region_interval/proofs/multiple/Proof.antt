@@ -28,12 +28,12 @@ far c = omega (arith, mag-mul c.args.q (2 ^ c.args.f), bound (mag c.args.q) c.ar
 fits : (c : tie.Start) → SFits w64 (c.args.q *ℤ pos (2 ^ c.args.f))
 fits c = record { sfits = omega (arith, far c) }
 
-mul-result : tie.Need-overflow-mul-result
+mul-result : tie.Need-overflow_mul-result
 mul-result c = rw (to_z-of_z c.ranges.q, power64 c.args.f c.requires.0) (fits c)
 
 returns : tie.Need-returns
 returns c =
     rw (to_z-of_z c.ranges.q, power64 c.args.f c.requires.0, to_z-of_z (fits c)) refl
 
-pub multiple-spec : {M : Type 1} → statement M
-multiple-spec = tie.close (tie.spec (λ c. search rules) (λ c. search rules) mul-result returns)
+pub multiple_spec : {M : Type 1} → statement M
+multiple_spec = tie.close (tie.spec (λ c. search rules) (λ c. search rules) mul-result returns)

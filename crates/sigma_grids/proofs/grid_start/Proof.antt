@@ -29,38 +29,38 @@ module _ (t : List ℕ) (g : ℕ) (r : StartAnswer) where
   unfolding no_entries
   outside e l m b = e ∙ rw (le-ltb 768 (length t) l, le-ltb (length t) (3 * g) m, b)
 
-returns : tie.Need-returns
+returns : tie.Need-returns-then-table-gt-MAX_TABLE
 returns c =
     let d = c.before in
     let s = d.before.before.args in
-    long s.table.now s.group _ c.no_start.ensures d.if1.true
+    long s.table.now s.group _ c.no_start.ensures d.if-table-gt-MAX_TABLE.true
 
-returns-2 : tie.Need-returns-2
+returns-2 : tie.Need-returns-then-table-before
 returns-2 c =
     let d = c.before in
     let s = d.before.before.before.args in
-    short s.table.now s.group _ c.no-start2.ensures d.before.if1.false d.if2.true
+    short s.table.now s.group _ c.no_start-then-table-before.ensures d.before.if-table-gt-MAX_TABLE.false d.if-table-before.true
 
-returns-3 : tie.Need-returns-3
+returns-3 : tie.Need-returns-then-some_bad_grid
 returns-3 c =
     let d = c.before.before in
     let e = d.before in
     let s = e.before.before.before.args in
-    outside s.table.now s.group _ c.no-start3.ensures e.before.if1.false e.if2.false (sym d.some-bad-grid.ensures ∙ c.before.if3.true)
+    outside s.table.now s.group _ c.no_start-then-some_bad_grid.ensures e.before.if-table-gt-MAX_TABLE.false e.if-table-before.false (sym d.some_bad_grid.ensures ∙ c.before.if-some_bad_grid.true)
 
-module _ (c : tie.Else3) where
+module _ (c : tie.Else-some_bad_grid) where
   good : some_below c.before.before.before.before.before.args.group (bad_grid c.before.before.before.before.before.args.table.now) ≡ false
-  good = sym c.before.some-bad-grid.ensures ∙ c.if3.false
+  good = sym c.before.some_bad_grid.ensures ∙ c.if-some_bad_grid.false
 
-returns-4 : tie.Need-returns-4
+returns-4 : tie.Need-returns
 returns-4 c =
     let d = c.before in
     let e = d.before.before in
     let s = e.before.before.before.args in
-    rw c.cells-before.ensures (sym (start-accepted s.table.now s.group e.before.if1.false e.if2.false (good d)))
+    rw c.cells_before.ensures (sym (start-accepted s.table.now s.group e.before.if-table-gt-MAX_TABLE.false e.if-table-before.false (good d)))
 
-pub grid-start-spec : {M : Type 1} → statement M
-grid-start-spec =
+pub grid_start_spec : {M : Type 1} → statement M
+grid_start_spec =
     tie.close
     (tie.spec
     (λ c κs. search rules)
