@@ -11,15 +11,15 @@ use Rattle.header_half.proofs.read_f16_as_f32.Goals as goal
 pub finite_half-requires : goal.finite_half-requires
 finite_half-requires c =
     u-below c.args.bytes.now _ 16 _ _
-    (ap bits_outcome (sym c.half-1.given.1) ∙ c.read_u16.ensures)
+    c.in-Value.ensures
 
 pub returns-in-Value : goal.returns-in-Value
 unfolding f16
 returns-in-Value c =
     c.finite_half.ensures
     ∙ ap (λ (o : Outcome ℕ). and_then o finite)
-    (ap bits_outcome (sym c.half-1.given.1) ∙ c.read_u16.ensures)
+    c.in-Value.ensures
 
 pub returns-in-Refused : goal.returns-in-Refused
 unfolding f16
-returns-in-Refused c = ap (λ (o : Outcome ℕ). and_then o finite) (ap bits_outcome (sym c.number-1.given.1) ∙ c.read_u16.ensures)
+returns-in-Refused c = ap (λ (o : Outcome ℕ). and_then o finite) c.in-Refused.ensures

@@ -8,7 +8,7 @@ use Rattle.planes.proofs.Loop.{Written, written_none, written-more, written_all}
 use Rattle.planes.proofs.copy_samples.Given as goal
 
 abbrev pub invariant-loop-i : goal.invariant-loop-i
-invariant-loop-i l = Written l.initial.dst l.dst l.from (λ (j : ℕ). get_or l.l.dst (l.l.l.dst + j) nan) l.initial.i l.i
+invariant-loop-i l = Written l.initial.dst l.at l.n (λ (j : ℕ). get_or l.src (l.from + j) nan) l.dst l.i
 
 abbrev pub decreases-loop-i : goal.decreases-loop-i
-decreases-loop-i l = l.from - l.i
+decreases-loop-i l = l.n - l.i

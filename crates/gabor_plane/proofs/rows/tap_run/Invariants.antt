@@ -1,0 +1,13 @@
+-- `gabor_plane::rows::tap_run` meets its contract. The invariant: j is at most n, and the first j samples are written to `dst`. Assumes nothing.
+use Prim.Native.Nat.{◌-◌}
+use native.Mathlib.Omega.{arith}
+use Rattle.planes.proofs.Loop.{Written, written_none, written-more, written_all}
+use Rattle.gabor_kernel.specs.Ends.{inner}
+use Rattle.gabor_plane.specs.Rows.{inner_sample}
+use Rattle.gabor_plane.proofs.rows.tap_run.Given as goal
+
+abbrev pub invariant-loop-j : goal.invariant-loop-j
+invariant-loop-j l = Written l.initial.dst l.o l.n (inner_sample l.src l.t l.c l.b l.k inner) l.dst l.j
+
+abbrev pub decreases-loop-j : goal.decreases-loop-j
+decreases-loop-j l = l.n - l.j

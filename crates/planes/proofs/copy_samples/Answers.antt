@@ -1,0 +1,16 @@
+use mathlib.Core.Path.{refl}
+use Prim.Native.Nat.{ℕ, ◌+◌, ◌-◌}
+use native.Mathlib.Omega.{arith}
+use lib.ListN.{get_or}
+use lib.Ieee.{nan}
+use Rattle.planes.proofs.Loop.{Written, written_none, written-more, written_all}
+use Rattle.planes.proofs.copy_samples.Goals as goal
+
+pub loop-i-init : goal.loop-i-init
+loop-i-init c = written_none _ _ _ _
+
+pub loop-i-preserved : goal.loop-i-preserved
+loop-i-preserved c = written-more c.loop-i.invariant (omega arith) refl
+
+pub returns : goal.returns
+returns c = written_all c.loop-i.invariant c.loop-i-test.false

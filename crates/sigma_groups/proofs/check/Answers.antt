@@ -1,0 +1,102 @@
+-- `sigma_groups::check` meets its contract: each return has the number of the first check that applies. Assumes nothing.
+use mathlib.Core.Path.{◌≡◌, sym, ap, ◌∙◌}
+use mathlib.Core.Bool.{true, false, cond}
+use mathlib.Core.List.{List}
+use Prim.Native.Nat.{ℕ}
+use borrow.Author.Rules.{rules}
+use lib.Ieee.{Float}
+use Rattle.refusals.specs.Numbers.{accepted, out_of_limits, out_of_range}
+use Rattle.frame.specs.declared.Frame.{Frame}
+use Rattle.frame.specs.declared.FrameAnswer.{FrameAnswer}
+use Rattle.frame.proofs.Laws.{frame-sizes}
+use Rattle.sigma_groups.specs.declared.blocks.Blocks.{Blocks}
+use Rattle.frame.specs.Outcome.{bad_sides, bad_settings}
+use Rattle.sigma_groups.specs.Measures.{bad_blocks}
+use Rattle.sigma_groups.proofs.BlocksFit.{fits-blocks}
+use Rattle.sigma_groups.proofs.Laws.{sides-bad, sides-fit, settings-bad, settings-fit}
+use Rattle.sigma_groups.proofs.Number as number
+use Rattle.sigma_groups.proofs.check.Goals as goal
+
+pub returns-then-answer-eq-OUT_OF_LIMITS : goal.returns-then-answer-eq-OUT_OF_LIMITS
+returns-then-answer-eq-OUT_OF_LIMITS c =
+    let f : Frame = c.args.frame in
+    let t : List ℕ = c.args.table.now in
+    let grids : List Float = c.args.grids.now in
+    let b : Blocks = c.args.blocks in
+    let n : ℕ = c.args.sigmas_len in
+    let number_is : c.group_sizes-answer.result.number ≡ cond (bad_sides f) out_of_limits (cond (bad_settings f) out_of_range accepted) = ap (λ (a : FrameAnswer). a.number) c.group_sizes-answer.ensures in
+    let s = c in
+    number.sides-out s.args.on (f s) (b s) (t s) (grids s) (n s) (sides-bad (bad_sides (f s)) (bad_settings (f s)) (sym number_is ∙ c.if-answer-eq-OUT_OF_LIMITS.true))
+
+-- after the test of the frame's sides
+
+pub returns-then-bad_blocks : goal.returns-then-bad_blocks
+returns-then-bad_blocks c =
+    let f : Frame = c.args.frame in
+    let t : List ℕ = c.args.table.now in
+    let grids : List Float = c.args.grids.now in
+    let b : Blocks = c.args.blocks in
+    let n : ℕ = c.args.sigmas_len in
+    let number_is : c.group_sizes-answer.result.number ≡ cond (bad_sides f) out_of_limits (cond (bad_settings f) out_of_range accepted) = ap (λ (a : FrameAnswer). a.number) c.group_sizes-answer.ensures in
+    let sides-good : bad_sides f ≡ false = sides-fit (bad_sides f) (bad_settings f) (λ e. c.if-answer-eq-OUT_OF_LIMITS.false (number_is ∙ e)) in
+    let s = c in
+    number.blocks-out s.args.on (f s) (b s) (t s) (grids s) (n s) sides-good (sym c.bad_blocks.ensures ∙ c.if-bad_blocks.true)
+
+-- after the test of the filter region
+
+pub check_table-requires : goal.check_table-requires
+check_table-requires c =
+    let f : Frame = c.args.frame in
+    let b : Blocks = c.args.blocks in
+    let number_is : c.group_sizes-answer.result.number ≡ cond (bad_sides f) out_of_limits (cond (bad_settings f) out_of_range accepted) = ap (λ (a : FrameAnswer). a.number) c.group_sizes-answer.ensures in
+    let blocks-good : bad_blocks b ≡ false = sym c.bad_blocks.ensures ∙ c.if-bad_blocks.false in
+    let d = c in
+    let z = settings-fit (bad_sides (f (c d))) (bad_settings (f (c d))) (sym (number_is d) ∙ c.if-answer-eq-ACCEPTED.true) in
+    record {
+      sides = z.0;
+      settings = z.1;
+      blocks = blocks-good;
+      sizes-are =
+          ap (λ (a : FrameAnswer). a.sizes-1) d.group_sizes-answer.ensures
+          ∙ frame-sizes (f (c d)) (sym (ap (λ (a : FrameAnswer). a.number) d.group_sizes-answer.ensures) ∙ c.if-answer-eq-ACCEPTED.true);
+    }
+
+-- settings out of range
+
+pub returns-then-bad_count : goal.returns-then-bad_count
+returns-then-bad_count c =
+    let f : Frame = c.args.frame in
+    let t : List ℕ = c.args.table.now in
+    let grids : List Float = c.args.grids.now in
+    let b : Blocks = c.args.blocks in
+    let n : ℕ = c.args.sigmas_len in
+    let number_is : c.group_sizes-answer.result.number ≡ cond (bad_sides f) out_of_limits (cond (bad_settings f) out_of_range accepted) = ap (λ (a : FrameAnswer). a.number) c.group_sizes-answer.ensures in
+    let sides-good : bad_sides f ≡ false = sides-fit (bad_sides f) (bad_settings f) (λ e. c.if-answer-eq-OUT_OF_LIMITS.false (number_is ∙ e)) in
+    let blocks-good : bad_blocks b ≡ false = sym c.bad_blocks.ensures ∙ c.if-bad_blocks.false in
+    let settings-bad3 : bad_settings f ≡ true = let d = c c in
+    settings-bad (bad_sides f) (bad_settings f) (λ e. c.if-answer-eq-OUT_OF_LIMITS.false (number_is d ∙ e)) (λ e. c.if-answer-eq-ACCEPTED.false (number_is d ∙ e)) in
+    let s = c in
+    number.count-wrong s.args.on (f s) (b s) (t s) (grids s) (n s) sides-good blocks-good settings-bad3
+    (sym c.bad_count.ensures ∙ c.if-bad_count.true)
+
+pub returns : goal.returns
+returns c =
+    let f : Frame = c.args.frame in
+    let t : List ℕ = c.args.table.now in
+    let grids : List Float = c.args.grids.now in
+    let b : Blocks = c.args.blocks in
+    let n : ℕ = c.args.sigmas_len in
+    let number_is : c.group_sizes-answer.result.number ≡ cond (bad_sides f) out_of_limits (cond (bad_settings f) out_of_range accepted) = ap (λ (a : FrameAnswer). a.number) c.group_sizes-answer.ensures in
+    let sides-good : bad_sides f ≡ false = sides-fit (bad_sides f) (bad_settings f) (λ e. c.if-answer-eq-OUT_OF_LIMITS.false (number_is ∙ e)) in
+    let blocks-good : bad_blocks b ≡ false = sym c.bad_blocks.ensures ∙ c.if-bad_blocks.false in
+    let settings-bad3 : bad_settings f ≡ true = let d = c c in
+    settings-bad (bad_sides f) (bad_settings f) (λ e. c.if-answer-eq-OUT_OF_LIMITS.false (number_is d ∙ e)) (λ e. c.if-answer-eq-ACCEPTED.false (number_is d ∙ e)) in
+    let s = c in
+    number.settings-out s.args.on (f s) (b s) (t s) (grids s) (n s) sides-good blocks-good settings-bad3
+    (sym c.bad_count.ensures ∙ c.if-bad_count.false)
+
+pub bad_count-requires : goal.bad_count-requires
+bad_count-requires c =
+    let b : Blocks = c.args.blocks in
+    let blocks-good : bad_blocks b ≡ false = sym c.bad_blocks.ensures ∙ c.if-bad_blocks.false in
+    fits-blocks b blocks-good

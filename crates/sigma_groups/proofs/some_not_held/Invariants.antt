@@ -1,0 +1,17 @@
+-- `sigma_groups::some_not_held` meets its contract. The invariant: each block above row y is held. Assumes nothing.
+use mathlib.Core.Path.{◌≡◌, refl, sym, ◌∙◌}
+use mathlib.Core.Bool.{false}
+use Prim.Native.Nat.{ℕ, ◌+◌, ◌-◌, ◌≤◌}
+use borrow.Author.Rules.{rules}
+use native.Mathlib.Omega.{arith}
+use Rattle.sigma_grids.specs.Table.{some_below}
+use Rattle.sigma_groups.specs.Held.{not_held, some_not_held}
+use Rattle.sigma_groups.proofs.BlocksFit.{across-le}
+use Rattle.sigma_grids.proofs.Laws.{some-found, some_turn, some_end}
+use Rattle.sigma_groups.proofs.some_not_held.Given as goal
+
+abbrev pub invariant-loop-y : goal.invariant-loop-y
+invariant-loop-y l = (l.y ≤ l.down) × (some_below l.y (λ (j : ℕ). some_below l.across (λ (i : ℕ). not_held l.frame l.table (l.blocks.left + i) (l.blocks.top + j))) ≡ false)
+
+abbrev pub decreases-loop-y : goal.decreases-loop-y
+decreases-loop-y l = l.down - l.y
