@@ -95,19 +95,19 @@ magnitude-side (fin s m e) = inl refl
 module _ (v : Around) (k : Offset) where
   apart-side : (ds : List Offset) (c : ℕ) → Side false (apart ds v c k)
   unfolding apart along
-  apart-side ds c = go b0 ds zero-side
+  apart-side ds c = go ds b0 zero-side
     where
-      go : (a : Float) (ds : List Offset) → Side false a → Side false (along (λ (a : Float) (i : Offset). a ⊕ magnitude (v c (k.0 +ℤ i.0) (k.1 +ℤ i.1) ⊖ v c i.0 i.1)) a ds)
-      go a [] h = h
-      go a (i ∷ ds) h = go _ ds (add-side binary32 false a _ h (magnitude-side _))
+      go : (ds : List Offset) (a : Float) → Side false a → Side false (along (λ (a : Float) (i : Offset). a ⊕ magnitude (v c (k.0 +ℤ i.0) (k.1 +ℤ i.1) ⊖ v c i.0 i.1)) a ds)
+      go [] a h = h
+      go (i ∷ ds) a h = go ds _ (add-side binary32 false a _ h (magnitude-side _))
 
   distance-side : (ds : List Offset) (cs : List Scaled) → ScalesNotNegative cs → Side false (distance cs ds v k)
   unfolding distance along
-  distance-side ds cs p = go b0 cs zero-side p
+  distance-side ds cs p = go cs b0 zero-side p
     where
-      go : (d : Float) (cs : List Scaled) → Side false d → ScalesNotNegative cs → Side false (along (λ (d : Float) (c : Scaled). d ⊕ c.1 ⊗ apart ds v c.0 k) d cs)
-      go d [] h p = h
-      go d (c ∷ cs) h p = go _ cs (add-side binary32 false d _ h (mul-side binary32 false false c.1 _ (side-of c.1 p.0) (apart-side ds c.0))) p.1
+      go : (cs : List Scaled) (d : Float) → Side false d → ScalesNotNegative cs → Side false (along (λ (d : Float) (c : Scaled). d ⊕ c.1 ⊗ apart ds v c.0 k) d cs)
+      go [] d h p = h
+      go (c ∷ cs) d h p = go cs _ (add-side binary32 false d _ h (mul-side binary32 false false c.1 _ (side-of c.1 p.0) (apart-side ds c.0))) p.1
 
 -- ---- 1 plus a number that is not above zero, with negatives replaced by 0
 
