@@ -1,10 +1,7 @@
-use mathlib.Core.Path.{◌≡◌, refl, ◌∙◌}
-use Prim.Native.Nat.{◌-◌, ◌≤◌}
+use mathlib.Core.Path.{refl, ◌∙◌}
 use native.Mathlib.Omega.{arith}
-use lib.ListN.{length}
 use Rattle.planes.specs.Rect.{planes_fill}
 use Rattle.planes.proofs.Rect.{planes-end}
-use Rattle.planes.specs.Outside.{planes_outside_of}
 use Rattle.planes.proofs.Outside.{plane-next}
 use Rattle.planes.proofs.Room.{RowsRoom, rows-room}
 use Rattle.planes_outside.proofs.copy_planes_outside.Goals as goal

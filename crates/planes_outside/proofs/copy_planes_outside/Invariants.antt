@@ -1,13 +1,9 @@
 -- `planes_outside::copy_planes_outside` meets its contract. The invariant: c planes of n are written. Assumes nothing.
-use mathlib.Core.Path.{◌≡◌, refl, ◌∙◌}
+use mathlib.Core.Path.{◌≡◌}
 use Prim.Native.Nat.{◌-◌, ◌≤◌}
-use native.Mathlib.Omega.{arith}
 use lib.ListN.{length}
 use Rattle.planes.specs.Rect.{planes_fill}
-use Rattle.planes.proofs.Rect.{planes-end}
 use Rattle.planes.specs.Outside.{planes_outside_of}
-use Rattle.planes.proofs.Outside.{plane-next}
-use Rattle.planes.proofs.Room.{RowsRoom, rows-room}
 use Rattle.planes_outside.proofs.copy_planes_outside.Given as goal
 
 abbrev pub invariant-loop-c : goal.invariant-loop-c

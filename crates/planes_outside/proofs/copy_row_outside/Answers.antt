@@ -1,7 +1,6 @@
 -- `planes_outside::copy_row_outside` meets its contract, in the three cases of a row. Assumes nothing.
 use mathlib.Core.Path.{refl, ◌∙◌}
 use native.Mathlib.Omega.{arith}
-use borrow.Author.Rules.{rules}
 use Rattle.planes.proofs.Copy.{copied-run}
 use Rattle.planes.proofs.Outside.{row-above, row_below, row-beside}
 use Rattle.planes_outside.proofs.copy_row_outside.Goals as goal
