@@ -1,5 +1,5 @@
 -- From a boolean that a branch tests to the fact that it stands for. Assumes nothing.
-use mathlib.Core.Path.{◌≡◌, refl, sym, ◌∙◌}
+use mathlib.Core.Path.{◌≡◌, refl, sym}
 use mathlib.Core.Bool.{Bool, true, false, not}
 use lib.Dec.{T}
 

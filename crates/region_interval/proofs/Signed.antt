@@ -1,6 +1,6 @@
 -- Bounds on `mag` (z, or -1 - z if z is negative) of sums, negations, quotients and products of integers, and signed machine integers converted back. Assumes nothing.
 use mathlib.Core.Path.{◌≡◌, refl, ◌∙◌}
-use Prim.Native.Nat.{ℕ, zero, suc, ◌+◌, ◌-◌, ◌*◌, ◌/◌, ◌%◌, ◌^◌, ◌<◌, ◌≤◌}
+use Prim.Native.Nat.{ℕ, zero, suc, ◌+◌, ◌*◌, ◌%◌, ◌^◌, ◌<◌, ◌≤◌}
 use native.Mathlib.Nat.{div-le_self, one-mul, mod-eq_of_lt, suc-mul}
 use lib.Pow.{pow-lt}
 use native.Mathlib.Omega.{arith}

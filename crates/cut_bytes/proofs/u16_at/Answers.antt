@@ -1,6 +1,5 @@
 -- `cut_bytes::u16_at` meets its contract. Assumes nothing.
 use mathlib.Core.Path.{sym}
-use borrow.Author.Rules.{rules}
 use native.Mathlib.Omega.{arith}
 use Rattle.cut_bytes.proofs.Laws.{two_bytes, number-outside}
 use Rattle.cut_bytes.proofs.u16_at.Goals as goal

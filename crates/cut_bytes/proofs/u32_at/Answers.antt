@@ -1,6 +1,5 @@
 -- `cut_bytes::u32_at` meets its contract. Assumes nothing.
 use mathlib.Core.Path.{sym}
-use borrow.Author.Rules.{rules}
 use native.Mathlib.Omega.{arith}
 use Rattle.cut_bytes.proofs.Laws.{four_bytes, number-outside}
 use Rattle.cut_bytes.proofs.u32_at.Goals as goal

@@ -1,5 +1,4 @@
 -- `rounding::difference` meets its contract. Assumes nothing.
-use borrow.Author.Rules.{rules}
 use Rattle.rounding.proofs.MagnitudeLaws.{difference-is}
 use Rattle.rounding.proofs.difference.Goals as goal
 
