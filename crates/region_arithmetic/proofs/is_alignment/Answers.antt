@@ -11,10 +11,8 @@ use lib.Count.{count_trailing_zeros}
 use lib.Dec.{eqb, eqb→eq}
 use Rattle.region_interval.proofs.Powers.{power-found, power_in}
 use Rattle.region_interval.specs.Interval.{power_below}
-use Rattle.region_arithmetic.proofs.is_alignment.Statement.{statement}
-use Rattle.region_arithmetic.proofs.is_alignment.Tie as tie
+use Rattle.region_arithmetic.proofs.is_alignment.Goals as goal
 
--- a number with more than 13 trailing zero bits, or that is not the power of two with its trailing zero bits, is no alignment
 too_far : (d : ℕ) → 13 < count_trailing_zeros 32 d → false ≡ power_below 14 d
 too_far d h = go (power_below 14 d) refl
   where
@@ -33,15 +31,12 @@ decided d h = go (eqb (2 ^ count_trailing_zeros 32 d) d) refl (power_below 14 d)
         sym (power_in 14 (count_trailing_zeros 32 d) (omega arith)) ∙ ap (power_below 14) z ∙ f
     go false e true f = sym e ∙ eq-eqb (2 ^ count_trailing_zeros 32 d) d (power-found d f).1
 
-returns : tie.Need-returns
-returns c = too_far c.before.args.grid-dim c.if1.true
+pub returns-then-exponent-gt-LARGEST_EXPONENT : goal.returns-then-exponent-gt-LARGEST_EXPONENT
+returns-then-exponent-gt-LARGEST_EXPONENT c = too_far c.args.grid_dim c.if-exponent-gt-LARGEST_EXPONENT.true
 
-returns-2 : tie.Need-returns-2
-returns-2 c =
-    let z = count_trailing_zeros 32 c.before.args.grid-dim in
+pub returns : goal.returns
+returns c =
+    let z = count_trailing_zeros 32 c.args.grid_dim in
     let l : 2 ^ z < 2 ^ 14 = pow-lt {i = z} {j = 14} (omega arith) in
     let m : 2 ^ z % 4294967296 ≡ 2 ^ z = mod-eq_of_lt (omega arith) in
-    rw (one-mul (2 ^ z), m) (decided c.before.args.grid-dim c.if1.false)
-
-pub is-alignment-spec : {M : Type 1} → statement M
-is-alignment-spec = tie.close (tie.spec returns (λ c. search rules) returns-2)
+    rw (one-mul (2 ^ z), m) (decided c.args.grid_dim c.if-exponent-gt-LARGEST_EXPONENT.false)
