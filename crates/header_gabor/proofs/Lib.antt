@@ -1,3 +1,2 @@
 mod NearZero
 pub mod GaborCases
-pub mod Field

@@ -1,5 +1,4 @@
 -- `header_gabor::custom_weights` meets its contract: it reads three channels, as `channels_fields` does. Assumes nothing.
-use borrow.Author.Rules.{rules}
 use mathlib.Core.Path.{◌∙◌}
 use Rattle.header_fields.specs.Fields.{read}
 use Rattle.header_gabor.specs.Channel.{channel_outcome}
@@ -13,11 +12,11 @@ returns-in-Weights-read_channel-2 c =
     c.gabor_accepted.ensures
     ∙ rw (
       read-nested,
-      answer-is channel_outcome c.x0-1.given.1 c.read_channel.ensures,
+      answer-is channel_outcome c.in-Weights.is c.read_channel.ensures,
       read-nested,
-      answer-is channel_outcome c.y0-1.given.1 c.read_channel-in-Weights.ensures,
+      answer-is channel_outcome c.in-Weights-read_channel.is c.read_channel-in-Weights.ensures,
       read-nested,
-      answer-is channel_outcome c.b0-1.given.1 c.read_channel-in-Weights-read_channel.ensures,
+      answer-is channel_outcome c.in-Weights-read_channel-2.is c.read_channel-in-Weights-read_channel.ensures,
     )
 
 pub returns-in-Refused-read_channel-2 : goal.returns-in-Refused-read_channel-2
@@ -26,11 +25,11 @@ returns-in-Refused-read_channel-2 c =
     c.gabor_refused.ensures
     ∙ rw (
       read-nested,
-      answer-is channel_outcome c.x0-1.given.1 c.read_channel.ensures,
+      answer-is channel_outcome c.in-Weights.is c.read_channel.ensures,
       read-nested,
-      answer-is channel_outcome c.y0-1.given.1 c.read_channel-in-Weights.ensures,
+      answer-is channel_outcome c.in-Weights-read_channel.is c.read_channel-in-Weights.ensures,
       read-nested,
-      answer-is channel_outcome c.number-1.given.1 c.read_channel-in-Weights-read_channel.ensures,
+      answer-is channel_outcome c.in-Refused-read_channel-2.is c.read_channel-in-Weights-read_channel.ensures,
     )
 
 pub returns-in-Refused-read_channel : goal.returns-in-Refused-read_channel
@@ -39,9 +38,9 @@ returns-in-Refused-read_channel c =
     c.gabor_refused-in-Refused-read_channel.ensures
     ∙ rw (
       read-nested,
-      answer-is channel_outcome c.x0-1.given.1 c.read_channel.ensures,
+      answer-is channel_outcome c.in-Weights.is c.read_channel.ensures,
       read-nested,
-      answer-is channel_outcome c.number-in-Refused-read_channel-2-1.given.1 c.read_channel-in-Weights.ensures,
+      answer-is channel_outcome c.in-Refused-read_channel.is c.read_channel-in-Weights.ensures,
     )
 
 pub returns-in-Refused : goal.returns-in-Refused
@@ -50,5 +49,5 @@ returns-in-Refused c =
     c.gabor_refused-in-Refused.ensures
     ∙ rw (
       read-nested,
-      answer-is channel_outcome c.number-in-Refused-read_channel-1.given.1 c.read_channel.ensures,
+      answer-is channel_outcome c.in-Refused.is c.read_channel.ensures,
     )

@@ -1,8 +1,6 @@
 -- `header_gabor::channel::near_zero` meets its contract. Assumes nothing.
 use Rattle.header_gabor.specs.Channel.{near_zero}
 use Rattle.header_gabor.proofs.NearZero.{below-zero, not-below-zero}
-use Rattle.header_gabor.proofs.channel.near_zero.Reads as reads
-use Rattle.header_gabor.proofs.channel.near_zero.Lts as lts
 use Rattle.header_gabor.proofs.channel.near_zero.Goals as goal
 
 pub returns-then-kernel : goal.returns-then-kernel
