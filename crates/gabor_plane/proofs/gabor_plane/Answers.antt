@@ -2,8 +2,7 @@
 use mathlib.Core.Path.{◌≡◌, sym, ◌∙◌}
 use mathlib.Core.Bool.{true}
 use native.Mathlib.Omega.{arith}
-use borrow.Author.Rules.{rules}
-use borrow.Author.Tests.{not-true, not-false, ne_eqb}
+use borrow.Author.Tests.{ne_eqb}
 use lib.ListN.{length}
 use Rattle.gabor_plane.specs.Plane.{region_fits}
 use Rattle.gabor_plane.proofs.Plane.{region-facts, no-region, no_length, no_row, plane-rows}

@@ -1,9 +1,7 @@
-use Prim.Native.Nat.{◌-◌}
 use native.Mathlib.Omega.{arith}
 use lib.ListN.{length-set}
-use Rattle.gabor_kernel.specs.Ends.{inner}
 use Rattle.gabor_plane.specs.Rows.{inner_sample}
-use Rattle.gabor_plane.proofs.PairLaws.{BothWritten, both-none, both-more, both-all}
+use Rattle.gabor_plane.proofs.PairLaws.{both-none, both-more, both-all}
 use Rattle.gabor_plane.proofs.pairs.tap_pair.Goals as goal
 
 pub loop-j-preserved : goal.loop-j-preserved

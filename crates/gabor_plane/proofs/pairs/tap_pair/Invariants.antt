@@ -1,10 +1,8 @@
 -- `gabor_plane::pairs::tap_pair` meets its contract. The invariant: j is at most n, and the first j samples of both rows are written to `dst`. Assumes nothing.
 use Prim.Native.Nat.{◌-◌}
-use native.Mathlib.Omega.{arith}
-use lib.ListN.{length-set}
 use Rattle.gabor_kernel.specs.Ends.{inner}
 use Rattle.gabor_plane.specs.Rows.{inner_sample}
-use Rattle.gabor_plane.proofs.PairLaws.{BothWritten, both-none, both-more, both-all}
+use Rattle.gabor_plane.proofs.PairLaws.{BothWritten}
 use Rattle.gabor_plane.proofs.pairs.tap_pair.Given as goal
 
 abbrev pub invariant-loop-j : goal.invariant-loop-j

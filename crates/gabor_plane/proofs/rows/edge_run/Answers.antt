@@ -1,7 +1,5 @@
-use Prim.Native.Nat.{◌-◌}
 use native.Mathlib.Omega.{arith}
-use Rattle.planes.proofs.Loop.{Written, written_none, written-more, written_all}
-use Rattle.gabor_kernel.specs.Ends.{first}
+use Rattle.planes.proofs.Loop.{written_none, written-more, written_all}
 use Rattle.gabor_plane.specs.Rows.{inner_sample}
 use Rattle.gabor_plane.proofs.rows.edge_run.Goals as goal
 

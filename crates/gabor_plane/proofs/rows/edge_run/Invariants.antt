@@ -1,7 +1,6 @@
 -- `gabor_plane::rows::edge_run` meets its contract. The invariant: j is at most n, and the first j samples are written to `dst`. Assumes nothing.
 use Prim.Native.Nat.{◌-◌}
-use native.Mathlib.Omega.{arith}
-use Rattle.planes.proofs.Loop.{Written, written_none, written-more, written_all}
+use Rattle.planes.proofs.Loop.{Written}
 use Rattle.gabor_kernel.specs.Ends.{first}
 use Rattle.gabor_plane.specs.Rows.{inner_sample}
 use Rattle.gabor_plane.proofs.rows.edge_run.Given as goal

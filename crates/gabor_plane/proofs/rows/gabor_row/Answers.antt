@@ -15,6 +15,3 @@ tap_run-requires c = simp length-set (omega arith)
 
 pub bounds-dst-o-3 : goal.bounds-dst-o-3
 bounds-dst-o-3 c = omega (arith, simp length-set at c.tap_run.auto.dst)
-
-pub bounds-dst-o : goal.bounds-dst-o
-bounds-dst-o c = simp length-set

@@ -11,4 +11,4 @@ pub solo_run-requires : goal.solo_run-requires
 solo_run-requires c = simp length-set (omega arith)
 
 pub returns : goal.returns
-returns c = solo-more _ _ _ _ _ _ _ _ (omega arith) _ c.solo_end.ensures c.Solo-run.ensures c.solo_end-2.ensures
+returns c = solo-more _ _ _ _ _ _ _ _ (omega arith) _ c.solo_end.ensures c.solo_run.ensures c.solo_end-2.ensures
