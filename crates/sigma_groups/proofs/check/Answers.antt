@@ -25,10 +25,7 @@ returns-then-answer-eq-OUT_OF_LIMITS c =
     let b : Blocks = c.args.blocks in
     let n : ℕ = c.args.sigmas_len in
     let number_is : c.group_sizes-answer.result.number ≡ cond (bad_sides f) out_of_limits (cond (bad_settings f) out_of_range accepted) = ap (λ (a : FrameAnswer). a.number) c.group_sizes-answer.ensures in
-    let s = c in
-    number.sides-out s.args.on (f s) (b s) (t s) (grids s) (n s) (sides-bad (bad_sides (f s)) (bad_settings (f s)) (sym number_is ∙ c.if-answer-eq-OUT_OF_LIMITS.true))
-
--- after the test of the frame's sides
+    number.sides-out c.args.on f b t grids n (sides-bad (bad_sides f) (bad_settings f) (sym number_is ∙ c.if-answer-eq-OUT_OF_LIMITS.true))
 
 pub returns-then-bad_blocks : goal.returns-then-bad_blocks
 returns-then-bad_blocks c =
@@ -39,10 +36,7 @@ returns-then-bad_blocks c =
     let n : ℕ = c.args.sigmas_len in
     let number_is : c.group_sizes-answer.result.number ≡ cond (bad_sides f) out_of_limits (cond (bad_settings f) out_of_range accepted) = ap (λ (a : FrameAnswer). a.number) c.group_sizes-answer.ensures in
     let sides-good : bad_sides f ≡ false = sides-fit (bad_sides f) (bad_settings f) (λ e. c.if-answer-eq-OUT_OF_LIMITS.false (number_is ∙ e)) in
-    let s = c in
-    number.blocks-out s.args.on (f s) (b s) (t s) (grids s) (n s) sides-good (sym c.bad_blocks.ensures ∙ c.if-bad_blocks.true)
-
--- after the test of the filter region
+    number.blocks-out c.args.on f b t grids n sides-good (sym c.bad_blocks.ensures ∙ c.if-bad_blocks.true)
 
 pub check_table-requires : goal.check_table-requires
 check_table-requires c =
@@ -50,18 +44,15 @@ check_table-requires c =
     let b : Blocks = c.args.blocks in
     let number_is : c.group_sizes-answer.result.number ≡ cond (bad_sides f) out_of_limits (cond (bad_settings f) out_of_range accepted) = ap (λ (a : FrameAnswer). a.number) c.group_sizes-answer.ensures in
     let blocks-good : bad_blocks b ≡ false = sym c.bad_blocks.ensures ∙ c.if-bad_blocks.false in
-    let d = c in
-    let z = settings-fit (bad_sides (f (c d))) (bad_settings (f (c d))) (sym (number_is d) ∙ c.if-answer-eq-ACCEPTED.true) in
+    let z = settings-fit (bad_sides f) (bad_settings f) (sym number_is ∙ c.if-answer-eq-ACCEPTED.true) in
     record {
       sides = z.0;
       settings = z.1;
       blocks = blocks-good;
       sizes-are =
-          ap (λ (a : FrameAnswer). a.sizes-1) d.group_sizes-answer.ensures
-          ∙ frame-sizes (f (c d)) (sym (ap (λ (a : FrameAnswer). a.number) d.group_sizes-answer.ensures) ∙ c.if-answer-eq-ACCEPTED.true);
+          ap (λ (a : FrameAnswer). a.sizes) c.group_sizes-answer.ensures
+          ∙ frame-sizes f (sym (ap (λ (a : FrameAnswer). a.number) c.group_sizes-answer.ensures) ∙ c.if-answer-eq-ACCEPTED.true);
     }
-
--- settings out of range
 
 pub returns-then-bad_count : goal.returns-then-bad_count
 returns-then-bad_count c =
@@ -73,10 +64,8 @@ returns-then-bad_count c =
     let number_is : c.group_sizes-answer.result.number ≡ cond (bad_sides f) out_of_limits (cond (bad_settings f) out_of_range accepted) = ap (λ (a : FrameAnswer). a.number) c.group_sizes-answer.ensures in
     let sides-good : bad_sides f ≡ false = sides-fit (bad_sides f) (bad_settings f) (λ e. c.if-answer-eq-OUT_OF_LIMITS.false (number_is ∙ e)) in
     let blocks-good : bad_blocks b ≡ false = sym c.bad_blocks.ensures ∙ c.if-bad_blocks.false in
-    let settings-bad3 : bad_settings f ≡ true = let d = c c in
-    settings-bad (bad_sides f) (bad_settings f) (λ e. c.if-answer-eq-OUT_OF_LIMITS.false (number_is d ∙ e)) (λ e. c.if-answer-eq-ACCEPTED.false (number_is d ∙ e)) in
-    let s = c in
-    number.count-wrong s.args.on (f s) (b s) (t s) (grids s) (n s) sides-good blocks-good settings-bad3
+    let settings-bad3 : bad_settings f ≡ true = settings-bad (bad_sides f) (bad_settings f) (λ e. c.if-answer-eq-OUT_OF_LIMITS.false (number_is ∙ e)) (λ e. c.if-answer-eq-ACCEPTED.false (number_is ∙ e)) in
+    number.count-wrong c.args.on f b t grids n sides-good blocks-good settings-bad3
     (sym c.bad_count.ensures ∙ c.if-bad_count.true)
 
 pub returns : goal.returns
@@ -89,10 +78,8 @@ returns c =
     let number_is : c.group_sizes-answer.result.number ≡ cond (bad_sides f) out_of_limits (cond (bad_settings f) out_of_range accepted) = ap (λ (a : FrameAnswer). a.number) c.group_sizes-answer.ensures in
     let sides-good : bad_sides f ≡ false = sides-fit (bad_sides f) (bad_settings f) (λ e. c.if-answer-eq-OUT_OF_LIMITS.false (number_is ∙ e)) in
     let blocks-good : bad_blocks b ≡ false = sym c.bad_blocks.ensures ∙ c.if-bad_blocks.false in
-    let settings-bad3 : bad_settings f ≡ true = let d = c c in
-    settings-bad (bad_sides f) (bad_settings f) (λ e. c.if-answer-eq-OUT_OF_LIMITS.false (number_is d ∙ e)) (λ e. c.if-answer-eq-ACCEPTED.false (number_is d ∙ e)) in
-    let s = c in
-    number.settings-out s.args.on (f s) (b s) (t s) (grids s) (n s) sides-good blocks-good settings-bad3
+    let settings-bad3 : bad_settings f ≡ true = settings-bad (bad_sides f) (bad_settings f) (λ e. c.if-answer-eq-OUT_OF_LIMITS.false (number_is ∙ e)) (λ e. c.if-answer-eq-ACCEPTED.false (number_is ∙ e)) in
+    number.settings-out c.args.on f b t grids n sides-good blocks-good settings-bad3
     (sym c.bad_count.ensures ∙ c.if-bad_count.false)
 
 pub bad_count-requires : goal.bad_count-requires

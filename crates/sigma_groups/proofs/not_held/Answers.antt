@@ -54,22 +54,20 @@ returns-then-sizes-column c = past-column _ _ _ c.requires _ _ _ c.split_block-c
 pub returns-then-sizes-row : goal.returns-then-sizes-row
 returns-then-sizes-row c = past_row _ _ _ c.requires _ _ _ c.split_block-column.ensures _ c.split_block-row.ensures c.if-sizes-column.false c.if-sizes-row.true
 
--- the group number does not overflow
-
 pub returns : goal.returns
 returns c = c.grid_lacks_block.ensures ∙ in_frame _ _ _ c.requires _ _ _ c.split_block-column.ensures _ c.split_block-row.ensures c.if-sizes-column.false c.if-sizes-row.false
-
-pub overflow_mul-row : goal.overflow_mul-row
-overflow_mul-row c =
-    let entry-fits : 3 * (c.split_block-row.result.group * c.args.sizes.groups_per_row + c.split_block-column.result.group) + 3 ≤ length c.args.table.now = entry_lt _ _ _ c.requires _ _ c.if-sizes-column.false c.if-sizes-row.false in
-    omega (arith, entry-fits, entries-le _ _ _ c.pre)
-
-pub overflow_add-row : goal.overflow_add-row
-overflow_add-row c =
-    let entry-fits : 3 * (c.split_block-row.result.group * c.args.sizes.groups_per_row + c.split_block-column.result.group) + 3 ≤ length c.args.table.now = entry_lt _ _ _ c.requires _ _ c.if-sizes-column.false c.if-sizes-row.false in
-    omega (arith, entry-fits, entries-le _ _ _ c.pre)
 
 pub grid_lacks_block-requires : goal.grid_lacks_block-requires
 grid_lacks_block-requires c =
     let entry-fits : 3 * (c.split_block-row.result.group * c.args.sizes.groups_per_row + c.split_block-column.result.group) + 3 ≤ length c.args.table.now = entry_lt _ _ _ c.requires _ _ c.if-sizes-column.false c.if-sizes-row.false in
     entry-fits
+
+pub overflow_mul-row : goal.overflow_mul-row
+overflow_mul-row c =
+    let entry-fits : 3 * (c.split_block-row.result.group * c.args.sizes.groups_per_row + c.split_block-column.result.group) + 3 ≤ length c.args.table.now = entry_lt _ _ _ c.requires _ _ c.if-sizes-column.false c.if-sizes-row.false in
+    omega (arith, entry-fits, entries-le _ _ _ c.requires)
+
+pub overflow_add-row : goal.overflow_add-row
+overflow_add-row c =
+    let entry-fits : 3 * (c.split_block-row.result.group * c.args.sizes.groups_per_row + c.split_block-column.result.group) + 3 ≤ length c.args.table.now = entry_lt _ _ _ c.requires _ _ c.if-sizes-column.false c.if-sizes-row.false in
+    omega (arith, entry-fits, entries-le _ _ _ c.requires)
