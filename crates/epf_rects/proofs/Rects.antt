@@ -31,7 +31,7 @@ rect_start l c x y = (c * l.image.height + (l.top + y)) * l.image.width + (l.lef
 pub record PlaneRoom (l : Layout) (c : ℕ) (q : Rect) (len : ℕ) : Type 0 where
   pub rows-above-le : c * l.image.height ≤ 49152
   pub start-le : (c * l.image.height + (l.top + q.y)) * l.image.width ≤ 65536 * 16384
-  pub rows_fit_lem : (r : ℕ) → r < q.rows → rect_start l c q.x q.y + r * l.image.width + q.cols ≤ len
+  pub rows-fit : (r : ℕ) → r < q.rows → rect_start l c q.x q.y + r * l.image.width + q.cols ≤ len
 
 pub plane-room : (l : Layout) (n c : ℕ) (q : Rect) (len : ℕ) → RectFits l n q len → c < n → PlaneRoom l c q len
 plane-room l n c q len f p =
@@ -43,7 +43,7 @@ plane-room l n c q len f p =
     record {
       rows-above-le = omega arith;
       start-le = mul-le-mul b g.width-le;
-      rows_fit_lem = λ r h.
+      rows-fit = λ r h.
           let t : c * l.image.height + (l.top + y) + r + 1 ≤ n * l.image.height = omega (arith, g.down, f.down, suc-mul c l.image.height, mul-le-mul_right l.image.height p) in
           omega (arith, f.set, g.across, f.across, add-mul (c * l.image.height + (l.top + y)) r l.image.width, add-mul (c * l.image.height + (l.top + y) + r) 1 l.image.width, mul-le-mul_right l.image.width t);
     }
@@ -87,7 +87,7 @@ source-room l n q len f =
     record {
       start-le = mul-le-mul t g.width-le;
       plane-le = mul-le-mul g.height-le g.width-le;
-      lies = λ c r C R. rw (start-plane l q.x q.y _ _ c refl refl) ((plane-room l n c q len f C).rows_fit r R);
+      lies = λ c r C R. rw (start-plane l q.x q.y _ _ c refl refl) ((plane-room l n c q len f C).rows-fit r R);
     }
 
 -- ---- the code's tests
