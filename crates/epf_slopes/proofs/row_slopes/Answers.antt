@@ -1,0 +1,18 @@
+use mathlib.Core.Path.{◌≡◌, refl}
+use Prim.Native.Nat.{◌-◌, ◌*◌, ◌≤◌}
+use native.Mathlib.Omega.{arith}
+use borrow.Author.Rules.{rules}
+use Rattle.planes.specs.Fill.{fill}
+use Rattle.epf_slopes.specs.Slopes.{slope_at}
+use Rattle.epf_slopes.proofs.Slopes.{block-next, blocks_end}
+use Rattle.epf_slopes.proofs.row_slopes.Goals as goal
+
+pub loop-b-init : goal.loop-b-init
+unfolding fill
+loop-b-init c = (omega arith, refl)
+
+pub loop-b-preserved : goal.loop-b-preserved
+loop-b-preserved c = (omega arith, block-next _ _ _ _ _ _ _ _ _ _ _ c.loop-b.invariant.1 c.slope-s.ensures c.block_slopes.ensures)
+
+pub returns : goal.returns
+returns c = blocks_end _ _ _ _ _ _ _ _ _ _ c.loop-b.invariant.1 c.loop-b.invariant.0 c.loop-b-test.false
