@@ -1,0 +1,17 @@
+-- `epf_distances::add_single` meets its contract. The invariant: i of n are added. Assumes nothing.
+use Prim.Native.Nat.{ℕ, ◌+◌, ◌-◌}
+use native.Mathlib.Omega.{arith}
+use borrow.Author.Rules.{rules}
+use lib.ListN.{get_or}
+use lib.Ieee.{Float, nan}
+use Rattle.planes.specs.Samples.{◌⊕◌, ◌⊗◌}
+use Rattle.planes.proofs.Loop.{Written, written_none, written_all}
+use Rattle.epf_distances.proofs.Runs.{run_more}
+use Rattle.epf_distances.specs.Seen.{nearby, apart_by}
+use Rattle.epf_distances.proofs.add_single.Given as goal
+
+abbrev pub invariant-loop-i : goal.invariant-loop-i
+invariant-loop-i l = Written l.initial.fields l.at l.n (λ (j : ℕ). get_or l.initial.fields (l.at + j) nan ⊕ l.scale ⊗ nearby 2 (apart_by l.win l.c l.k) (l.from + j)) l.fields l.i
+
+abbrev pub decreases-loop-i : goal.decreases-loop-i
+decreases-loop-i l = l.n - l.i

@@ -1,0 +1,16 @@
+use Prim.Native.Nat.{ℕ, ◌+◌, ◌-◌}
+use native.Mathlib.Omega.{arith}
+use borrow.Author.Rules.{rules}
+use Rattle.planes.proofs.Loop.{Written, written_none, written-more, written_all}
+use Rattle.epf_distances.specs.Seen.{apart_by}
+use Rattle.epf_distances.proofs.differences.Goals as goal
+
+pub loop-i-preserved : goal.loop-i-preserved
+unfolding apart_by
+loop-i-preserved c = written-more c.loop-i.invariant (omega arith) c.difference.ensures
+
+pub loop-i-init : goal.loop-i-init
+loop-i-init c = written_none _ _ _ _
+
+pub returns : goal.returns
+returns c = written_all c.loop-i.invariant c.loop-i-test.false

@@ -1,0 +1,69 @@
+use mathlib.Core.Path.{◌≡◌, refl}
+use Prim.Native.Nat.{ℕ, ◌-◌, ◌≤◌, ◌<◌}
+use native.Mathlib.Omega.{arith}
+use borrow.Author.Rules.{rules}
+use lib.ListN.{length}
+use Rattle.epf_step.specs.Steps.{scaled}
+use Rattle.epf_distances.specs.Taps.{half, shift}
+use Rattle.epf_distances.proofs.Taps.{half_le, shift-bounds}
+use Rattle.epf_distances.specs.Fields.{fields_fill}
+use Rattle.epf_distances.proofs.Fields.{field-turn, field_end}
+use Rattle.epf_distances.proofs.fill_fields.Goals as goal
+
+pub loop-h-init : goal.loop-h-init
+unfolding fields_fill
+loop-h-init c = (omega arith, refl, refl)
+
+record Among (h k : ℕ) : Type 0 where
+  pub field_lt : h < 6
+  pub shift-pos : 1 ≤ k
+  pub shift_le : k ≤ 128
+
+among : (step count h k : ℕ) → count ≡ half step → h < count → k ≡ shift step h → Among h k
+among step count h k e l p = record { field_lt = omega (arith, half_le step); shift-pos = omega (arith, shift-bounds step h); shift_le = omega (arith, shift-bounds step h) }
+
+pub loop-h-preserved : goal.loop-h-preserved
+loop-h-preserved c =
+    (
+      omega arith,
+      c.field.ensures.1,
+      field-turn c.args.step (scaled c.args.planes c.args.scales.now) c.args.win.now c.args.rows _ _ _ c.loop-h.h _ c.loop-h.invariant.2 c.shift-k.ensures c.field.ensures.0,
+    )
+
+pub overflow_sub-from : goal.overflow_sub-from
+overflow_sub-from c =
+    let here : Among c.loop-h.h c.shift-k.result = among c.args.step c.half-count.result c.loop-h.h c.shift-k.result c.half-count.ensures c.loop-h-test.true c.shift-k.ensures in
+    omega (arith, here)
+
+pub overflow_mul-run : goal.overflow_mul-run
+overflow_mul-run c =
+    let here : Among c.loop-h.h c.shift-k.result = among c.args.step c.half-count.result c.loop-h.h c.shift-k.result c.half-count.ensures c.loop-h-test.true c.shift-k.ensures in
+    omega (arith, here)
+
+pub overflow_add-run : goal.overflow_add-run
+overflow_add-run c =
+    let here : Among c.loop-h.h c.shift-k.result = among c.args.step c.half-count.result c.loop-h.h c.shift-k.result c.half-count.ensures c.loop-h-test.true c.shift-k.ensures in
+    omega (arith, here)
+
+pub overflow_mul-run-in-loop-h : goal.overflow_mul-run-in-loop-h
+overflow_mul-run-in-loop-h c =
+    let here : Among c.loop-h.h c.shift-k.result = among c.args.step c.half-count.result c.loop-h.h c.shift-k.result c.half-count.ensures c.loop-h-test.true c.shift-k.ensures in
+    omega (arith, here)
+
+pub overflow_add-run-in-loop-h : goal.overflow_add-run-in-loop-h
+overflow_add-run-in-loop-h c =
+    let here : Among c.loop-h.h c.shift-k.result = among c.args.step c.half-count.result c.loop-h.h c.shift-k.result c.half-count.ensures c.loop-h-test.true c.shift-k.ensures in
+    omega (arith, here)
+
+pub overflow_sub-run : goal.overflow_sub-run
+overflow_sub-run c =
+    let here : Among c.loop-h.h c.shift-k.result = among c.args.step c.half-count.result c.loop-h.h c.shift-k.result c.half-count.ensures c.loop-h-test.true c.shift-k.ensures in
+    omega (arith, here)
+
+pub field-requires : goal.field-requires
+field-requires c =
+    let here : Among c.loop-h.h c.shift-k.result = among c.args.step c.half-count.result c.loop-h.h c.shift-k.result c.half-count.ensures c.loop-h-test.true c.shift-k.ensures in
+    omega (arith, here)
+
+pub returns : goal.returns
+returns c = field_end _ _ _ _ _ _ _ _ c.loop-h.invariant.2 (omega (arith, c.loop-h.invariant.0, c.half-count.ensures)) (omega (arith, c.half-count.ensures))

@@ -1,0 +1,18 @@
+-- `epf_distances::fill_fields` meets its contract. The invariant: h fields are written. Assumes nothing.
+use mathlib.Core.Path.{◌≡◌, refl}
+use Prim.Native.Nat.{ℕ, ◌-◌, ◌≤◌, ◌<◌}
+use native.Mathlib.Omega.{arith}
+use borrow.Author.Rules.{rules}
+use lib.ListN.{length}
+use Rattle.epf_step.specs.Steps.{scaled}
+use Rattle.epf_distances.specs.Taps.{half, shift}
+use Rattle.epf_distances.proofs.Taps.{half_le, shift-bounds}
+use Rattle.epf_distances.specs.Fields.{fields_fill}
+use Rattle.epf_distances.proofs.Fields.{field-turn, field_end}
+use Rattle.epf_distances.proofs.fill_fields.Given as goal
+
+abbrev pub invariant-loop-h : goal.invariant-loop-h
+invariant-loop-h l = (l.h ≤ l.count) × (length l.d ≡ 896) × (l.fields ≡ fields_fill l.step (scaled l.planes l.scales) l.win l.rows l.initial.fields l.h)
+
+abbrev pub decreases-loop-h : goal.decreases-loop-h
+decreases-loop-h l = l.count - l.h
