@@ -1,7 +1,7 @@
 // Rows of text: the end of a word or a line, and the number that a word denotes.
 #![tactic(auto)]
 
-ghost use Rattle.std.specs.Prelude.{◌≡◌, ◌≤◌, drop};
+ghost use Rattle.std.specs.Prelude.{◌≡◌, ◌≤◌, ◌==◌, drop, position};
 ghost use Rattle.replay_text.specs.Words.{end_of};
 ghost use Rattle.replay_text.specs.Numbers.{digit_of, value_of, spelled, number_of};
 
@@ -18,6 +18,13 @@ const LARGEST_WITH_ROOM: u64 = 0x0fff_ffff_ffff_ffff;
 
 const NO_DIGIT: u64 = 16;
 
+// The index of the first such byte, if there is one.
+fn find(text: &[u8], byte: u8) -> Option<usize>
+    ensures { result ≡ position (λ x. x == byte) text.now }
+{
+    text.iter().position(|x| *x == byte)
+}
+
 // The index of the first such byte from `at` on, or the end of the text.
 pub fn end_of(text: &[u8], at: usize, byte: u8) -> usize
     ensures { result ≡ end_of text.now at byte }
@@ -25,7 +32,10 @@ pub fn end_of(text: &[u8], at: usize, byte: u8) -> usize
     if text.len() <= at {
         return text.len();
     }
-    bytes::scan::find(text, at, text.len(), byte)
+    match find(&text[at..], byte) {
+        Some(i) => at + i,
+        None => text.len(),
+    }
 }
 
 // The value of a hexadecimal digit, 16 for any other byte.

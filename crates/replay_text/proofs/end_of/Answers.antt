@@ -1,0 +1,20 @@
+-- `replay_text::end_of` meets its contract: where no such byte is found, the end is the text's. Assumes nothing.
+use Rattle.std.proofs.Common.{◌≡◌, ◌==◌, ℕ, ◌+◌, ◌-◌, ◌<◌, Bool, List, None, not, length, length-drop, take, drop, min, position, arith, le_of_lt, sym, ◌∙◌}
+use native.Mathlib.Nat.{min-eq_left}
+use Rattle.std.specs.List.{position_or_len}
+use Rattle.std.proofs.lemmas.Grind.{common_steps}
+use Rattle.std.proofs.lemmas.List.Sums.{prefix_len-le-length}
+use Rattle.replay_text.proofs.end_of.Goals as goal
+
+absent : (p : ℕ → Bool) (xs : List ℕ) → position p xs ≡ None → position_or_len p xs ≡ length xs
+absent p xs h = let k = prefix_len-le-length (λ x. not (p x)) xs in grind (arith, common_steps)
+
+missed : (p : ℕ → Bool) (xs : List ℕ) (at : ℕ) → at < length xs → position p (take (length xs - at) (drop at xs)) ≡ None → length xs ≡ min at (length xs) + position_or_len p (drop at xs)
+missed p xs at l h =
+    let n = length-drop at xs in
+    let whole : take (length xs - at) (drop at xs) ≡ drop at xs = grind (arith, common_steps) in
+    let e = absent p (drop at xs) (rw whole at h) in
+    rw (min-eq_left (le_of_lt l)) (omega arith)
+
+pub returns-in-None : goal.returns-in-None
+returns-in-None c = missed (λ x. x == c.args.byte) c.args.text.now c.args.at c.if-text-at.false (sym c.find.ensures ∙ c.in-None.is)
