@@ -27,8 +27,8 @@ impl Tally {
     // No list is long enough for a sum to wrap.
     pub fn plus(self, more: Tally) -> Tally {
         Tally {
-            rows: std::num::wrapping_add_u64(self.rows, more.rows),
-            differ: std::num::wrapping_add_u64(self.differ, more.differ),
+            rows: self.rows.wrapping_add(more.rows),
+            differ: self.differ.wrapping_add(more.differ),
         }
     }
 }
@@ -101,7 +101,7 @@ fn is_row(line: &[u8]) -> bool {
 
 fn is_row_of(line: &[u8], name: &[u8]) -> bool {
     let end = until(line, 0, b' ');
-    check::same(&line[..end], name)
+    &line[..end] == name
 }
 
 fn row_of(line: &[u8], name: &[u8], subject: Subject) -> Tally {
@@ -135,7 +135,7 @@ pub fn rows(text: &[u8]) -> u64 {
     loop {
         let end = until(text, at, b'\n');
         if is_row(&text[at..end]) {
-            count = std::num::wrapping_add_u64(count, 1);
+            count = count.wrapping_add(1);
         }
         if text.len() <= end {
             return count;

@@ -8,65 +8,69 @@ mod regions;
 mod sizes;
 mod subjects;
 
-ghost use Rattle.std.specs.Prelude.{◌≡◌, length};
+ghost use Rattle.std.specs.Prelude.{◌≡◌, ◌≤◌, IfOk, length};
 
-use libc::{STDIN_FILENO, STDOUT_FILENO};
 use list::Tally;
+use std::io;
+use std::io::Read;
 use subjects::Subject;
 
 // One more than the largest length of a list, in bytes.
 const ROOM: usize = 262_144;
 
-fn report(name: &[u8], t: Tally) {
-    io::write_all(STDOUT_FILENO, name);
-    io::write_all(STDOUT_FILENO, b": ");
-    io::print_decimal(STDOUT_FILENO, t.rows);
-    io::write_all(STDOUT_FILENO, b" rows, ");
-    io::print_decimal(STDOUT_FILENO, t.differ);
-    io::write_all(STDOUT_FILENO, b" differ\n");
+fn report(rt: &impl Print, name: &str, t: Tally) -> io::Result<()> {
+    println!(rt; "{name}: {} rows, {} differ", t.rows, t.differ)
 }
 
 // Reports the rows of a subject and adds them to the tally.
-fn replayed(before: Tally, text: &[u8], name: &[u8], subject: Subject) -> Tally {
-    let t = list::rows_of(text, name, subject);
-    report(name, t);
-    before.plus(t)
+fn replayed(
+    rt: &impl Print,
+    before: Tally,
+    text: &[u8],
+    name: &str,
+    subject: Subject,
+) -> io::Result<Tally> {
+    let t = list::rows_of(text, name.as_bytes(), subject);
+    report(rt, name, t)?;
+    Ok(before.plus(t))
 }
 
-fn region_rows(text: &[u8]) -> Tally {
+fn region_rows(rt: &impl Print, text: &[u8]) -> io::Result<Tally> {
     let mut t = list::none();
-    t = replayed(t, text, b"is_empty", Subject::IsEmpty);
-    t = replayed(t, text, b"right", Subject::Right);
-    t = replayed(t, text, b"bottom", Subject::Bottom);
-    t = replayed(t, text, b"contains", Subject::Contains);
-    t = replayed(t, text, b"translate", Subject::Translate);
-    t = replayed(t, text, b"intersection", Subject::Intersection);
-    t = replayed(t, text, b"pad", Subject::Pad);
-    t = replayed(t, text, b"downsample", Subject::Downsample);
-    replayed(t, text, b"container_aligned", Subject::ContainerAligned)
+    t = replayed(rt, t, text, "is_empty", Subject::IsEmpty)?;
+    t = replayed(rt, t, text, "right", Subject::Right)?;
+    t = replayed(rt, t, text, "bottom", Subject::Bottom)?;
+    t = replayed(rt, t, text, "contains", Subject::Contains)?;
+    t = replayed(rt, t, text, "translate", Subject::Translate)?;
+    t = replayed(rt, t, text, "intersection", Subject::Intersection)?;
+    t = replayed(rt, t, text, "pad", Subject::Pad)?;
+    t = replayed(rt, t, text, "downsample", Subject::Downsample)?;
+    replayed(rt, t, text, "container_aligned", Subject::ContainerAligned)
 }
 
-fn size_rows(before: Tally, text: &[u8]) -> Tally {
+fn size_rows(rt: &impl Print, before: Tally, text: &[u8]) -> io::Result<Tally> {
     let mut t = before;
-    t = replayed(t, text, b"mirror", Subject::Mirror);
-    t = replayed(t, text, b"group_sizes", Subject::GroupSizes);
-    replayed(t, text, b"split_block", Subject::SplitBlock)
+    t = replayed(rt, t, text, "mirror", Subject::Mirror)?;
+    t = replayed(rt, t, text, "group_sizes", Subject::GroupSizes)?;
+    replayed(rt, t, text, "split_block", Subject::SplitBlock)
 }
 
-fn header_rows(before: Tally, text: &[u8]) -> Tally {
+fn header_rows(rt: &impl Print, before: Tally, text: &[u8]) -> io::Result<Tally> {
     let mut t = before;
-    t = replayed(t, text, b"read_half", Subject::ReadHalf);
-    t = replayed(t, text, b"read_gabor", Subject::ReadGabor);
-    t = replayed(t, text, b"read_epf", Subject::ReadEpf);
-    replayed(t, text, b"read_filters", Subject::ReadFilters)
+    t = replayed(rt, t, text, "read_half", Subject::ReadHalf)?;
+    t = replayed(rt, t, text, "read_gabor", Subject::ReadGabor)?;
+    t = replayed(rt, t, text, "read_epf", Subject::ReadEpf)?;
+    replayed(rt, t, text, "read_filters", Subject::ReadFilters)
 }
 
 // Reports each subject, the rows with an unknown name, and the total.
-fn replay(text: &[u8]) {
-    let known = header_rows(size_rows(region_rows(text), text), text);
+fn replay(rt: &impl Print, text: &[u8]) -> io::Result<()> {
+    let regions = region_rows(rt, text)?;
+    let sizes = size_rows(rt, regions, text)?;
+    let known = header_rows(rt, sizes, text)?;
     let unknown = list::unknown(list::rows(text), known.rows);
-    report(b"unknown", unknown);
-    report(b"total", known.plus(unknown));
+    report(rt, "unknown", unknown)?;
+    report(rt, "total", known.plus(unknown))
 }
 
 fn room() -> [u8; ROOM]
@@ -75,12 +79,26 @@ fn room() -> [u8; ROOM]
     [0; ROOM]
 }
 
-fn main() {
-    let mut text = room();
-    let count = io::read_full(STDIN_FILENO, &mut text);
-    if ROOM <= count {
-        io::write_all(STDOUT_FILENO, b"the list is too long\n");
-        return;
+// Reads until `out` is full or the input ends. The number is how many bytes at the start of `out` were read.
+fn read_full<R: Read>(input: &mut R, out: &mut [u8]) -> io::Result<usize>
+    ensures { IfOk result (λ n. n ≤ length out.new) }
+{
+    let mut count = 0;
+    while count < out.len() {
+        let n = input.read(&mut out[count..])?;
+        if n == 0 {
+            break;
+        }
+        count += n;
     }
-    replay(&text[..count]);
+    Ok(count)
+}
+
+fn main(rt: HostRuntime) -> io::Result<()> {
+    let mut text = room();
+    let count = read_full(&mut rt.stdin(), &mut text)?;
+    if ROOM <= count {
+        return println!(rt; "the list is too long");
+    }
+    replay(&rt, &text[..count])
 }
