@@ -15,7 +15,7 @@ OTHER, STOPS, ENDLESS = "another answer", "stopped by a fault", "without an end"
 
 def crates():
     """The crates that crates.txt lists, each with what it stands on."""
-    return {name: needs.split() for name, needs in re.findall(r"^(\w+):(.*)$", (ROOT / "crates.txt").read_text(), re.M)}
+    return {name: needs.split() for name, needs in re.findall(r"^(\w+)(?: staticlib)?:(.*)$", (ROOT / "crates.txt").read_text(), re.M)}
 
 
 class Edit:
