@@ -18,6 +18,29 @@ def crates():
     return {name: needs.split() for name, needs in re.findall(r"^(\w+)(?: staticlib)?:(.*)$", (ROOT / "crates.txt").read_text(), re.M)}
 
 
+CLAUSE = re.compile(r"//.*|\b(?:requires|ensures)\*?(?: \w+)? *\{")
+
+
+def clauses(text):
+    """Where each clause of a contract is: its word, what its brackets hold, its start and its end. What a comment has is none."""
+    at = 0
+    while found := CLAUSE.search(text, at):
+        at = found.end()
+        if not found.group().startswith("//"):
+            depth = 1
+            while depth and at < len(text):
+                depth += (text[at] == "{") - (text[at] == "}")
+                at += 1
+            yield re.match(r"\w+", found.group()).group(), text[found.end() : at - 1].strip(), found.start(), at
+
+
+def without_clauses(text):
+    """A source with spaces for its clauses; lines stay lines."""
+    for _, _, start, end in clauses(text):
+        text = text[:start] + re.sub(r"[^\n]", " ", text[start:end]) + text[end:]
+    return text
+
+
 class Edit:
     """What its first line names, the mutant in words, its input, how it ends there, and what it replaces: file, old text, new text."""
 
@@ -44,7 +67,8 @@ class Edit:
 
     def of_code(self):
         """Whether it replaces code, and not only a contract, a definition or what these cite."""
-        return any(file.startswith("src/") and not re.search(r"[⌜⌝×]|^ghost ", old) for file, old, _ in self.replaced)
+        contract = r"[^\x00-\x7f]|\b(?:requires|ensures)\b|\.(?:now|old|new)\b|^ghost "
+        return any(file.startswith("src/") and not re.search(contract, old) for file, old, _ in self.replaced)
 
     def of(self, function):
         return function in self.names and self.of_code()
