@@ -3,6 +3,14 @@
 They stand here since a file of Rattle belongs to a crate, and these are proved by nothing.
 """
 
+# What a program tells a false input by: a division by zero in this function.
+EXPECT = """
+fn expect(ok: bool) {
+    let one: u8 = 1;
+    let _quotient = one / (ok as u8);
+}
+"""
+
 # Whether two lists of samples are the same, bit by bit.
 SAMPLES = """
 fn same(a: &[f32], b: &[f32]) -> bool {
