@@ -1,0 +1,132 @@
+use mathlib.Core.Path.{◌≡◌, sym, ap, ◌∙◌}
+use mathlib.Core.Bool.{cond}
+use mathlib.Core.List.{List}
+use Prim.Native.Nat.{ℕ, suc, ◌+◌, ◌-◌, ◌*◌, ◌≤◌, ◌<◌}
+use native.Mathlib.Omega.{arith}
+use borrow.Author.Tests.{eq-eqb, ne_eqb}
+use lib.ListN.{length}
+use Rattle.refusals.specs.Numbers.{accepted, wrong_end}
+use Rattle.refusals.specs.Checks.{first_of}
+use Rattle.refusals.proofs.Tables.{is_true}
+use Rattle.region.specs.declared.Region.{Region}
+use Rattle.region.specs.Measures.{picture_fits}
+use Rattle.cut_file.specs.File.{sample_count, body_at}
+use Rattle.cut_file.specs.Read.{count_in, region_in, entry_checks}
+use Rattle.cut_file.specs.Entry.{entry_number}
+use Rattle.cut_file.proofs.Laws.{EntryAccepted, entry-accepted, entries-first, area-le, samples-counted, body-next}
+use Rattle.cut_file.proofs.check_entries.Goals as goal
+
+record Checked (s : List ℕ) (count i end : ℕ) : Type 0 where
+  i-le : i ≤ count
+  end_is : end ≡ body_at (region_in s) (count_in s) i
+  end-le : end ≤ 1030 + i * 201326592
+  number_is : first_of (entry_checks s 0 count) ≡ first_of (entry_checks s i (count - i))
+
+module _ (s : List ℕ) (count i : ℕ) (more : i < count) where
+  left_is : count - i ≡ suc (count - (i + 1))
+  left_is = omega arith
+
+  turn : entry_number s i ≡ 0 → first_of (entry_checks s i (count - i)) ≡ first_of (entry_checks s (i + 1) (count - (i + 1)))
+  turn e = rw left_is (entries-first s i (count - (i + 1)) ∙ rw (eq-eqb (entry_number s i) 0 e))
+
+  stopped : (entry_number s i ≡ 0 → ⊥) → first_of (entry_checks s i (count - i)) ≡ entry_number s i
+  stopped h = rw left_is (entries-first s i (count - (i + 1)) ∙ rw (ne_eqb (entry_number s i) 0 h))
+
+all_left : (s : List ℕ) (count : ℕ) → first_of (entry_checks s 0 count) ≡ first_of (entry_checks s 0 (count - 0))
+all_left s count = let z : count - 0 ≡ count = omega arith in rw z
+
+at-end : (s : List ℕ) (count i : ℕ) → count ≤ i → entry_checks s i (count - i) ≡ entry_checks s i 0
+at-end s count i h = let z : count - i ≡ 0 = omega arith in rw z
+
+wrong-end : (s : List ℕ) (count i : ℕ) → count ≤ i → (length s ≡ body_at (region_in s) (count_in s) i → ⊥) → first_of (entry_checks s i (count - i)) ≡ wrong_end
+unfolding entry_checks
+wrong-end s count i h n = rw (at-end s count i h, ne_eqb (length s) (body_at (region_in s) (count_in s) i) n)
+
+right_end : (s : List ℕ) (count i : ℕ) → count ≤ i → length s ≡ body_at (region_in s) (count_in s) i → first_of (entry_checks s i (count - i)) ≡ accepted
+unfolding entry_checks
+right_end s count i h n = rw (at-end s count i h, eq-eqb (length s) (body_at (region_in s) (count_in s) i) n)
+
+pub loop-i-init : goal.loop-i-init
+unfolding body_at
+loop-i-init c =
+    record {
+      i-le = omega arith;
+      end_is = rw (← c.requires.1) c.entry_at-end.ensures;
+      end-le = omega (arith, c.entry_at-end.ensures, c.requires.0);
+      number_is = all_left c.args.file.now c.args.count;
+    }
+
+pub check_entry-number-requires : goal.check_entry-number-requires
+check_entry-number-requires c = (omega (arith, c.requires.0), c.loop-i.invariant.end_is)
+
+pub returns-then-number-ne-ACCEPTED : goal.returns-then-number-ne-ACCEPTED
+returns-then-number-ne-ACCEPTED c =
+    let a = c.args in
+    let n = c.check_entry-number.ensures in
+    n ∙ sym (c.loop-i.invariant.number_is ∙ stopped a.file.now a.count c.loop-i.i c.loop-i-test.true (λ z. c.if-number-ne-ACCEPTED.true (n ∙ z)))
+
+pub loop-i-preserved : goal.loop-i-preserved
+loop-i-preserved c =
+    let file : List ℕ = c.args.file.now in
+    let entry-none : entry_number file c.loop-i.i ≡ 0 = sym c.check_entry-number.ensures ∙ c.if-number-ne-ACCEPTED.false in
+    let entry-good : EntryAccepted file c.loop-i.i = entry-accepted file c.loop-i.i entry-none in
+    let area-good : (region_in file c.loop-i.i).height * (region_in file c.loop-i.i).width ≤ 16777216 = area-le (region_in file c.loop-i.i) entry-good.region_fits in
+    let samples-are : c.sample_count.result ≡ sample_count (region_in file c.loop-i.i) = let r = region_in file c.loop-i.i in
+    c.sample_count.ensures
+    ∙ ap (λ (q : Region). cond (picture_fits q) (sample_count q) 0) c.region_in.ensures
+    ∙ samples-counted r (is_true (picture_fits r) entry-good.region_fits) in
+    let samples-le : c.sample_count.result ≤ 50331648 = omega (arith, samples-are, area-good) in
+    let inv = c.loop-i.invariant in
+    record {
+      i-le = omega arith;
+      end_is = omega (arith, inv.end_is, samples-are, body-next (region_in file) (count_in file) c.loop-i.i);
+      end-le = omega (arith, inv.end-le, samples-le);
+      number_is = inv.number_is ∙ turn file c.args.count c.loop-i.i (omega arith) entry-none;
+    }
+
+pub returns-then-file-end : goal.returns-then-file-end
+returns-then-file-end c =
+    let a = c.args in
+    let inv = c.loop-i.invariant in
+    sym (inv.number_is ∙ wrong-end a.file.now a.count c.loop-i.i (omega arith) (λ z. c.if-file-end.true (z ∙ sym inv.end_is)))
+
+pub returns : goal.returns
+returns c =
+    let a = c.args in
+    let inv = c.loop-i.invariant in
+    sym (inv.number_is ∙ right_end a.file.now a.count c.loop-i.i (omega arith) (c.if-file-end.false ∙ inv.end_is))
+
+pub entry_at-end-requires : goal.entry_at-end-requires
+entry_at-end-requires c = tt
+
+pub region_in-requires : goal.region_in-requires
+region_in-requires c = tt
+
+pub sample_count-requires : goal.sample_count-requires
+sample_count-requires c = tt
+
+pub overflow_mul-end : goal.overflow_mul-end
+overflow_mul-end c =
+    let file : List ℕ = c.args.file.now in
+    let entry-none : entry_number file c.loop-i.i ≡ 0 = sym c.check_entry-number.ensures ∙ c.if-number-ne-ACCEPTED.false in
+    let entry-good : EntryAccepted file c.loop-i.i = entry-accepted file c.loop-i.i entry-none in
+    let area-good : (region_in file c.loop-i.i).height * (region_in file c.loop-i.i).width ≤ 16777216 = area-le (region_in file c.loop-i.i) entry-good.region_fits in
+    let samples-are : c.sample_count.result ≡ sample_count (region_in file c.loop-i.i) = let r = region_in file c.loop-i.i in
+    c.sample_count.ensures
+    ∙ ap (λ (q : Region). cond (picture_fits q) (sample_count q) 0) c.region_in.ensures
+    ∙ samples-counted r (is_true (picture_fits r) entry-good.region_fits) in
+    let samples-le : c.sample_count.result ≤ 50331648 = omega (arith, samples-are, area-good) in
+    omega (arith, samples-le)
+
+pub overflow_add-end : goal.overflow_add-end
+overflow_add-end c =
+    let file : List ℕ = c.args.file.now in
+    let entry-none : entry_number file c.loop-i.i ≡ 0 = sym c.check_entry-number.ensures ∙ c.if-number-ne-ACCEPTED.false in
+    let entry-good : EntryAccepted file c.loop-i.i = entry-accepted file c.loop-i.i entry-none in
+    let area-good : (region_in file c.loop-i.i).height * (region_in file c.loop-i.i).width ≤ 16777216 = area-le (region_in file c.loop-i.i) entry-good.region_fits in
+    let samples-are : c.sample_count.result ≡ sample_count (region_in file c.loop-i.i) = let r = region_in file c.loop-i.i in
+    c.sample_count.ensures
+    ∙ ap (λ (q : Region). cond (picture_fits q) (sample_count q) 0) c.region_in.ensures
+    ∙ samples-counted r (is_true (picture_fits r) entry-good.region_fits) in
+    let samples-le : c.sample_count.result ≤ 50331648 = omega (arith, samples-are, area-good) in
+    omega (arith, samples-le, c.loop-i.invariant.end-le, c.requires.0)

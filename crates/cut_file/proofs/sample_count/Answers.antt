@@ -1,0 +1,20 @@
+-- `cut_file::sample_count` meets its contract. Assumes nothing.
+use mathlib.Core.Path.{◌≡◌, sym, ◌∙◌}
+use mathlib.Core.Bool.{true, false}
+use Prim.Native.Nat.{◌*◌, ◌≤◌}
+use borrow.Author.Rules.{rules}
+use borrow.Author.Tests.{not-true, not-false}
+use native.Mathlib.Omega.{arith}
+use Rattle.refusals.proofs.Tables.{of-true}
+use Rattle.region.specs.Measures.{picture_fits}
+use Rattle.cut_file.proofs.Laws.{area-le}
+use Rattle.cut_file.proofs.sample_count.Goals as goal
+
+pub picture_fits-requires : goal.picture_fits-requires
+picture_fits-requires c = tt
+
+pub overflow_mul-result-2 : goal.overflow_mul-result-2
+overflow_mul-result-2 c =
+    let fits : picture_fits c.args.r ≡ true = sym c.picture_fits.ensures ∙ not-false c.picture_fits.result c.if-not-picture_fits.false in
+    let area : c.args.r.height * c.args.r.width ≤ 16777216 = area-le c.args.r (of-true (picture_fits c.args.r) fits) in
+    omega (arith, area)

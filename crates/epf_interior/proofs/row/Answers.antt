@@ -1,0 +1,31 @@
+use mathlib.Core.Path.{◌≡◌, refl, ◌∙◌}
+use Prim.Native.Nat.{ℕ, ◌+◌, ◌-◌, ◌*◌, ◌≤◌, ◌<◌}
+use native.Mathlib.Omega.{arith}
+use lib.ListN.{length, length-set}
+use Rattle.epf_rects.specs.Three.{three_fill}
+use Rattle.epf_rects.proofs.Three.{three-none, three-turn, three-end}
+use Rattle.epf_interior.specs.Inside.{lane_in}
+use Rattle.epf_interior.proofs.Inside.{lane-at}
+use Rattle.epf_interior.proofs.row.Goals as goal
+
+pub loop-i-preserved : goal.loop-i-preserved
+loop-i-preserved c =
+    let a = c.args in let inv = c.loop-i.invariant in let w = c.weights_at-w.ensures.0 in
+    let lane = lane-at a.src.now a.stride a.plane a.scales.now a.slopes.now a.first a.corner in (
+      omega arith,
+      simp length-set inv.1,
+      three-turn _ _ _ a.plane c.loop-i.i _ _ _ _ (omega arith) inv.2
+          (lane 0 c.loop-i.i _ _ _ (omega arith) w c.mix-a.ensures) (lane 1 c.loop-i.i _ _ _ (omega arith) w c.mix-b.ensures) (lane 2 c.loop-i.i _ _ _ (omega arith) w c.mix-c.ensures),
+    )
+
+pub loop-i-init : goal.loop-i-init
+loop-i-init c = (omega arith, refl, three-none _ _ _ _)
+
+pub bounds-dst-at-in-loop-i : goal.bounds-dst-at-in-loop-i
+bounds-dst-at-in-loop-i c = simp length-set (omega arith)
+
+pub bounds-dst-at-in-loop-i-2 : goal.bounds-dst-at-in-loop-i-2
+bounds-dst-at-in-loop-i-2 c = simp length-set (omega arith)
+
+pub returns : goal.returns
+returns c = let inv = c.loop-i.invariant in three-end _ _ _ _ _ _ _ inv.2 inv.0 c.loop-i-test.false
