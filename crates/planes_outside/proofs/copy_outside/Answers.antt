@@ -1,15 +1,38 @@
 -- `planes_outside::copy_outside` meets its contract: if a test fails, `dst` stays; otherwise it is `passed` with the samples of the filter region unchanged. Assumes nothing.
 use mathlib.Core.Path.{◌≡◌, sym, ◌∙◌}
-use mathlib.Core.Bool.{true}
-use Prim.Native.Nat.{◌≤◌}
+use mathlib.Core.Bool.{true, false, ◌&&◌}
+use mathlib.Core.List.{List}
+use Prim.Native.Nat.{ℕ, ◌-◌}
 use native.Mathlib.Omega.{arith}
 use borrow.Author.Tests.{not-true, not-false, eqb-true}
 use lib.Dec.{eqb}
 use lib.ListN.{length}
-use Rattle.planes.specs.Band.{set_fits, rows_fit, passed, inner, copied_outside}
+use lib.Ieee.{Float}
+use Rattle.planes.specs.declared.Layout.{Layout}
+use Rattle.planes.specs.Band.{set_fits, rows_fit, copied_outside}
 use Rattle.planes.specs.Fits.{BandFits}
+use Rattle.planes.specs.Rect.{planes_fill}
+use Rattle.planes.specs.Outside.{planes_outside_of}
 use Rattle.planes.proofs.Stored.{band-fits, and_first, and_second, full-rows, copied-alone, copied-nothing, copied-full, no_source, no_target, no_rows, all_fit}
 use Rattle.planes_outside.proofs.copy_outside.Goals as goal
+
+-- all three tests hold
+module _ (l : Layout) (n from to : ℕ) (src dst : List Float) (a : set_fits l n (length src) ≡ true) (b : set_fits l n (length dst) ≡ true) (r : rows_fit l from to ≡ true) where
+  fits : BandFits l n from to src dst
+  fits = band-fits l n from to src dst a b r
+
+  alone : l.full ≡ false → dst ≡ copied_outside l n from to src dst
+  alone e = copied-alone l n from to src dst fits e ∙ all_fit l n from to src dst a b r
+
+  whole : (eqb l.width l.image.width && eqb l.height l.image.height) ≡ true → dst ≡ copied_outside l n from to src dst
+  whole e =
+      copied-nothing l n from to src dst fits
+      (eqb-true _ _ (and_first (eqb l.width l.image.width) (eqb l.height l.image.height) e))
+      (eqb-true _ _ (and_second (eqb l.width l.image.width) (eqb l.height l.image.height) e)) ∙ all_fit l n from to src dst a b r
+
+  full : l.full ≡ true → planes_fill l.image.width l.image.height 0 l.image.width from (to - from) (planes_outside_of l l.image.width l.image.height from src dst) dst n
+      ≡ copied_outside l n from to src dst
+  full e = copied-full l n from to src dst fits e ∙ all_fit l n from to src dst a b r
 
 pub returns-then-not-set_fits : goal.returns-then-not-set_fits
 returns-then-not-set_fits c = no_source _ _ _ _ _ _ (sym c.set_fits.ensures ∙ c.if-not-set_fits.true)
@@ -22,57 +45,21 @@ returns-then-not-rows_fit c = no_rows _ _ _ _ _ _ (sym c.set_fits.ensures ∙ c.
     (sym c.set_fits-2.ensures ∙ c.if-not-set_fits-2.false) (sym c.rows_fit.ensures ∙ c.if-not-rows_fit.true)
 
 pub returns-then-not-l : goal.returns-then-not-l
-returns-then-not-l c =
-    let src-fits : set_fits c.args.l c.args.n (length c.args.src.now) ≡ true = sym c.set_fits.ensures ∙ c.if-not-set_fits.false in
-    let dst-fits : set_fits c.args.l c.args.n (length c.args.dst.now) ≡ true = sym c.set_fits-2.ensures ∙ c.if-not-set_fits-2.false in
-    let rows_fit_lem : rows_fit c.args.l c.args.from c.args.to ≡ true = sym c.rows_fit.ensures ∙ c.if-not-rows_fit.false in
-    let fits : BandFits c.args.l c.args.n c.args.from c.args.to c.args.src.now c.args.dst.now = band-fits c.args.l c.args.n c.args.from c.args.to c.args.src.now c.args.dst.now src-fits dst-fits rows_fit_lem in
-    let held : passed c.args.n c.args.l c.args.from c.args.to (inner c.args.l c.args.dst.now) c.args.src.now c.args.dst.now
-    ≡ copied_outside c.args.l c.args.n c.args.from c.args.to c.args.src.now c.args.dst.now = all_fit c.args.l c.args.n c.args.from c.args.to c.args.src.now c.args.dst.now src-fits dst-fits rows_fit_lem in
-    let s = c in
-    copied-alone s.args.l s.args.n s.args.from s.args.to s.args.src.now s.args.dst.now fits (not-true s.args.l.full c.if-not-l.true) ∙ held
+returns-then-not-l c = alone _ _ _ _ _ _ (sym c.set_fits.ensures ∙ c.if-not-set_fits.false)
+    (sym c.set_fits-2.ensures ∙ c.if-not-set_fits-2.false) (sym c.rows_fit.ensures ∙ c.if-not-rows_fit.false) (not-true _ c.if-not-l.true)
 
 pub returns-then-fills_image : goal.returns-then-fills_image
-returns-then-fills_image c =
-    let src-fits : set_fits c.args.l c.args.n (length c.args.src.now) ≡ true = sym c.set_fits.ensures ∙ c.if-not-set_fits.false in
-    let dst-fits : set_fits c.args.l c.args.n (length c.args.dst.now) ≡ true = sym c.set_fits-2.ensures ∙ c.if-not-set_fits-2.false in
-    let rows_fit_lem : rows_fit c.args.l c.args.from c.args.to ≡ true = sym c.rows_fit.ensures ∙ c.if-not-rows_fit.false in
-    let fits : BandFits c.args.l c.args.n c.args.from c.args.to c.args.src.now c.args.dst.now = band-fits c.args.l c.args.n c.args.from c.args.to c.args.src.now c.args.dst.now src-fits dst-fits rows_fit_lem in
-    let held : passed c.args.n c.args.l c.args.from c.args.to (inner c.args.l c.args.dst.now) c.args.src.now c.args.dst.now
-    ≡ copied_outside c.args.l c.args.n c.args.from c.args.to c.args.src.now c.args.dst.now = all_fit c.args.l c.args.n c.args.from c.args.to c.args.src.now c.args.dst.now src-fits dst-fits rows_fit_lem in
-    let s = c in
-    let all = sym c.fills_image.ensures ∙ c.if-fills_image.true in
-    copied-nothing s.args.l s.args.n s.args.from s.args.to s.args.src.now s.args.dst.now fits
-    (eqb-true _ _ (and_first (eqb s.args.l.width s.args.l.image.width) (eqb s.args.l.height s.args.l.image.height) all))
-    (eqb-true _ _ (and_second (eqb s.args.l.width s.args.l.image.width) (eqb s.args.l.height s.args.l.image.height) all)) ∙ held
-
-pub overflow_sub-to : goal.overflow_sub-to
-overflow_sub-to c =
-    let src-fits : set_fits c.args.l c.args.n (length c.args.src.now) ≡ true = sym c.set_fits.ensures ∙ c.if-not-set_fits.false in
-    let dst-fits : set_fits c.args.l c.args.n (length c.args.dst.now) ≡ true = sym c.set_fits-2.ensures ∙ c.if-not-set_fits-2.false in
-    let rows_fit_lem : rows_fit c.args.l c.args.from c.args.to ≡ true = sym c.rows_fit.ensures ∙ c.if-not-rows_fit.false in
-    let fits : BandFits c.args.l c.args.n c.args.from c.args.to c.args.src.now c.args.dst.now = band-fits c.args.l c.args.n c.args.from c.args.to c.args.src.now c.args.dst.now src-fits dst-fits rows_fit_lem in
-    fits.order
+returns-then-fills_image c = whole _ _ _ _ _ _ (sym c.set_fits.ensures ∙ c.if-not-set_fits.false)
+    (sym c.set_fits-2.ensures ∙ c.if-not-set_fits-2.false) (sym c.rows_fit.ensures ∙ c.if-not-rows_fit.false) (sym c.fills_image.ensures ∙ c.if-fills_image.true)
 
 pub copy_planes_outside-requires : goal.copy_planes_outside-requires
 copy_planes_outside-requires c =
-    let src-fits : set_fits c.args.l c.args.n (length c.args.src.now) ≡ true = sym c.set_fits.ensures ∙ c.if-not-set_fits.false in
-    let dst-fits : set_fits c.args.l c.args.n (length c.args.dst.now) ≡ true = sym c.set_fits-2.ensures ∙ c.if-not-set_fits-2.false in
-    let rows_fit_lem : rows_fit c.args.l c.args.from c.args.to ≡ true = sym c.rows_fit.ensures ∙ c.if-not-rows_fit.false in
-    let fits : BandFits c.args.l c.args.n c.args.from c.args.to c.args.src.now c.args.dst.now = band-fits c.args.l c.args.n c.args.from c.args.to c.args.src.now c.args.dst.now src-fits dst-fits rows_fit_lem in
-    let rows : c.args.l.full ≡ true → c.args.to ≤ c.args.l.image.height = λ e. full-rows c.args.l c.args.to e fits.rows in
-    let s = c in
-    record { layout_fits = fits.layout; n_bound = (fits.planes, fits.source, fits.target, omega (arith, fits.order, rows (not-false s.args.l.full c.if-not-l.false))) }
+    let f = fits c.args.l c.args.n c.args.from c.args.to c.args.src.now c.args.dst.now (sym c.set_fits.ensures ∙ c.if-not-set_fits.false)
+    (sym c.set_fits-2.ensures ∙ c.if-not-set_fits-2.false) (sym c.rows_fit.ensures ∙ c.if-not-rows_fit.false) in
+    record { layout_fits = f.layout; n_bound = (f.planes, f.source, f.target, omega (arith, f.order, full-rows c.args.l c.args.to (not-false _ c.if-not-l.false) f.rows)) }
 
 pub returns : goal.returns
 returns c =
-    let src-fits : set_fits c.args.l c.args.n (length c.args.src.now) ≡ true = sym c.set_fits.ensures ∙ c.if-not-set_fits.false in
-    let dst-fits : set_fits c.args.l c.args.n (length c.args.dst.now) ≡ true = sym c.set_fits-2.ensures ∙ c.if-not-set_fits-2.false in
-    let rows_fit_lem : rows_fit c.args.l c.args.from c.args.to ≡ true = sym c.rows_fit.ensures ∙ c.if-not-rows_fit.false in
-    let fits : BandFits c.args.l c.args.n c.args.from c.args.to c.args.src.now c.args.dst.now = band-fits c.args.l c.args.n c.args.from c.args.to c.args.src.now c.args.dst.now src-fits dst-fits rows_fit_lem in
-    let held : passed c.args.n c.args.l c.args.from c.args.to (inner c.args.l c.args.dst.now) c.args.src.now c.args.dst.now
-    ≡ copied_outside c.args.l c.args.n c.args.from c.args.to c.args.src.now c.args.dst.now = all_fit c.args.l c.args.n c.args.from c.args.to c.args.src.now c.args.dst.now src-fits dst-fits rows_fit_lem in
-    let s = c in
     c.copy_planes_outside.ensures
-    ∙ copied-full s.args.l s.args.n s.args.from s.args.to s.args.src.now s.args.dst.now fits (not-false s.args.l.full c.if-not-l.false)
-    ∙ held
+    ∙ full _ _ _ _ _ _ (sym c.set_fits.ensures ∙ c.if-not-set_fits.false)
+    (sym c.set_fits-2.ensures ∙ c.if-not-set_fits-2.false) (sym c.rows_fit.ensures ∙ c.if-not-rows_fit.false) (not-false _ c.if-not-l.false)

@@ -16,15 +16,6 @@ above r y o p e = omega (arith, row-above y r.stride p)
 below : (r : PlaneRegion) (len y o : ℕ) → RegionFits r len → y + 2 < r.height → o ≡ r.at + y * r.stride → o + r.stride + r.stride + r.width ≤ len
 below r len y o f p e = omega (arith, row_below y r.stride, row_below (y + 1) r.stride, row_room r len (y + 1 + 1) f (omega arith))
 
-pub overflow_add-b : goal.overflow_add-b
-overflow_add-b c = omega (arith, below c.args.r (length c.args.src.now) c.args.y c.args.o c.requires.region_fits c.requires.y_nonzero.1 c.requires.o_value.0)
-
-pub overflow_sub-o : goal.overflow_sub-o
-overflow_sub-o c = above c.args.r c.args.y c.args.o c.requires.y_nonzero.0 c.requires.o_value.0
-
-pub overflow_add-b-2 : goal.overflow_add-b-2
-overflow_add-b-2 c = omega (arith, below c.args.r (length c.args.src.now) c.args.y c.args.o c.requires.region_fits c.requires.y_nonzero.1 c.requires.o_value.0)
-
 pub gabor_pair-requires : goal.gabor_pair-requires
 gabor_pair-requires c =
     omega (

@@ -1,5 +1,4 @@
 use native.Mathlib.Omega.{arith}
-use lib.ListN.{length-set}
 use Rattle.gabor_plane.specs.Rows.{inner_sample}
 use Rattle.gabor_plane.proofs.PairLaws.{both-none, both-more, both-all}
 use Rattle.gabor_plane.proofs.pairs.tap_pair.Goals as goal
@@ -10,9 +9,6 @@ loop-j-preserved c = both-more c.loop-j.invariant (omega arith) (omega arith) c.
 
 pub loop-j-init : goal.loop-j-init
 loop-j-init c = both-none _ _ _ _ _ _
-
-pub bounds-dst-p : goal.bounds-dst-p
-bounds-dst-p c = simp length-set (omega arith)
 
 pub returns : goal.returns
 returns c = both-all c.loop-j.invariant c.loop-j-test.false

@@ -1,6 +1,5 @@
 -- `gabor_plane::rows::gabor_row` meets its contract: a row of one column, or two ends and the columns between them. Assumes nothing.
 use native.Mathlib.Omega.{arith}
-use lib.ListN.{length-set}
 use Rattle.gabor_plane.proofs.RowLaws.{row_one, inner-more}
 use Rattle.gabor_plane.proofs.rows.gabor_row.Goals as goal
 
@@ -9,9 +8,3 @@ returns c = inner-more _ _ _ _ _ _ _ _ (omega arith) _ _ _ c.tap_at.ensures c.ta
 
 pub returns-then-w-eq1 : goal.returns-then-w-eq1
 returns-then-w-eq1 c = row_one _ _ _ _ _ _ _ _ _ _ (omega arith) c.lone_at.ensures
-
-pub tap_run-requires : goal.tap_run-requires
-tap_run-requires c = simp length-set (omega arith)
-
-pub bounds-dst-o-3 : goal.bounds-dst-o-3
-bounds-dst-o-3 c = omega (arith, simp length-set at c.tap_run.auto.dst)
