@@ -1,0 +1,20 @@
+-- `gabor::pass::gabor_planes` meets its contract. Assumes nothing.
+use Rattle.std.proofs.Common.{refl, ◌∙◌, arith}
+use Rattle.planes.specs.Rect.{planes_fill}
+use Rattle.planes.proofs.Room.{PlaneRoom, plane-room}
+use Rattle.gabor.proofs.PassLaws.{plane-next, plane-region}
+use Rattle.gabor.proofs.pass.gabor_planes.Goals as goal
+
+pub loop-c-init : goal.loop-c-init
+unfolding planes_fill
+loop-c-init c = (omega arith, refl, refl)
+
+pub loop-c-preserved : goal.loop-c-preserved
+loop-c-preserved c =
+    let inv = c.loop-c.invariant in
+    let q = c.requires.n_bound in
+    let room : PlaneRoom c.args.l c.args.n c.loop-c.c = plane-room c.args.l c.args.n c.loop-c.c c.requires.layout_fits q.0 c.loop-c-test.true in (
+      omega arith,
+      c.gabor_plane.auto.dst ∙ inv.1,
+      plane-next _ _ _ _ _ _ _ _ _ inv.2 (rw q.3 (plane-region _ _ _ c.requires.layout_fits room q.1 q.2)) (omega (arith, q.3, q.4, inv.1)) q.5 c.gabor_plane.ensures,
+    )
