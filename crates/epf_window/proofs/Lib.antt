@@ -1,2 +1,1 @@
-pub mod Views
 pub mod Window

@@ -1,0 +1,32 @@
+use mathlib.Core.Path.{◌≡◌}
+use Prim.Native.Nat.{ℕ, ◌-◌, ◌<◌}
+use native.Mathlib.Omega.{arith}
+use borrow.Author.Rules.{rules}
+use lib.IntN.{ℤ}
+use Rattle.mirror.specs.Mirror.{mirror}
+use Rattle.mirror.proofs.Laws.{mirror-lt}
+use Rattle.planes.proofs.Loop.{Written, written_none, written-more, written_all}
+use Rattle.epf_window.specs.Window.{row_sample}
+use Rattle.epf_window.proofs.row.copy_mirrored.Goals as goal
+
+inside : (z : ℤ) (w k : ℕ) → 0 < w → k ≡ mirror z w → k < w
+inside z w k p e = rw e (mirror-lt z w p)
+
+pub loop-j-preserved : goal.loop-j-preserved
+unfolding row_sample
+loop-j-preserved c = written-more c.loop-j.invariant (omega arith) (rw c.mirrored-k.ensures)
+
+pub loop-j-init : goal.loop-j-init
+loop-j-init c = written_none _ _ _ _
+
+pub overflow_add-win : goal.overflow_add-win
+overflow_add-win c = omega (arith, inside _ _ _ c.requires.2 c.mirrored-k.ensures)
+
+pub offset_bounds-src-row : goal.offset_bounds-src-row
+offset_bounds-src-row c = omega (arith, inside _ _ _ c.requires.2 c.mirrored-k.ensures)
+
+pub bounds-src-row : goal.bounds-src-row
+bounds-src-row c = omega (arith, inside _ _ _ c.requires.2 c.mirrored-k.ensures)
+
+pub returns : goal.returns
+returns c = written_all c.loop-j.invariant c.loop-j-test.false
