@@ -1,0 +1,16 @@
+-- `epf_lanes::rows::three_row` meets its contract. Steps 1 and 2 have the same lanes. Assumes nothing.
+use borrow.Author.Rules.{rules}
+use Rattle.epf_lanes.proofs.Lanes.{row_first, row-later}
+use Rattle.epf_lanes.proofs.rows.three_row.Goals as goal
+
+pub three_row_0-requires : goal.three_row_0-requires
+three_row_0-requires c = c.requires
+
+pub returns-then-step-eq0 : goal.returns-then-step-eq0
+returns-then-step-eq0 c = rw (row_first c.args.step c.args.fields.now c.args.slopes.now c.args.win.now c.args.first c.args.r c.if-step-eq0.true) at c.three_row_0.ensures
+
+pub three_row_1-requires : goal.three_row_1-requires
+three_row_1-requires c = c.requires
+
+pub returns : goal.returns
+returns c = rw (row-later c.args.step c.args.fields.now c.args.slopes.now c.args.win.now c.args.first c.args.r c.if-step-eq0.false) at c.three_row_1.ensures
