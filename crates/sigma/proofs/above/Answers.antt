@@ -1,5 +1,4 @@
 -- `sigma::above` meets its contract. Assumes nothing.
-use borrow.Author.Rules.{rules}
 use borrow.Author.Tests.{lt-ltb, le-ltb}
 use Rattle.sigma.specs.Runs.{above_in}
 use Rattle.sigma.proofs.above.Goals as goal

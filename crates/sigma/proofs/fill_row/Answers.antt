@@ -8,7 +8,7 @@ use Rattle.planes.proofs.Fill.{fill_end}
 use Rattle.sigma_groups.specs.Held.{not_held}
 use Rattle.sigma_grids.proofs.Laws.{none_below}
 use Rattle.sigma_groups.proofs.Laws.{Held, held}
-use Rattle.sigma.specs.Runs.{row_sigma, RunOf}
+use Rattle.sigma.specs.Runs.{RunOf}
 use Rattle.sigma.proofs.Runs.{run_fits_lem, row-turn}
 use Rattle.sigma.proofs.fill_row.Goals as goal
 
@@ -31,8 +31,7 @@ fill_run-requires c =
     let ends : x + c.run_at-run.result.n ≤ c.args.row.across = omega (arith, run_of.n-le, c.loop-x-test.true) in
     let last-held : not_held c.args.frame c.args.table.now (c.args.row.left + x + (c.run_at-run.result.n - 1)) c.args.row.by ≡ false = let e : c.args.row.left + x + (c.run_at-run.result.n - 1) ≡ c.args.row.left + (x + (c.run_at-run.result.n - 1)) = omega arith in
     rw e (held_at (x + (c.run_at-run.result.n - 1)) (omega (arith, ends, run_of.n_pos))) in
-    let room : c.args.o + x + c.run_at-run.result.n ≤ length c.loop-x.sigmas = omega (arith, ends, c.requires.1, c.loop-x.invariant.1) in
-    (
+    let room : c.args.o + x + c.run_at-run.result.n ≤ length c.loop-x.sigmas = omega (arith, ends, c.requires.1, c.loop-x.invariant.1) in (
       run_fits_lem c.args.frame c.args.sizes c.args.table.now c.args.grids.now c.requires.0.grids-of c.args.row.by (c.args.row.left + x) _ _ run_of last-held,
       room,
       omega (arith, ends),

@@ -1,6 +1,5 @@
 use mathlib.Core.Path.{◌≡◌, refl, sym, ap, ◌∙◌}
-use Prim.Native.Nat.{ℕ, ◌+◌, ◌-◌, ◌*◌, ◌<◌, ◌≤◌}
-use borrow.Author.Rules.{rules}
+use Prim.Native.Nat.{ℕ, ◌+◌, ◌*◌, ◌<◌, ◌≤◌}
 use native.Mathlib.Nat.{suc-mul, mul-le-mul_right, zero-mul}
 use native.Mathlib.Numerals.{add-one}
 use native.Mathlib.Omega.{arith}
@@ -8,7 +7,7 @@ use lib.ListN.{length}
 use Rattle.planes.specs.Fill.{fill}
 use Rattle.sigma_groups.specs.Measures.{blocks_across, blocks_down}
 use Rattle.sigma_groups.proofs.BlocksFit.{down_le}
-use Rattle.sigma.proofs.Runs.{flat_sigma, row_fits, rows-turn, rows_end}
+use Rattle.sigma.proofs.Runs.{row_fits, rows-turn, rows_end}
 use Rattle.sigma.proofs.fill_rows.Goals as goal
 
 pub loop-y-init : goal.loop-y-init

@@ -1,15 +1,9 @@
 -- `sigma::fill_rows` meets its contract. The invariant: y rows are written, and row y starts at index o. Assumes nothing.
-use mathlib.Core.Path.{◌≡◌, refl, sym, ap, ◌∙◌}
-use Prim.Native.Nat.{ℕ, ◌+◌, ◌-◌, ◌*◌, ◌<◌, ◌≤◌}
-use borrow.Author.Rules.{rules}
-use native.Mathlib.Nat.{suc-mul, mul-le-mul_right, zero-mul}
-use native.Mathlib.Numerals.{add-one}
-use native.Mathlib.Omega.{arith}
+use mathlib.Core.Path.{◌≡◌}
+use Prim.Native.Nat.{◌-◌, ◌*◌, ◌≤◌}
 use lib.ListN.{length}
 use Rattle.planes.specs.Fill.{fill}
-use Rattle.sigma_groups.specs.Measures.{blocks_across, blocks_down}
-use Rattle.sigma_groups.proofs.BlocksFit.{down_le}
-use Rattle.sigma.proofs.Runs.{flat_sigma, row_fits, rows-turn, rows_end}
+use Rattle.sigma.proofs.Runs.{flat_sigma}
 use Rattle.sigma.proofs.fill_rows.Given as goal
 
 abbrev pub invariant-loop-y : goal.invariant-loop-y

@@ -1,7 +1,6 @@
 -- `sigma::fill_run` meets its contract. Assumes nothing.
 use mathlib.Core.Path.{◌≡◌, ap, ◌∙◌}
 use Prim.Native.Nat.{ℕ, ◌+◌, ◌*◌, ◌≤◌}
-use borrow.Author.Rules.{rules}
 use native.Mathlib.Omega.{arith}
 use Rattle.planes.proofs.Copy.{copied-run}
 use Rattle.planes.proofs.Fill.{fill-cong}

@@ -2,7 +2,7 @@
 use Rattle.std.proofs.Common.{◌≡◌, Bool, true, false, not, ◌&&◌, List, ℕ, ◌*◌, ◌≤◌, eqb, length, sym, ap, ◌∙◌, arith}
 use borrow.Author.Tests.{eq-eqb, ne_eqb}
 use lib.Ieee.{Float}
-use Rattle.refusals.specs.Flags.{flag_fits, flag_set}
+use Rattle.refusals.specs.Flags.{flag_set}
 use Rattle.frame.specs.declared.Frame.{Frame}
 use Rattle.frame.specs.declared.GroupSizes.{GroupSizes}
 use Rattle.frame.specs.Sizes.{sizes_of}
@@ -12,7 +12,6 @@ use Rattle.sigma_grids.specs.declared.StartAnswer.{StartAnswer}
 use Rattle.sigma_grids.proofs.Laws.{start-inside, refused-bad, passed-good}
 use Rattle.sigma_grids.specs.Table.{some_below, bad_grid, bad_presence, grid_start}
 use Rattle.sigma_grids.specs.Start.{start_outcome}
-use Rattle.sigma_groups.specs.Held.{some_not_held}
 use Rattle.sigma_groups.specs.Outcome.{table_fits, some_group, grids_fit}
 use Rattle.sigma_groups.specs.Fitting.{TableOf, Fitting}
 use Rattle.sigma_groups.proofs.BlocksFit.{fits-blocks}

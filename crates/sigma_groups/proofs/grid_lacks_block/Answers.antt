@@ -1,5 +1,4 @@
 -- `sigma_groups::grid_lacks_block` meets its contract. Assumes nothing.
-use borrow.Author.Rules.{rules}
 use borrow.Author.Tests.{eq-eqb, ne_eqb, le-leb, lt-leb}
 use Rattle.sigma_grids.specs.Table.{presence, grid_width, grid_lacks_block}
 use Rattle.sigma_groups.proofs.grid_lacks_block.Goals as goal

@@ -1,9 +1,6 @@
-use mathlib.Core.Path.{◌≡◌, refl, sym, ◌∙◌}
-use mathlib.Core.Bool.{false}
-use Prim.Native.Nat.{ℕ, ◌+◌, ◌-◌, ◌≤◌}
+use mathlib.Core.Path.{refl, sym, ◌∙◌}
 use native.Mathlib.Omega.{arith}
 use Rattle.sigma_grids.specs.Table.{some_below}
-use Rattle.sigma_groups.specs.Held.{not_held}
 use Rattle.sigma_grids.proofs.Laws.{some-found, some_turn, some_end}
 use Rattle.sigma_groups.proofs.row_not_held.Goals as goal
 

@@ -1,11 +1,9 @@
 -- `sigma_groups::row_not_held` meets its contract. The invariant: each block before column x is held. Assumes nothing.
-use mathlib.Core.Path.{◌≡◌, refl, sym, ◌∙◌}
+use mathlib.Core.Path.{◌≡◌}
 use mathlib.Core.Bool.{false}
 use Prim.Native.Nat.{ℕ, ◌+◌, ◌-◌, ◌≤◌}
-use native.Mathlib.Omega.{arith}
 use Rattle.sigma_grids.specs.Table.{some_below}
 use Rattle.sigma_groups.specs.Held.{not_held}
-use Rattle.sigma_grids.proofs.Laws.{some-found, some_turn, some_end}
 use Rattle.sigma_groups.proofs.row_not_held.Given as goal
 
 abbrev pub invariant-loop-x : goal.invariant-loop-x

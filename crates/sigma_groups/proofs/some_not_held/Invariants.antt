@@ -1,13 +1,9 @@
 -- `sigma_groups::some_not_held` meets its contract. The invariant: each block above row y is held. Assumes nothing.
-use mathlib.Core.Path.{◌≡◌, refl, sym, ◌∙◌}
+use mathlib.Core.Path.{◌≡◌}
 use mathlib.Core.Bool.{false}
 use Prim.Native.Nat.{ℕ, ◌+◌, ◌-◌, ◌≤◌}
-use borrow.Author.Rules.{rules}
-use native.Mathlib.Omega.{arith}
 use Rattle.sigma_grids.specs.Table.{some_below}
-use Rattle.sigma_groups.specs.Held.{not_held, some_not_held}
-use Rattle.sigma_groups.proofs.BlocksFit.{across-le}
-use Rattle.sigma_grids.proofs.Laws.{some-found, some_turn, some_end}
+use Rattle.sigma_groups.specs.Held.{not_held}
 use Rattle.sigma_groups.proofs.some_not_held.Given as goal
 
 abbrev pub invariant-loop-y : goal.invariant-loop-y

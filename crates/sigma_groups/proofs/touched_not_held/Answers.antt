@@ -1,7 +1,6 @@
 -- `sigma_groups::touched_not_held` meets its contract. Assumes nothing.
 use mathlib.Core.Path.{◌≡◌}
 use mathlib.Core.Bool.{true, false}
-use borrow.Author.Rules.{rules}
 use Rattle.sigma_groups.proofs.touched_not_held.Goals as goal
 
 pub returns-then-on : goal.returns-then-on
