@@ -1,5 +1,4 @@
 -- `planes_layout::layout_of` meets its contract. Assumes nothing.
-use borrow.Author.Rules.{rules}
 use Rattle.planes_layout.proofs.Fits.{answer-refused, answer-accepted}
 use Rattle.planes_layout.proofs.layout_of.Goals as goal
 

@@ -1,8 +1,5 @@
 -- `bounds_fit` meets its contract. Assumes nothing.
-use mathlib.Core.Path.{◌≡◌, sym, ◌∙◌}
-use Prim.Native.Nat.{ℕ}
-use borrow.Author.Rules.{rules}
-use Rattle.region_interval.proofs.Flags.{not-true, not-false}
+use mathlib.Core.Path.{sym, ◌∙◌}
 use Rattle.region.proofs.Laws.{bounds-axes}
 use Rattle.region.proofs.bounds_fit.Goals as goal
 

@@ -1,8 +1,5 @@
 -- `inside` meets its contract. Assumes nothing.
-use mathlib.Core.Path.{◌≡◌, sym, ◌∙◌}
-use Prim.Native.Nat.{ℕ}
-use borrow.Author.Rules.{rules}
-use Rattle.region_interval.proofs.Flags.{not-true, not-false}
+use mathlib.Core.Path.{sym, ◌∙◌}
 use Rattle.region.specs.Regions.{inside}
 use Rattle.region.proofs.inside.Goals as goal
 

@@ -1,6 +1,4 @@
 -- `within` meets its contract. Assumes nothing.
-use mathlib.Core.Path.{◌≡◌, ◌∙◌}
-use borrow.Author.Rules.{rules}
 use Rattle.region_axis.proofs.Laws.{axis-ok}
 use Rattle.region.proofs.within.Goals as goal
 

@@ -1,8 +1,6 @@
 -- `check_made` meets its contract. Assumes nothing.
 use mathlib.Core.Path.{◌≡◌, sym, ◌∙◌}
 use mathlib.Core.Bool.{true}
-use Prim.Native.Nat.{ℕ}
-use borrow.Author.Rules.{rules}
 use Rattle.region_interval.proofs.Flags.{not-true, not-false}
 use mir.Syntax.{w32}
 use mir.Facts.{to_z-of_z}

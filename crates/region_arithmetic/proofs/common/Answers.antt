@@ -1,10 +1,9 @@
 -- `common` meets its contract. Assumes nothing.
 use mathlib.Core.Path.{◌≡◌, sym, ap, ◌∙◌}
 use Prim.Native.Nat.{ℕ}
-use borrow.Author.Rules.{rules}
 use mir.Facts.{to_z-of_z}
 use Rattle.region_interval.proofs.Flags.{true_of}
-use Rattle.region_interval.specs.Overlap.{vacant, meet}
+use Rattle.region_interval.specs.Overlap.{meet}
 use Rattle.region.proofs.Answers.{given_holds}
 use Rattle.region_arithmetic.specs.Answers.{region_answer, region_number}
 use Rattle.region.specs.Measures.{bounds_fit}

@@ -3,8 +3,6 @@ use mathlib.Core.Path.{◌≡◌, sym, ap, ◌∙◌}
 use mathlib.Core.Bool.{true}
 use Prim.Native.Nat.{ℕ, min}
 use native.Mathlib.Omega.{arith}
-use borrow.Author.Rules.{rules}
-use Rattle.region_interval.proofs.Flags.{not-true, not-false}
 use lib.Count.{count_trailing_zeros}
 use mir.Facts.{to_z-of_z}
 use Rattle.region_arithmetic.specs.Answers.{region_answer, is_alignment}

@@ -2,8 +2,6 @@
 use mathlib.Core.Path.{◌≡◌, sym, ap, ◌∙◌}
 use Prim.Native.Nat.{ℕ, min}
 use native.Mathlib.Omega.{arith}
-use borrow.Author.Rules.{rules}
-use Rattle.region_interval.proofs.Flags.{not-true, not-false}
 use borrow.Author.Tests.{lt-leb, le-leb}
 use mir.Facts.{to_z-of_z}
 use Rattle.region_arithmetic.specs.Answers.{region_answer, is_factor}

@@ -2,8 +2,7 @@
 use mathlib.Core.Path.{◌≡◌, sym, ap, ◌∙◌}
 use mathlib.Core.Bool.{true}
 use Prim.Native.Nat.{ℕ}
-use borrow.Author.Rules.{rules}
-use Rattle.region_interval.proofs.Flags.{not-true, not-false, yes}
+use Rattle.region_interval.proofs.Flags.{yes}
 use Rattle.region.proofs.Answers.{pair-first, pair-second, pair-holds}
 use Rattle.region_arithmetic.specs.Answers.{region_answer}
 use Rattle.region_arithmetic.specs.Arithmetic.{intersected}

@@ -6,7 +6,6 @@ use native.Mathlib.Nat.{one-mul, mod-eq_of_lt}
 use lib.Pow.{pow-lt}
 use borrow.Author.Tests.{eq-eqb}
 use native.Mathlib.Omega.{arith}
-use borrow.Author.Rules.{rules}
 use lib.Count.{count_trailing_zeros}
 use lib.Dec.{eqb, eqb→eq}
 use Rattle.region_interval.proofs.Powers.{power-found, power_in}

@@ -1,8 +1,6 @@
 -- `translate` meets its contract. Assumes nothing.
-use mathlib.Core.Path.{◌≡◌, sym, ap, ◌∙◌}
+use mathlib.Core.Path.{sym, ap, ◌∙◌}
 use Prim.Native.Nat.{ℕ}
-use borrow.Author.Rules.{rules}
-use Rattle.region_interval.proofs.Flags.{not-true, not-false}
 use mir.Facts.{to_z-of_z}
 use Rattle.region_arithmetic.specs.Answers.{region_answer}
 use Rattle.region_arithmetic.proofs.Answers.{result-fails, result-checked}

@@ -1,6 +1,5 @@
 -- `corner_fits` meets its contract. Assumes nothing.
-use mathlib.Core.Path.{◌∙◌}
-use lib.IntN.{ℤ, negsuc}
+use lib.IntN.{negsuc}
 use mir.Facts.{to_z-of_z}
 use Rattle.region_axis.specs.Measures.{corner_fits}
 use Rattle.region_interval.proofs.Order.{lt_not_le, not-lt-le}

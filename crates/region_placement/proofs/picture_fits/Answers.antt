@@ -1,8 +1,5 @@
 -- `picture_fits` meets its contract. Assumes nothing.
-use mathlib.Core.Path.{◌≡◌, sym, ◌∙◌}
-use Prim.Native.Nat.{ℕ}
-use borrow.Author.Rules.{rules}
-use Rattle.region_interval.proofs.Flags.{not-true, not-false}
+use mathlib.Core.Path.{sym, ◌∙◌}
 use Rattle.region.specs.Measures.{picture_fits}
 use Rattle.region_placement.proofs.picture_fits.Goals as goal
 

@@ -2,8 +2,7 @@
 use mathlib.Core.Path.{◌≡◌, sym, ◌∙◌}
 use mathlib.Core.Bool.{true}
 use native.Mathlib.Omega.{arith}
-use borrow.Author.Rules.{rules}
-use Rattle.region_interval.proofs.Flags.{not-true, not-false, yes}
+use Rattle.region_interval.proofs.Flags.{yes}
 use Rattle.region.specs.Measures.{bounds_fit, rectangle_fits}
 use Rattle.region.proofs.Laws.{bounds-width, bounds-height}
 use Rattle.region_placement.proofs.Areas.{product}

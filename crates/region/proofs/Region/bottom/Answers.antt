@@ -1,5 +1,4 @@
 -- `Region::bottom` meets its contract. Assumes nothing.
-use borrow.Author.Rules.{rules}
 use Rattle.region.proofs.Laws.{far-row}
 use Rattle.region.proofs.Region.bottom.Goals as goal
 

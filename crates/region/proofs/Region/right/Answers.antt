@@ -1,5 +1,4 @@
 -- `Region::right` meets its contract. Assumes nothing.
-use borrow.Author.Rules.{rules}
 use Rattle.region.proofs.Laws.{far-column}
 use Rattle.region.proofs.Region.right.Goals as goal
 
