@@ -1,0 +1,17 @@
+-- `epf_tiles::strips::strips` meets its contract. The invariant: the rows above y are written. Assumes nothing.
+use mathlib.Core.Path.{◌≡◌, refl, ◌∙◌}
+use Prim.Native.Nat.{ℕ, ◌+◌, ◌-◌, ◌≤◌}
+use native.Mathlib.Omega.{arith}
+use borrow.Author.Rules.{rules}
+use lib.ListN.{length}
+use Rattle.epf_tiles.specs.Tile.{Scratch, pass_over}
+use Rattle.epf_tiles.specs.Region.{StripFits, rows_stepped}
+use Rattle.epf_tiles.proofs.Region.{rows_start, strip-fits, strip-below, pass-long}
+use Rattle.epf_tiles.proofs.strips.strips.Given as goal
+
+abbrev pub invariant-loop-y : goal.invariant-loop-y
+invariant-loop-y l = (l.from ≤ l.y) × (l.y ≤ l.to) × (length l.dst ≡ length l.initial.dst) × Scratch l.win l.fields l.slopes
+    × (l.dst ≡ rows_stepped l.pass l.from (l.y - l.from) l.sigmas l.src l.initial.dst)
+
+abbrev pub decreases-loop-y : goal.decreases-loop-y
+decreases-loop-y l = l.to - l.y

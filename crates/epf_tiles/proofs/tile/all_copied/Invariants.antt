@@ -1,0 +1,18 @@
+-- `epf_tiles::tile::all_copied` meets its contract. The invariant: the first b blocks are copied. Assumes nothing.
+use mathlib.Core.Path.{◌≡◌, sym, ◌∙◌}
+use mathlib.Core.Bool.{true, false≢true}
+use Prim.Native.Nat.{ℕ, ◌+◌, ◌-◌, ◌≤◌, ◌<◌}
+use native.Mathlib.Omega.{arith}
+use borrow.Author.Count.{below_more}
+use borrow.Author.Rules.{rules}
+use borrow.Author.Tests.{not-false}
+use lib.ListN.{get_or}
+use lib.Ieee.{nan}
+use Rattle.epf_step.specs.Steps.{copied}
+use Rattle.epf_tiles.proofs.tile.all_copied.Given as goal
+
+abbrev pub invariant-loop-b : goal.invariant-loop-b
+invariant-loop-b l = (l.b ≤ l.blocks) × ((k : ℕ) → k < l.b → copied (get_or l.sigmas (l.first + k) nan) l.limit ≡ true)
+
+abbrev pub decreases-loop-b : goal.decreases-loop-b
+decreases-loop-b l = l.blocks - l.b
