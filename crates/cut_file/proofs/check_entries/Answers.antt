@@ -14,13 +14,8 @@ use Rattle.cut_file.specs.File.{sample_count, body_at}
 use Rattle.cut_file.specs.Read.{count_in, region_in, entry_checks}
 use Rattle.cut_file.specs.Entry.{entry_number}
 use Rattle.cut_file.proofs.Laws.{EntryAccepted, entry-accepted, entries-first, area-le, samples-counted, body-next}
+use Rattle.cut_file.proofs.check_entries.Invariants.{Checked}
 use Rattle.cut_file.proofs.check_entries.Goals as goal
-
-record Checked (s : List ℕ) (count i end : ℕ) : Type 0 where
-  i-le : i ≤ count
-  end_is : end ≡ body_at (region_in s) (count_in s) i
-  end-le : end ≤ 1030 + i * 201326592
-  number_is : first_of (entry_checks s 0 count) ≡ first_of (entry_checks s i (count - i))
 
 module _ (s : List ℕ) (count i : ℕ) (more : i < count) where
   left_is : count - i ≡ suc (count - (i + 1))
@@ -46,6 +41,21 @@ right_end : (s : List ℕ) (count i : ℕ) → count ≤ i → length s ≡ body
 unfolding entry_checks
 right_end s count i h n = rw (at-end s count i h, eq-eqb (length s) (body_at (region_in s) (count_in s) i) n)
 
+-- after the check of entry i, which has the number 0: its samples
+record Counted (s : List ℕ) (i n : ℕ) : Type 0 where
+  are : n ≡ sample_count (region_in s i)
+  le : n ≤ 50331648
+
+counted : (s : List ℕ) (i n : ℕ) (r : Region) → entry_number s i ≡ 0 → r ≡ region_in s i → n ≡ cond (picture_fits r) (sample_count r) 0 → Counted s i n
+counted s i n r e q m =
+    let good : EntryAccepted s i = entry-accepted s i e in
+    let area : (region_in s i).height * (region_in s i).width ≤ 16777216 = area-le (region_in s i) good.region-fits in
+    let are : n ≡ sample_count (region_in s i)
+    = m
+    ∙ ap (λ (q : Region). cond (picture_fits q) (sample_count q) 0) q
+    ∙ samples-counted (region_in s i) (is_true (picture_fits (region_in s i)) good.region-fits) in
+    record { are = are; le = omega (arith, are, area) }
+
 pub loop-i-init : goal.loop-i-init
 unfolding body_at
 loop-i-init c =
@@ -68,20 +78,14 @@ returns-then-number-ne-ACCEPTED c =
 pub loop-i-preserved : goal.loop-i-preserved
 loop-i-preserved c =
     let file : List ℕ = c.args.file.now in
-    let entry-none : entry_number file c.loop-i.i ≡ 0 = sym c.check_entry-number.ensures ∙ c.if-number-ne-ACCEPTED.false in
-    let entry-good : EntryAccepted file c.loop-i.i = entry-accepted file c.loop-i.i entry-none in
-    let area-good : (region_in file c.loop-i.i).height * (region_in file c.loop-i.i).width ≤ 16777216 = area-le (region_in file c.loop-i.i) entry-good.region_fits in
-    let samples-are : c.sample_count.result ≡ sample_count (region_in file c.loop-i.i) = let r = region_in file c.loop-i.i in
-    c.sample_count.ensures
-    ∙ ap (λ (q : Region). cond (picture_fits q) (sample_count q) 0) c.region_in.ensures
-    ∙ samples-counted r (is_true (picture_fits r) entry-good.region_fits) in
-    let samples-le : c.sample_count.result ≤ 50331648 = omega (arith, samples-are, area-good) in
-    let inv = c.loop-i.invariant in
+    let inv : Checked file c.args.count c.loop-i.i c.loop-i.end = c.loop-i.invariant in
+    let none : entry_number file c.loop-i.i ≡ 0 = sym c.check_entry-number.ensures ∙ c.if-number-ne-ACCEPTED.false in
+    let samples : Counted file c.loop-i.i c.sample_count.result = counted file c.loop-i.i c.sample_count.result c.region_in.result none c.region_in.ensures c.sample_count.ensures in
     record {
       i-le = omega arith;
-      end_is = omega (arith, inv.end_is, samples-are, body-next (region_in file) (count_in file) c.loop-i.i);
-      end-le = omega (arith, inv.end-le, samples-le);
-      number_is = inv.number_is ∙ turn file c.args.count c.loop-i.i (omega arith) entry-none;
+      end_is = omega (arith, inv.end_is, samples.are, body-next (region_in file) (count_in file) c.loop-i.i);
+      end-le = omega (arith, inv.end-le, samples.le);
+      number_is = inv.number_is ∙ turn file c.args.count c.loop-i.i (omega arith) none;
     }
 
 pub returns-then-file-end : goal.returns-then-file-end
@@ -96,37 +100,17 @@ returns c =
     let inv = c.loop-i.invariant in
     sym (inv.number_is ∙ right_end a.file.now a.count c.loop-i.i (omega arith) (c.if-file-end.false ∙ inv.end_is))
 
-pub entry_at-end-requires : goal.entry_at-end-requires
-entry_at-end-requires c = tt
-
-pub region_in-requires : goal.region_in-requires
-region_in-requires c = tt
-
-pub sample_count-requires : goal.sample_count-requires
-sample_count-requires c = tt
-
 pub overflow_mul-end : goal.overflow_mul-end
 overflow_mul-end c =
-    let file : List ℕ = c.args.file.now in
-    let entry-none : entry_number file c.loop-i.i ≡ 0 = sym c.check_entry-number.ensures ∙ c.if-number-ne-ACCEPTED.false in
-    let entry-good : EntryAccepted file c.loop-i.i = entry-accepted file c.loop-i.i entry-none in
-    let area-good : (region_in file c.loop-i.i).height * (region_in file c.loop-i.i).width ≤ 16777216 = area-le (region_in file c.loop-i.i) entry-good.region_fits in
-    let samples-are : c.sample_count.result ≡ sample_count (region_in file c.loop-i.i) = let r = region_in file c.loop-i.i in
-    c.sample_count.ensures
-    ∙ ap (λ (q : Region). cond (picture_fits q) (sample_count q) 0) c.region_in.ensures
-    ∙ samples-counted r (is_true (picture_fits r) entry-good.region_fits) in
-    let samples-le : c.sample_count.result ≤ 50331648 = omega (arith, samples-are, area-good) in
-    omega (arith, samples-le)
+    let none : entry_number c.args.file.now c.loop-i.i ≡ 0 = sym c.check_entry-number.ensures ∙ c.if-number-ne-ACCEPTED.false in
+    omega (arith, (counted c.args.file.now c.loop-i.i c.sample_count.result c.region_in.result none c.region_in.ensures c.sample_count.ensures).le)
 
 pub overflow_add-end : goal.overflow_add-end
 overflow_add-end c =
-    let file : List ℕ = c.args.file.now in
-    let entry-none : entry_number file c.loop-i.i ≡ 0 = sym c.check_entry-number.ensures ∙ c.if-number-ne-ACCEPTED.false in
-    let entry-good : EntryAccepted file c.loop-i.i = entry-accepted file c.loop-i.i entry-none in
-    let area-good : (region_in file c.loop-i.i).height * (region_in file c.loop-i.i).width ≤ 16777216 = area-le (region_in file c.loop-i.i) entry-good.region_fits in
-    let samples-are : c.sample_count.result ≡ sample_count (region_in file c.loop-i.i) = let r = region_in file c.loop-i.i in
-    c.sample_count.ensures
-    ∙ ap (λ (q : Region). cond (picture_fits q) (sample_count q) 0) c.region_in.ensures
-    ∙ samples-counted r (is_true (picture_fits r) entry-good.region_fits) in
-    let samples-le : c.sample_count.result ≤ 50331648 = omega (arith, samples-are, area-good) in
-    omega (arith, samples-le, c.loop-i.invariant.end-le, c.requires.0)
+    let none : entry_number c.args.file.now c.loop-i.i ≡ 0 = sym c.check_entry-number.ensures ∙ c.if-number-ne-ACCEPTED.false in
+    omega (
+      arith,
+      (counted c.args.file.now c.loop-i.i c.sample_count.result c.region_in.result none c.region_in.ensures c.sample_count.ensures).le,
+      c.loop-i.invariant.end-le,
+      c.requires.0,
+    )

@@ -58,14 +58,14 @@ returns-then-not-has_marker c =
     let file : List ℕ = c.args.file.now in
     let short : length file ≤ 16777216 = c.if-file-gt-MAX_FILE.false in
     let room : 4 ≤ length file = c.if-file-lt-MARKER_LENGTH.false in
-    unmarked file short room (sym c.has_marker.ensures ∙ not-true c.has_marker.result c.if-not-has_marker.true)
+    unmarked file short room (sym c.has_marker.ensures ∙ c.if-not-has_marker.true)
 
 pub returns-then-file-lt-TABLE_START : goal.returns-then-file-lt-TABLE_START
 returns-then-file-lt-TABLE_START c =
     let file : List ℕ = c.args.file.now in
     let short : length file ≤ 16777216 = c.if-file-gt-MAX_FILE.false in
     let room : 4 ≤ length file = c.if-file-lt-MARKER_LENGTH.false in
-    let marker-there : has_marker file ≡ true = sym c.has_marker.ensures ∙ not-false c.has_marker.result c.if-not-has_marker.false in
+    let marker-there : has_marker file ≡ true = sym c.has_marker.ensures ∙ c.if-not-has_marker.false in
     no-count file short room marker-there c.if-file-lt-TABLE_START.true
 
 pub returns-then-bad_count : goal.returns-then-bad_count
@@ -73,7 +73,7 @@ returns-then-bad_count c =
     let file : List ℕ = c.args.file.now in
     let short : length file ≤ 16777216 = c.if-file-gt-MAX_FILE.false in
     let room : 4 ≤ length file = c.if-file-lt-MARKER_LENGTH.false in
-    let marker-there : has_marker file ≡ true = sym c.has_marker.ensures ∙ not-false c.has_marker.result c.if-not-has_marker.false in
+    let marker-there : has_marker file ≡ true = sym c.has_marker.ensures ∙ c.if-not-has_marker.false in
     let bad-is : c.bad_count.result ≡ bad_count (count_in file) = c.bad_count.ensures ∙ ap bad_count c.u16_at-count.ensures in
     count-bad file short room marker-there c.if-file-lt-TABLE_START.false (sym bad-is ∙ c.if-bad_count.true)
 
@@ -82,7 +82,7 @@ returns c =
     let file : List ℕ = c.args.file.now in
     let short : length file ≤ 16777216 = c.if-file-gt-MAX_FILE.false in
     let room : 4 ≤ length file = c.if-file-lt-MARKER_LENGTH.false in
-    let marker-there : has_marker file ≡ true = sym c.has_marker.ensures ∙ not-false c.has_marker.result c.if-not-has_marker.false in
+    let marker-there : has_marker file ≡ true = sym c.has_marker.ensures ∙ c.if-not-has_marker.false in
     let bad-is : c.bad_count.result ≡ bad_count (count_in file) = c.bad_count.ensures ∙ ap bad_count c.u16_at-count.ensures in
     let count-good : bad_count (count_in file) ≡ false = sym bad-is ∙ c.if-bad_count.false in
     let n = rw c.u16_at-count.ensures at c.check_entries.ensures in

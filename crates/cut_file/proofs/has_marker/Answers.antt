@@ -10,10 +10,8 @@ use lib.Dec.{eqb}
 use lib.ListN.{get_or}
 use Rattle.cut_file.specs.File.{marker}
 use Rattle.cut_file.specs.Read.{has_marker}
+use Rattle.cut_file.proofs.has_marker.Invariants.{Same}
 use Rattle.cut_file.proofs.has_marker.Goals as goal
-
-abbrev Same : List ℕ → ℕ → Type 0
-Same s i = (j : ℕ) → j < i → get_or s j 0 ≡ get_or marker j 0
 
 both : (a b : Bool) → (a && b) ≡ true → (a ≡ true) × (b ≡ true)
 both true b e = (refl, e)

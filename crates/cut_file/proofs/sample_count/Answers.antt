@@ -15,6 +15,6 @@ picture_fits-requires c = tt
 
 pub overflow_mul-result-2 : goal.overflow_mul-result-2
 overflow_mul-result-2 c =
-    let fits : picture_fits c.args.r ≡ true = sym c.picture_fits.ensures ∙ not-false c.picture_fits.result c.if-not-picture_fits.false in
+    let fits : picture_fits c.args.r ≡ true = sym c.picture_fits.ensures ∙ c.if-not-picture_fits.false in
     let area : c.args.r.height * c.args.r.width ≤ 16777216 = area-le c.args.r (of-true (picture_fits c.args.r) fits) in
     omega (arith, area)
