@@ -16,9 +16,10 @@ use Rattle.region.specs.declared.Region.{Region}
 use Rattle.region.specs.Measures.{picture_fits}
 use Rattle.region.proofs.Laws.{picture-area}
 use Rattle.cut_file.specs.declared.CutTable.{CutTable}
-use Rattle.cut_file.specs.File.{max_file, file_length, file_of}
+use Rattle.cut_file.specs.File.{max_file, sample_count, file_length, file_of}
 use Rattle.cut_file.specs.Read.{bad_count}
 use Rattle.cut_file.specs.Write.{rectangle, rectangles_fit, samples_before, table_checks, write_checks}
+use Rattle.cut_file.proofs.Laws.{samples-counted}
 use Rattle.cut_write.specs.Fits.{TableFits}
 use Rattle.cut_write.specs.Outcome.{length_outcome, WriteOutcome, write_outcome}
 use Rattle.cut_write.specs.declared.LengthAnswer.{LengthAnswer}
@@ -28,6 +29,16 @@ use Rattle.cut_write.specs.declared.LengthAnswer.{LengthAnswer}
 module _ (r : Region) (t : T (picture_fits r)) where
   pub area_small : r.height * r.width ≤ 16777216
   area_small = omega (arith, picture-area r t, mul_comm r.height r.width)
+
+-- a count of its samples
+pub record Sampled (r : Region) (n : ℕ) : Type 0 where
+  pub are : n ≡ sample_count r
+  pub le : n ≤ 50331648
+
+pub sampled : (r : Region) (n : ℕ) → T (picture_fits r) → n ≡ cond (picture_fits r) (sample_count r) 0 → Sampled r n
+sampled r n t e =
+    let are : n ≡ sample_count r = e ∙ samples-counted r (is_true (picture_fits r) t) in
+    record { are = are; le = omega (arith, are, area_small r t) }
 
 -- ---- all rectangles within the limits
 

@@ -1,0 +1,72 @@
+-- `cut_write::put_table`: one more entry is stored. Assumes nothing.
+use mathlib.Core.Path.{◌≡◌, refl, ap, ◌∙◌}
+use mathlib.Core.Bool.{cond}
+use Prim.Native.Nat.{ℕ, ◌+◌, ◌*◌, ◌≤◌, ◌<◌}
+use native.Mathlib.Omega.{arith}
+use lib.ListN.{length}
+use lib.Seq.{sets, length-sets}
+use Rattle.refusals.proofs.Tables.{of-true}
+use Rattle.region.specs.Measures.{picture_fits}
+use Rattle.cut_file.specs.declared.CutTable.{CutTable}
+use Rattle.cut_file.specs.File.{sample_count, body_at, table_bytes}
+use Rattle.cut_file.specs.Write.{rectangle, rectangles_fit}
+use Rattle.cut_write.specs.Fits.{TableFits}
+use Rattle.cut_write.proofs.Bytes.{body_more, body_below, body-samples, table-parts}
+use Rattle.cut_write.proofs.Tables.{each_fits, Sampled, sampled}
+use Rattle.cut_write.proofs.put_table.Goals as goal
+
+-- rectangle i of a table that fits: its samples
+counted : (t : CutTable) (len i n : ℕ) → TableFits t len → i < t.count → n ≡ cond (picture_fits (rectangle t i)) (sample_count (rectangle t i)) 0 → Sampled (rectangle t i) n
+counted t len i n f l e =
+    sampled (rectangle t i) n (each_fits (rectangle t) t.count i (of-true (rectangles_fit (rectangle t) t.count) f.rectangles-fit) l) e
+
+-- the bodies so far end in the file
+short : (t : CutTable) (len i end : ℕ) → TableFits t len → i ≤ t.count → end ≡ body_at (rectangle t) t.count i → end ≤ 16777216
+short t len i end f l e = omega (arith, e, body_below (rectangle t) t.count i t.count l, f.length-is, f.length-le)
+
+-- entry i is in the file
+room : (t : CutTable) (len i : ℕ) → TableFits t len → i < t.count → 22 + 16 * i ≤ len
+room t len i f l = omega (arith, f.length-is, body-samples (rectangle t) t.count t.count)
+
+pub loop-i-init : goal.loop-i-init
+unfolding body_at table_bytes
+loop-i-init c = (omega arith, c.entry_at-end.ensures, refl)
+
+pub overflow_cast-end : goal.overflow_cast-end
+overflow_cast-end c =
+    omega (arith, short c.args.table (length c.args.file.now) c.loop-i.i c.loop-i.end c.requires c.loop-i.invariant.0 c.loop-i.invariant.1)
+
+pub put_entry-requires : goal.put_entry-requires
+put_entry-requires c =
+    let kept : length c.loop-i.file ≡ length c.args.file.now = ap length c.loop-i.invariant.2 ∙ simp length-sets in
+    let r : 22 + 16 * c.loop-i.i ≤ length c.args.file.now = room c.args.table (length c.args.file.now) c.loop-i.i c.requires (omega arith) in
+    omega (arith, c.entry_at.ensures, kept, r)
+
+pub overflow_mul-end : goal.overflow_mul-end
+overflow_mul-end c =
+    let s : Sampled (rectangle c.args.table c.loop-i.i) c.sample_count.result
+    = counted c.args.table (length c.args.file.now) c.loop-i.i c.sample_count.result c.requires (omega arith) c.sample_count.ensures in
+    omega (arith, s.le)
+
+pub overflow_add-end : goal.overflow_add-end
+overflow_add-end c =
+    let s : Sampled (rectangle c.args.table c.loop-i.i) c.sample_count.result
+    = counted c.args.table (length c.args.file.now) c.loop-i.i c.sample_count.result c.requires (omega arith) c.sample_count.ensures in
+    omega (arith, s.le, short c.args.table (length c.args.file.now) c.loop-i.i c.loop-i.end c.requires c.loop-i.invariant.0 c.loop-i.invariant.1)
+
+pub loop-i-preserved : goal.loop-i-preserved
+loop-i-preserved c =
+    let t : CutTable = c.args.table in
+    let s : Sampled (rectangle t c.loop-i.i) c.sample_count.result
+    = counted t (length c.args.file.now) c.loop-i.i c.sample_count.result c.requires (omega arith) c.sample_count.ensures in
+    let v = c.loop-i.invariant in (
+      omega arith,
+      omega (arith, s.are, v.1, body_more (rectangle t) t.count c.loop-i.i),
+      table-parts (rectangle t) t.count c.args.file.now _ _ c.loop-i.i _ _ v.2 c.entry_at.ensures v.1 c.put_entry.ensures,
+    )
+
+pub returns : goal.returns
+returns c =
+    let t : CutTable = c.args.table in
+    let e : c.loop-i.i ≡ t.count = omega arith in
+    c.loop-i.invariant.2 ∙ ap (λ (k : ℕ). sets c.args.file.now 6 (table_bytes (rectangle t) t.count k)) e
