@@ -4,6 +4,7 @@ use mathlib.Core.Bool.{Bool, true, false}
 use mathlib.Core.List.{List}
 use Prim.Native.Nat.{ℕ}
 use borrow.Author.Tests.{eq-eqb, ne_eqb}
+use native.Mathlib.Omega.{arith}
 use lib.ListN.{length}
 use lib.Ieee.{Float}
 use Rattle.refusals.specs.Flags.{flag_set}
@@ -31,12 +32,13 @@ returns-then-number-ne-ACCEPTED c =
 pub returns-then-not-flag_set : goal.returns-then-not-flag_set
 returns-then-not-flag_set c =
     let s = c.args in
-    as-off c.check-number.result _ (flag_set s.on) (block_sigmas s.frame s.blocks s.table.now s.grids.now s.sigma_for_modular) s.sigmas.now c.check-number.ensures c.if-number-ne-ACCEPTED.false (sym c.flag_set.ensures ∙ c.if-not-flag_set.true)
+    as-off c.check-number.result _ (flag_set s.on) (block_sigmas s.frame s.blocks s.table.now s.grids.now s.sigma_for_modular) s.sigmas.now c.check-number.ensures (omega arith) (sym c.flag_set.ensures ∙ c.if-not-flag_set.true)
 
 pub fill_rows-requires : goal.fill_rows-requires
 fill_rows-requires c =
+    let zero : c.check-number.result ≡ 0 = omega arith in
     let is-on : flag_set c.args.on ≡ true = sym c.flag_set.ensures ∙ c.if-not-flag_set.false in
-    let is-accepted : Accepted c.args.on c.args.frame c.args.blocks c.args.table.now c.args.grids.now (length c.args.sigmas.now) = accepted-fits c.args.on c.args.frame c.args.blocks c.args.table.now c.args.grids.now (length c.args.sigmas.now) (sym c.check-number.ensures ∙ c.if-number-ne-ACCEPTED.false) in
+    let is-accepted : Accepted c.args.on c.args.frame c.args.blocks c.args.table.now c.args.grids.now (length c.args.sigmas.now) = accepted-fits c.args.on c.args.frame c.args.blocks c.args.table.now c.args.grids.now (length c.args.sigmas.now) (sym c.check-number.ensures ∙ zero) in
     let s = c.args in (
       all-fits s.frame s.blocks s.table.now s.grids.now (length s.sigmas.now) s.on c.group_sizes-answer.result is-accepted is-on c.group_sizes-answer.ensures,
       is-accepted.count ∙ ap (λ (o : Bool). sigma_count o s.blocks) is-on,
@@ -46,4 +48,4 @@ pub returns : goal.returns
 returns c =
     let is-on : flag_set c.args.on ≡ true = sym c.flag_set.ensures ∙ c.if-not-flag_set.false in
     let s = c.args in
-    as-defined c.check-number.result _ (flag_set s.on) _ (block_sigmas s.frame s.blocks s.table.now s.grids.now s.sigma_for_modular) s.sigmas.now c.check-number.ensures c.if-number-ne-ACCEPTED.false is-on c.fill_rows.ensures
+    as-defined c.check-number.result _ (flag_set s.on) _ (block_sigmas s.frame s.blocks s.table.now s.grids.now s.sigma_for_modular) s.sigmas.now c.check-number.ensures (omega arith) is-on c.fill_rows.ensures
