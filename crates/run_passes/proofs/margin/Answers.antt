@@ -8,8 +8,7 @@ use borrow.Author.Tests.{lt-leb, le-leb, not-true, not-false}
 use Rattle.run_passes.specs.declared.Settings.{Settings}
 use Rattle.run_passes.specs.declared.MarginAnswer.{MarginAnswer}
 use Rattle.run_passes.specs.Plan.{gabor_fits, margin, margin_checks, margin_outcome}
-use Rattle.run_passes.proofs.margin.Statement.{statement}
-use Rattle.run_passes.proofs.margin.Tie as tie
+use Rattle.run_passes.proofs.margin.Goals as goal
 
 module _ (s : Settings) where
   no_flag : gabor_fits s ≡ false → (a : MarginAnswer) → a ≡ record { number = 9; margin = 0 } → a ≡ margin_outcome s
@@ -25,14 +24,11 @@ module _ (s : Settings) where
     unfolding margin_outcome margin_checks
     in-range h m q = rw (e, le-leb s.epf.iters 3 h, q)
 
-pub margin-spec : {M : Type 1} → statement M
-margin-spec =
-    tie.close
-    (tie.spec
-    (λ c κs. search rules)
-    (λ c κs. search rules)
-    (λ c. no_flag c.before.before.before.args.s (sym c.before.before.flag-fits.ensures ∙ not-true _ c.before.if1.true) _ c.no-margin.ensures)
-    (λ c κs. search rules)
-    (λ c. many-iters c.before.before.before.before.before.args.s (sym c.before.before.before.before.flag-fits.ensures ∙ not-false _ c.before.before.before.if1.false) (omega arith) _ c.no-margin2.ensures)
-    (λ c κs. search rules)
-    (λ c. in-range c.before.before.before.before.before.args.s (sym c.before.before.before.before.flag-fits.ensures ∙ not-false _ c.before.before.before.if1.false) (omega arith) _ c.margin-of.ensures))
+pub returns-then-not-flag_fits : goal.returns-then-not-flag_fits
+returns-then-not-flag_fits c = no_flag c.args.s (sym c.flag_fits.ensures ∙ c.if-not-flag_fits.true) _ c.no_margin.ensures
+
+pub returns-then-s-gt-MAX_ITERS : goal.returns-then-s-gt-MAX_ITERS
+returns-then-s-gt-MAX_ITERS c = many-iters c.args.s (sym c.flag_fits.ensures ∙ c.if-not-flag_fits.false) (omega arith) _ c.no_margin-then-s-gt-MAX_ITERS.ensures
+
+pub returns : goal.returns
+returns c = in-range c.args.s (sym c.flag_fits.ensures ∙ c.if-not-flag_fits.false) (omega arith) _ c.margin_of.ensures
