@@ -1,6 +1,6 @@
 -- An accepted file is the file of its own contents. Assumes nothing.
 use mathlib.Core.Path.{◌≡◌, refl, sym, ap, ◌∙◌}
-use mathlib.Core.List.{List, [], ◌∷◌, ◌++◌}
+use mathlib.Core.List.{List, ◌++◌}
 use Prim.Native.Nat.{ℕ, zero, suc, ◌+◌, ◌*◌, ◌≤◌, ◌<◌}
 use native.Mathlib.Omega.{arith}
 use lib.Dec.{T, eqb, eqb→eq}
@@ -12,7 +12,7 @@ use Rattle.cut_bytes.specs.Bytes.{bytes_of, number_at, unsigned, signed}
 use Rattle.cut_bytes.proofs.Laws.{number_small}
 use Rattle.cut_bytes.proofs.Signed.{unsigned_signed}
 use Rattle.cut_bytes.proofs.BytesBack.{bytes-number}
-use Rattle.cut_file.specs.File.{marker, entry_at, body_at, entry_bytes, table_bytes, sample_bytes, file_of}
+use Rattle.cut_file.specs.File.{marker, entry_at, entry_bytes, table_bytes, sample_bytes, file_of}
 use Rattle.cut_file.specs.Read.{count_in, offset_in, region_in, samples_at, has_marker}
 use Rattle.cut_file.specs.Write.{samples_before}
 use Rattle.cut_file.proofs.Laws.{FileAccepted}

@@ -1,12 +1,11 @@
 -- What a written file says: its length, its count, its entries and its samples are those that it was written from. Assumes nothing.
-use mathlib.Core.Path.{◌≡◌, refl, sym, ap, ◌∙◌, subst}
+use mathlib.Core.Path.{◌≡◌, refl, sym, ap, ◌∙◌}
 use mathlib.Core.List.{List, [], ◌∷◌, ◌++◌, append_assoc, append-nil}
 use Prim.Native.Nat.{ℕ, zero, suc, ◌+◌, ◌-◌, ◌*◌, ◌≤◌, ◌<◌}
-use native.Mathlib.Nat.{zero-add, suc-add, add-zero, add-suc}
+use native.Mathlib.Nat.{suc-add, add-zero, add-suc}
 use native.Mathlib.Omega.{arith}
 use lib.Dec.{T}
 use lib.ListN.{length, get_or, take, drop, length-append}
-use lib.Seq.{take-nil, drop-nil}
 use lib.Signed.{mag}
 use Rattle.region.specs.declared.Region.{Region}
 use Rattle.region.specs.Measures.{bounds_fit, picture_fits}
@@ -16,7 +15,7 @@ use Rattle.cut_bytes.specs.Bytes.{bytes_of, number_at, unsigned, signed}
 use Rattle.cut_bytes.proofs.Laws.{length-bytes, number-bytes}
 use Rattle.cut_bytes.proofs.Signed.{unsigned_small, signed-unsigned}
 use Rattle.cut_bytes.proofs.BytesBack.{number-skip}
-use Rattle.cut_file.specs.File.{marker, sample_count, entry_at, body_at, file_length, entry_bytes, table_bytes, sample_bytes, file_of}
+use Rattle.cut_file.specs.File.{marker, entry_at, body_at, entry_bytes, table_bytes, sample_bytes, file_of}
 use Rattle.cut_file.specs.Read.{count_in, offset_in, region_in, samples_at}
 use Rattle.cut_file.specs.Write.{samples_before}
 

@@ -1,18 +1,17 @@
 -- A file written from rectangles within the limits is accepted. Assumes nothing.
 use mathlib.Core.Path.{◌≡◌, refl, sym, ap, ◌∙◌}
-use mathlib.Core.Bool.{Bool, true, false, not, ◌&&◌}
+use mathlib.Core.Bool.{true, false, not}
 use mathlib.Core.List.{List}
-use Prim.Native.Nat.{ℕ, zero, suc, ◌+◌, ◌*◌, ◌≤◌, ◌<◌}
+use Prim.Native.Nat.{ℕ, zero, suc, ◌+◌, ◌≤◌, ◌<◌}
 use native.Mathlib.Omega.{arith}
 use borrow.Author.Tests.{le-ltb, eq-eqb, ne_eqb}
-use lib.Dec.{T, eqb, ltb}
-use lib.ListN.{length, get_or}
+use lib.Dec.{T, ltb}
+use lib.ListN.{length}
 use Rattle.refusals.specs.Checks.{first_of}
 use Rattle.refusals.proofs.Tables.{is_true, NoneApplies, none-zero}
 use Rattle.region.specs.declared.Region.{Region}
 use Rattle.region.specs.Measures.{picture_fits}
-use Rattle.cut_bytes.specs.Bytes.{bytes_of}
-use Rattle.cut_file.specs.File.{marker, entry_at, body_at, file_length, file_of}
+use Rattle.cut_file.specs.File.{entry_at, body_at, file_length, file_of}
 use Rattle.cut_file.specs.Read.{count_in, offset_in, region_in, has_marker, bad_count, entry_fits, entry_checks, file_checks}
 use Rattle.cut_file.specs.Write.{samples_before}
 use Rattle.cut_file.proofs.Laws.{body-grows}

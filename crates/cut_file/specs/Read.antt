@@ -1,10 +1,9 @@
 -- Reading a cut file (Specification 16): what is in it, and when it is refused. Definitions only.
-use Rattle.std.specs.Prelude.{Bool, cond, not, ◌&&◌, ◌||◌, List, [], ◌∷◌, ◌++◌, ℕ, zero, suc, ◌+◌, ◌*◌, eqb, leb, ltb, length, get_or}
+use Rattle.std.specs.Prelude.{Bool, not, ◌&&◌, ◌||◌, List, [], ◌∷◌, ◌++◌, ℕ, zero, suc, ◌+◌, eqb, leb, ltb, length, get_or}
 use Rattle.refusals.specs.Numbers.{wrong_length, out_of_range, not_aCut_file, bad_entry, wrong_end}
-use Rattle.refusals.specs.Checks.{Check, always, first_of}
+use Rattle.refusals.specs.Checks.{Check, always}
 use Rattle.region.specs.declared.Region.{Region}
 use Rattle.region.specs.Measures.{picture_fits}
-use Rattle.region.specs.Regions.{zero_region}
 use Rattle.cut_bytes.specs.Bytes.{number_at, signed}
 use Rattle.cut_file.specs.File.{marker, max_file, max_rectangles, entry_at, body_at, sample_count}
 

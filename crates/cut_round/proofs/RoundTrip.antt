@@ -9,7 +9,7 @@ use native.Mathlib.Omega.{arith}
 use borrow.Author.Tests.{ltb-true, ltb-false, le-ltb, lt-leb, eq-eqb, ne_eqb}
 use lib.Dec.{T, eqb, leb, ltb, eqb→eq}
 use lib.Ieee.Fits.{and_l, and_r, and_i}
-use lib.ListN.{length, get_or, take, drop, get_or-eq_default}
+use lib.ListN.{length, get_or, drop, get_or-eq_default}
 use lib.Seq.{get_or-take, get_or-drop}
 use Rattle.refusals.specs.Numbers.{wrong_length, out_of_range}
 use Rattle.refusals.specs.Checks.{Check, always, first_of}

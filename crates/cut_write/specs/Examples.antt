@@ -1,5 +1,5 @@
 -- Writing a cut file, computed: the order of its numbers, 12, 4 and 7, and the slice after a refusal.
-use Rattle.std.specs.Prelude.{◌≡◌, refl, List, [], ◌∷◌, ℕ, pos, replicate}
+use Rattle.std.specs.Prelude.{◌≡◌, refl, [], ◌∷◌, ℕ, pos, replicate}
 use Rattle.region.specs.declared.Region.{Region}
 use Rattle.region.specs.Measures.{bounds_fit, picture_fits}
 use Rattle.region.specs.Regions.{zero_region}

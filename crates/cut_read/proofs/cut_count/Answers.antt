@@ -1,6 +1,5 @@
 -- `cut_read::cut_count` meets its contract. Assumes nothing.
 use mathlib.Core.Path.{sym, ◌∙◌}
-use borrow.Author.Rules.{rules}
 use Rattle.cut_read.proofs.Numbers.{count-refused, count-accepted}
 use Rattle.cut_read.proofs.cut_count.Goals as goal
 
@@ -15,6 +14,3 @@ returns c =
     let s = c.args.file.now in
     let e = c.u16_at.ensures in
     rw e (sym (count-accepted s (sym c.check_file-number.ensures ∙ c.if-number-ne-ACCEPTED.false)))
-
-pub u16_at-requires : goal.u16_at-requires
-u16_at-requires c = tt

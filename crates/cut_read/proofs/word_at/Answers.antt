@@ -1,5 +1,4 @@
 -- `cut_read::word_at` meets its contract. Assumes nothing.
-use Prim.Native.Nat.{◌+◌}
 use native.Mathlib.Omega.{arith}
 use Rattle.cut_bytes.proofs.Laws.{four_bytes}
 use Rattle.cut_read.proofs.word_at.Goals as goal

@@ -1,8 +1,7 @@
 -- `cut_write::put_samples`: one more sample is stored. Assumes nothing.
 use mathlib.Core.Path.{◌≡◌, refl, ap, ◌∙◌}
-use Prim.Native.Nat.{◌≤◌}
 use native.Mathlib.Omega.{arith}
-use lib.ListN.{length, take}
+use lib.ListN.{length}
 use lib.Seq.{sets, length-sets, take_all}
 use Rattle.cut_file.specs.File.{sample_bytes}
 use Rattle.cut_write.proofs.Bytes.{samples-stored}
