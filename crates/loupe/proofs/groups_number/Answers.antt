@@ -12,8 +12,7 @@ use Rattle.sigma_groups.specs.declared.blocks.Blocks.{Blocks}
 use Rattle.sigma_groups.specs.Measures.{bad_blocks}
 use Rattle.sigma_groups.specs.Outcome.{table_read, sigma_number}
 use Rattle.loupe.specs.Pieces.{groups_checks}
-use Rattle.loupe.proofs.groups_number.Statement.{statement}
-use Rattle.loupe.proofs.groups_number.Tie as tie
+use Rattle.loupe.proofs.groups_number.Goals as goal
 
 abbrev one : Blocks
 one = record { left = 0; top = 0; width = 1; height = 1 }
@@ -26,10 +25,7 @@ one-alone f t grids = go (table_read f t) refl
     go true e = rw e
     go false e = rw e
 
-returns : tie.Need-returns
+pub returns : goal.returns
 returns c =
-    let a = c.before.before.before.before.args in
-    c.check.ensures ∙ rw c.before.one_block.ensures (one-alone a.frame a.table.now a.grids.now)
-
-pub groups-number-spec : {M : Type 1} → statement M
-groups-number-spec = tie.close (tie.spec (λ c κs. search rules) (λ c κs. search rules) returns)
+    let a = c.args in
+    c.check.ensures ∙ rw c.one_block.ensures (one-alone a.frame a.table.now a.grids.now)

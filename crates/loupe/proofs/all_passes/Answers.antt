@@ -1,0 +1,26 @@
+use mathlib.Core.Path.{◌≡◌, refl, ap, ◌∙◌}
+use Prim.Native.Nat.{◌≤◌, ◌-◌}
+use native.Mathlib.Numerals.{add-one}
+use native.Mathlib.Omega.{arith}
+use borrow.Author.Rules.{rules}
+use lib.ListN.{length}
+use Rattle.run_outcomes.specs.Band.{State}
+use Rattle.loupe.specs.Outcome.{after_pass, after_passes}
+use Rattle.loupe.proofs.all_passes.Goals as goal
+
+pub loop-k-init : goal.loop-k-init
+unfolding after_passes
+loop-k-init c = (omega arith, refl, refl, refl)
+
+pub loop-k-preserved : goal.loop-k-preserved
+unfolding after_passes
+loop-k-preserved c =
+    let i = c.loop-k.invariant in
+    let o = c.one_pass-r in
+    (omega arith, o.auto.first ∙ i.1, o.auto.second ∙ i.2, rw add-one (o.ensures ∙ ap (after_pass 3) i.3))
+
+pub returns : goal.returns
+returns c =
+    let i = c.loop-k.invariant in
+    let e : c.loop-k.k ≡ c.args.passes = omega arith in
+    rw (← e) i.3

@@ -1,0 +1,12 @@
+-- `loupe::one_pass` meets its contract. Assumes nothing.
+use mathlib.Core.Path.{ap}
+use borrow.Author.Rules.{rules}
+use Rattle.run_outcomes.specs.Band.{BandOutcome}
+use Rattle.loupe.specs.Outcome.{after_pass}
+use Rattle.loupe.proofs.one_pass.Goals as goal
+
+pub returns : goal.returns
+unfolding after_pass
+returns c =
+    let e = ap (λ (o : BandOutcome). o.state) c.band-banded.ensures in
+    rw (← e, c.advance.ensures)
