@@ -64,7 +64,7 @@ returns-then-found-ne-ACCEPTED c =
     let slice : List ℕ = c.args.samples.now in
     let n = first_of (region_checks s k) in
     let z : n ≡ 0 → ⊥ = λ e. c.if-found-ne-ACCEPTED.true (number-is s k c.cut_region-found.result c.cut_region-found.ensures ∙ e) in
-    rw (c.cut_region-found.ensures ∙ region-outcome s k n (λ i. n)) (sym (read-refused s k slice n (region-refused s k (length slice) z) z))
+    cc (region-outcome s k n (λ i. n), read-refused s k slice n (region-refused s k (length slice) z) z)
 
 pub returns-then-samples-sample_count : goal.returns-then-samples-sample_count
 returns-then-samples-sample_count c =
@@ -75,7 +75,7 @@ returns-then-samples-sample_count c =
     = found s k c.cut_region-found.result c.sample_count.result c.cut_region-found.ensures c.if-found-ne-ACCEPTED.false c.sample_count.ensures in
     let z : wrong_length ≡ 0 → ⊥ = λ p. omega arith in
     let u = length-unlike s k (length slice) f.number-good (λ p. c.if-samples-sample_count.true (p ∙ sym f.samples-are)) in
-    rw (c.refused.ensures ∙ sym (answer-refused s k wrong_length z)) (sym (read-refused s k slice wrong_length u z))
+    cc (answer-refused s k wrong_length z, read-refused s k slice wrong_length u z)
 
 pub read_samples-requires : goal.read_samples-requires
 read_samples-requires c =

@@ -80,11 +80,11 @@ returns-then-end-gt-MAX_FILE c =
     let counted : bad_count t.count ≡ false = sym c.bad_count.ensures ∙ c.if-bad_count.false in
     let d : Ended t c.loop-i.end = ended t c.loop-i.i c.loop-i.end (omega arith) c.loop-i.invariant.1 c.loop-i.invariant.2 in
     c.refused-then-end-gt-MAX_FILE.ensures
-    ∙ length-refused t 7 (long-refused t counted d.all_fit (omega (arith, d.ends, c.if-end-gt-MAX_FILE.true))) (λ e. omega arith)
+    ∙ length-refused t 7 (long-refused t counted d.all_fit (omega (arith, d.ends))) (λ e. omega arith)
 
 pub returns : goal.returns
 returns c =
     let t : CutTable = c.args.table in
     let counted : bad_count t.count ≡ false = sym c.bad_count.ensures ∙ c.if-bad_count.false in
     let d : Ended t c.loop-i.end = ended t c.loop-i.i c.loop-i.end (omega arith) c.loop-i.invariant.1 c.loop-i.invariant.2 in
-    length-accepted t c.loop-i.end d.ends (table-accepted t counted d.all_fit (omega (arith, d.ends, c.if-end-gt-MAX_FILE.false)))
+    length-accepted t c.loop-i.end d.ends (table-accepted t counted d.all_fit (omega (arith, d.ends)))
