@@ -1,7 +1,7 @@
 -- The code's tests agree with the definitions. Assumes nothing.
 use mathlib.Core.Path.{◌≡◌, refl, sym, ap, ◌∙◌}
 use mathlib.Core.Bool.{Bool, true, false, ◌&&◌, and-false}
-use Prim.Native.Nat.{◌-◌, ◌*◌, ◌<◌, ◌≤◌}
+use Prim.Native.Nat.{◌*◌, ◌<◌, ◌≤◌}
 use native.Mathlib.Nat.{div-zero}
 use borrow.Author.Tests.{lt-leb, le-leb, lt-ltb}
 use lib.Dec.{leb}

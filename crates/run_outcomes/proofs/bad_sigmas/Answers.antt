@@ -3,8 +3,6 @@ use mathlib.Core.Path.{sym, ◌∙◌}
 use Prim.Native.Nat.{◌*◌, ◌≤◌}
 use native.Mathlib.Nat.{mul-le-mul}
 use native.Mathlib.Omega.{arith}
-use borrow.Author.Rules.{rules}
-use borrow.Author.Tests.{not-true, not-false}
 use Rattle.run_outcomes.proofs.Tests.{size-sides, sigmas-unknown, sigmas-none, filter-unknown, sigmas-by-count}
 use Rattle.run_outcomes.proofs.bad_sigmas.Goals as goal
 

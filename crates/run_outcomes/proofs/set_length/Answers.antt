@@ -2,7 +2,6 @@
 use Prim.Native.Nat.{◌*◌, ◌≤◌}
 use native.Mathlib.Nat.{mul-le-mul}
 use native.Mathlib.Omega.{arith}
-use borrow.Author.Rules.{rules}
 use Rattle.run_outcomes.proofs.Tests.{size-sides}
 use Rattle.run_outcomes.proofs.set_length.Goals as goal
 

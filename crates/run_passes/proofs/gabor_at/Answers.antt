@@ -1,7 +1,6 @@
 -- `run_passes::gabor_at` meets its contract. Assumes nothing.
 use mathlib.Core.Path.{◌≡◌}
 use mathlib.Core.Bool.{true, false}
-use borrow.Author.Rules.{rules}
 use Rattle.run_passes.specs.Plan.{gabor_at, gabor_on}
 use Rattle.run_passes.proofs.gabor_at.Goals as goal
 

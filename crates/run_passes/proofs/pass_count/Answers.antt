@@ -1,5 +1,4 @@
 -- `run_passes::pass_count` meets its contract. Assumes nothing.
-use borrow.Author.Rules.{rules}
 use native.Mathlib.Omega.{arith}
 use Rattle.run_passes.proofs.PlanLaws.{plan-length}
 use Rattle.run_passes.proofs.pass_count.Goals as goal

@@ -1,5 +1,4 @@
 -- `run_passes::step_at` meets its contract. Assumes nothing.
-use borrow.Author.Rules.{rules}
 use Rattle.run_passes.specs.Plan.{step_of}
 use Rattle.run_passes.proofs.step_at.Goals as goal
 

@@ -1,5 +1,4 @@
 -- `run_passes::step_index` meets its contract. Assumes nothing.
-use borrow.Author.Rules.{rules}
 use native.Mathlib.Omega.{arith}
 use Rattle.run_passes.specs.Plan.{step_index}
 use Rattle.run_passes.proofs.step_index.Goals as goal

@@ -2,8 +2,6 @@
 use mathlib.Core.Path.{◌≡◌, sym, ◌∙◌}
 use mathlib.Core.Bool.{true, false}
 use native.Mathlib.Omega.{arith}
-use borrow.Author.Rules.{rules}
-use borrow.Author.Tests.{not-true, not-false}
 use Rattle.run_record.specs.Record.{run_fits, finished, band_missing}
 use Rattle.run_record.proofs.Laws.{fits-setup-of}
 use Rattle.run_record.proofs.advance_number.Goals as goal

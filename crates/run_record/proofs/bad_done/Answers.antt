@@ -1,13 +1,7 @@
-use mathlib.Core.Path.{◌≡◌, refl, sym, ◌∙◌}
-use mathlib.Core.Bool.{false}
-use Prim.Native.Nat.{ℕ, ◌-◌, ◌≤◌}
+use mathlib.Core.Path.{refl, sym, ◌∙◌}
 use native.Mathlib.Omega.{arith}
-use borrow.Author.Rules.{rules}
-use lib.ListN.{get_or}
 use Rattle.sigma_grids.specs.Table.{some_below}
 use Rattle.sigma_grids.proofs.Laws.{some-found, some_turn, some_end}
-use Rattle.run_setup.specs.Setup.{max_bands}
-use Rattle.run_record.specs.Record.{bad_flag}
 use Rattle.run_record.proofs.bad_done.Goals as goal
 
 pub loop-k-init : goal.loop-k-init

@@ -1,14 +1,10 @@
 -- `run_record::band_missing` meets its contract. Assumes nothing.
-use mathlib.Core.Path.{◌≡◌, refl, sym, ap, ◌∙◌}
+use mathlib.Core.Path.{◌≡◌}
 use mathlib.Core.Bool.{false, not}
 use Prim.Native.Nat.{ℕ, ◌-◌, ◌≤◌}
-use native.Mathlib.Omega.{arith}
-use borrow.Author.Rules.{rules}
 use lib.ListN.{get_or}
 use Rattle.refusals.specs.Flags.{flag_set}
 use Rattle.sigma_grids.specs.Table.{some_below}
-use Rattle.sigma_grids.proofs.Laws.{some-found, some_turn, some_end}
-use Rattle.run_record.specs.Record.{is_done}
 use Rattle.run_record.proofs.band_missing.Given as goal
 
 abbrev pub invariant-loop-k : goal.invariant-loop-k

@@ -1,8 +1,6 @@
 -- `run_record::band_number` meets its contract. Assumes nothing.
 use mathlib.Core.Path.{◌≡◌, sym, ◌∙◌}
 use mathlib.Core.Bool.{true, false}
-use borrow.Author.Rules.{rules}
-use borrow.Author.Tests.{not-true, not-false}
 use Rattle.run_record.specs.Record.{run_fits, not_open}
 use Rattle.run_record.proofs.Laws.{fits-setup-of}
 use Rattle.run_record.proofs.band_number.Goals as goal

@@ -1,5 +1,4 @@
 -- `run_record::is_done` meets its contract. Assumes nothing.
-use borrow.Author.Rules.{rules}
 use Rattle.run_record.specs.Record.{is_done}
 use Rattle.run_record.proofs.is_done.Goals as goal
 

@@ -1,8 +1,6 @@
 -- `run_record::result_number` meets its contract. Assumes nothing.
 use mathlib.Core.Path.{◌≡◌, sym, ◌∙◌}
 use mathlib.Core.Bool.{true, false}
-use borrow.Author.Rules.{rules}
-use borrow.Author.Tests.{not-true, not-false}
 use Rattle.run_record.specs.Record.{run_fits, finished}
 use Rattle.run_record.proofs.result_number.Goals as goal
 

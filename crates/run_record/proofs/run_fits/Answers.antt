@@ -2,8 +2,6 @@
 use mathlib.Core.Path.{sym, ap, ◌∙◌}
 use mathlib.Core.Bool.{not}
 use native.Mathlib.Omega.{arith}
-use borrow.Author.Rules.{rules}
-use borrow.Author.Tests.{not-true, not-false}
 use Rattle.run_record.specs.Record.{bad_done}
 use Rattle.run_record.proofs.Tests.{bad-setup, past-last, fits-by-done}
 use Rattle.run_record.proofs.run_fits.Goals as goal

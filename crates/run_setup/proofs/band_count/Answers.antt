@@ -1,5 +1,4 @@
 -- `run_setup::band_count` meets its contract. Assumes nothing.
-use borrow.Author.Rules.{rules}
 use native.Mathlib.Omega.{arith}
 use Rattle.run_setup.specs.Setup.{band_count}
 use Rattle.run_setup.proofs.Tests.{no-bands}

@@ -3,8 +3,6 @@ use mathlib.Core.Path.{◌≡◌, sym, ap, ◌∙◌}
 use mathlib.Core.Bool.{true}
 use Prim.Native.Nat.{ℕ}
 use native.Mathlib.Omega.{arith}
-use borrow.Author.Rules.{rules}
-use borrow.Author.Tests.{not-true, not-false}
 use lib.Dec.{leb}
 use Rattle.run_passes.specs.Plan.{gabor_fits}
 use Rattle.run_setup.specs.Setup.{max_bands, full_fits}

@@ -1,6 +1,5 @@
 -- `run_setup::row_count` meets its contract. Assumes nothing.
 use mathlib.Core.Path.{sym, ◌∙◌}
-use borrow.Author.Rules.{rules}
 use native.Mathlib.Omega.{arith}
 use Rattle.run_setup.proofs.Tests.{full-rows, part-rows}
 use Rattle.run_setup.proofs.row_count.Goals as goal

@@ -1,7 +1,5 @@
 -- `run_setup::setup_fits` meets its contract. Assumes nothing.
 use mathlib.Core.Path.{sym, ◌∙◌}
-use borrow.Author.Tests.{not-true, not-false}
-use borrow.Author.Rules.{rules}
 use Rattle.run_setup.proofs.Tests.{not-placed, not-on-blocks, fits-by-numbers}
 use Rattle.run_setup.proofs.setup_fits.Goals as goal
 
