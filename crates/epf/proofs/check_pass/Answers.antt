@@ -3,8 +3,6 @@ use mathlib.Core.Path.{◌≡◌, sym, ◌∙◌}
 use mathlib.Core.Bool.{true}
 use Prim.Native.Nat.{◌*◌}
 use native.Mathlib.Omega.{arith}
-use borrow.Author.Rules.{rules}
-use borrow.Author.Tests.{not-true, not-false}
 use Rattle.refusals.specs.Flags.{flag_fits}
 use Rattle.region_placement.specs.Blocks.{on_blocks}
 use Rattle.epf_tiles.specs.Blocks.{block_columns, block_rows}

@@ -1,7 +1,6 @@
 -- `epf::epf_band` meets its contract. Samples outside the filter region are copied, then its rows are filtered. Assumes nothing.
 use mathlib.Core.Path.{◌∙◌}
 use native.Mathlib.Omega.{arith}
-use borrow.Author.Rules.{rules}
 use Rattle.planes.proofs.Stored.{filter-rows}
 use Rattle.epf_tiles.specs.Tile.{step_over}
 use Rattle.epf_tiles.proofs.Region.{region-long, region-done}

@@ -2,7 +2,6 @@
 -- definition. Assumes nothing.
 use mathlib.Core.Path.{◌≡◌, sym, ap, ◌∙◌}
 use native.Mathlib.Omega.{arith}
-use borrow.Author.Rules.{rules}
 use mir.Facts.{to_z-of_z}
 use lib.ListN.{length}
 use Rattle.planes.specs.declared.Layout.{Layout}

@@ -23,12 +23,11 @@ among : (step count h k : ℕ) → count ≡ half step → h < count → k ≡ s
 among step count h k e l p = record { field_lt = omega (arith, half_le step); shift-pos = omega (arith, shift-bounds step h); shift_le = omega (arith, shift-bounds step h) }
 
 pub loop-h-preserved : goal.loop-h-preserved
-loop-h-preserved c =
-    (
-      omega arith,
-      c.field.ensures.1,
-      field-turn c.args.step (scaled c.args.planes c.args.scales.now) c.args.win.now c.args.rows _ _ _ c.loop-h.h _ c.loop-h.invariant.2 c.shift-k.ensures c.field.ensures.0,
-    )
+loop-h-preserved c = (
+  omega arith,
+  c.field.ensures.1,
+  field-turn c.args.step (scaled c.args.planes c.args.scales.now) c.args.win.now c.args.rows _ _ _ c.loop-h.h _ c.loop-h.invariant.2 c.shift-k.ensures c.field.ensures.0,
+)
 
 pub overflow_sub-from : goal.overflow_sub-from
 overflow_sub-from c =

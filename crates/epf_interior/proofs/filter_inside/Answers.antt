@@ -1,8 +1,6 @@
 -- `epf_interior::filter_inside` meets its contract. If a test fails, `dst` is unchanged. Assumes nothing.
 use mathlib.Core.Path.{◌≡◌, sym, ◌∙◌}
 use mathlib.Core.Bool.{true}
-use borrow.Author.Rules.{rules}
-use borrow.Author.Tests.{not-true, not-false}
 use lib.ListN.{length}
 use Rattle.epf_rects.specs.Rects.{RectFits}
 use Rattle.epf_rects.proofs.Rects.{rect-facts}

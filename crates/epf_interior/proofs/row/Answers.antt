@@ -1,10 +1,7 @@
-use mathlib.Core.Path.{◌≡◌, refl, ◌∙◌}
-use Prim.Native.Nat.{ℕ, ◌+◌, ◌-◌, ◌*◌, ◌≤◌, ◌<◌}
+use mathlib.Core.Path.{refl}
 use native.Mathlib.Omega.{arith}
-use lib.ListN.{length, length-set}
-use Rattle.epf_rects.specs.Three.{three_fill}
+use lib.ListN.{length-set}
 use Rattle.epf_rects.proofs.Three.{three-none, three-turn, three-end}
-use Rattle.epf_interior.specs.Inside.{lane_in}
 use Rattle.epf_interior.proofs.Inside.{lane-at}
 use Rattle.epf_interior.proofs.row.Goals as goal
 

@@ -1,12 +1,9 @@
 -- `epf_interior::row` meets its contract. The invariant: i samples of each plane are written. Assumes nothing.
-use mathlib.Core.Path.{◌≡◌, refl, ◌∙◌}
-use Prim.Native.Nat.{ℕ, ◌+◌, ◌-◌, ◌*◌, ◌≤◌, ◌<◌}
-use native.Mathlib.Omega.{arith}
-use lib.ListN.{length, length-set}
+use mathlib.Core.Path.{◌≡◌}
+use Prim.Native.Nat.{◌-◌, ◌≤◌}
+use lib.ListN.{length}
 use Rattle.epf_rects.specs.Three.{three_fill}
-use Rattle.epf_rects.proofs.Three.{three-none, three-turn, three-end}
 use Rattle.epf_interior.specs.Inside.{lane_in}
-use Rattle.epf_interior.proofs.Inside.{lane-at}
 use Rattle.epf_interior.proofs.row.Given as goal
 
 abbrev pub invariant-loop-i : goal.invariant-loop-i

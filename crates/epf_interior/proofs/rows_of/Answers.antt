@@ -1,12 +1,9 @@
 use mathlib.Core.Path.{◌≡◌, refl, ◌∙◌}
-use Prim.Native.Nat.{◌-◌, ◌≤◌}
 use native.Mathlib.Nat.{mul-le-mul}
 use native.Mathlib.Omega.{arith}
-use borrow.Author.Rules.{rules}
 use lib.ListN.{length}
 use Rattle.epf_slopes.proofs.Slopes.{first_small}
-use Rattle.epf_rects.proofs.Three.{rows_to, rows_none}
-use Rattle.epf_interior.specs.Inside.{inside_of}
+use Rattle.epf_rects.proofs.Three.{rows_none}
 use Rattle.epf_interior.proofs.Inside.{RowRoom, row_room, row_next}
 use Rattle.epf_interior.proofs.rows_of.Goals as goal
 

@@ -1,6 +1,4 @@
 -- `epf_interior::weights_at` meets its contract. Assumes nothing.
-use native.Mathlib.Omega.{arith}
-use borrow.Author.Rules.{rules}
 use Rattle.epf_interior.proofs.Divisor.{weights-bounded}
 use Rattle.epf_interior.proofs.weights_at.Goals as goal
 

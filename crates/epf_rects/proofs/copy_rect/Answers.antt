@@ -1,8 +1,6 @@
 -- `epf_rects::copy_rect` meets its contract. If a test fails, `dst` is unchanged. Assumes nothing.
 use mathlib.Core.Path.{sym, ◌∙◌}
 use native.Mathlib.Omega.{arith}
-use borrow.Author.Rules.{rules}
-use borrow.Author.Tests.{not-true, not-false}
 use lib.ListN.{length}
 use Rattle.epf_rects.specs.Rects.{RectFits}
 use Rattle.epf_rects.proofs.Rects.{SourceRoom, rect-facts, source-room, not-copied, other_length, rect-copied, copied-as}

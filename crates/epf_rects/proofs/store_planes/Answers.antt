@@ -1,10 +1,9 @@
-use mathlib.Core.Path.{◌≡◌, refl, ◌∙◌}
-use Prim.Native.Nat.{ℕ, ◌+◌, ◌-◌, ◌*◌, ◌≤◌, ◌<◌}
+use mathlib.Core.Path.{refl, ◌∙◌}
+use Prim.Native.Nat.{ℕ, ◌+◌, ◌*◌, ◌≤◌, ◌<◌}
 use native.Mathlib.Omega.{arith}
 use lib.ListN.{length}
 use Rattle.planes.specs.Rect.{planes_fill}
 use Rattle.planes.proofs.Rect.{planes-end}
-use Rattle.epf_rects.specs.Rects.{taken}
 use Rattle.epf_rects.proofs.Rects.{PlaneRoom, plane-room, plane-next}
 use Rattle.epf_rects.proofs.store_planes.Goals as goal
 

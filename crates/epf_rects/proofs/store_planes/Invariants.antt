@@ -1,12 +1,9 @@
 -- `epf_rects::store_planes` meets its contract. The invariant: c planes are written. Assumes nothing.
-use mathlib.Core.Path.{◌≡◌, refl, ◌∙◌}
-use Prim.Native.Nat.{ℕ, ◌+◌, ◌-◌, ◌*◌, ◌≤◌, ◌<◌}
-use native.Mathlib.Omega.{arith}
+use mathlib.Core.Path.{◌≡◌}
+use Prim.Native.Nat.{◌-◌, ◌≤◌}
 use lib.ListN.{length}
 use Rattle.planes.specs.Rect.{planes_fill}
-use Rattle.planes.proofs.Rect.{planes-end}
 use Rattle.epf_rects.specs.Rects.{taken}
-use Rattle.epf_rects.proofs.Rects.{PlaneRoom, plane-room, plane-next}
 use Rattle.epf_rects.proofs.store_planes.Given as goal
 
 abbrev pub invariant-loop-c : goal.invariant-loop-c

@@ -1,9 +1,7 @@
-use mathlib.Core.Path.{◌≡◌, refl, ◌∙◌}
-use Prim.Native.Nat.{ℕ, ◌+◌, ◌-◌, ◌*◌, ◌≤◌}
+use mathlib.Core.Path.{refl, ◌∙◌}
+use Prim.Native.Nat.{◌+◌, ◌*◌, ◌≤◌}
 use native.Mathlib.Omega.{arith}
-use borrow.Author.Rules.{rules}
-use lib.ListN.{length, get_or}
-use lib.Ieee.{nan}
+use lib.ListN.{length}
 use Rattle.planes.proofs.Copy.{copied-run}
 use Rattle.planes.specs.Rect.{rows_fill}
 use Rattle.planes.proofs.Rect.{rows-turn, rows_end}

@@ -1,13 +1,9 @@
 -- `epf_rects::store_rows` meets its contract. The invariant: r rows are written. Assumes nothing.
-use mathlib.Core.Path.{◌≡◌, refl, ◌∙◌}
+use mathlib.Core.Path.{◌≡◌}
 use Prim.Native.Nat.{ℕ, ◌+◌, ◌-◌, ◌*◌, ◌≤◌}
-use native.Mathlib.Omega.{arith}
-use borrow.Author.Rules.{rules}
 use lib.ListN.{length, get_or}
 use lib.Ieee.{nan}
-use Rattle.planes.proofs.Copy.{copied-run}
 use Rattle.planes.specs.Rect.{rows_fill}
-use Rattle.planes.proofs.Rect.{rows-turn, rows_end}
 use Rattle.epf_rects.proofs.store_rows.Given as goal
 
 abbrev pub invariant-loop-r : goal.invariant-loop-r

@@ -1,9 +1,5 @@
-use Prim.Native.Nat.{ℕ, ◌-◌}
 use native.Mathlib.Omega.{arith}
-use borrow.Author.Rules.{rules}
-use Rattle.planes.specs.Samples.{◌⊗◌}
-use Rattle.planes.proofs.Loop.{Written, written_none, written-more, written_all}
-use Rattle.epf_step.specs.Steps.{multiplier}
+use Rattle.planes.proofs.Loop.{written_none, written-more, written_all}
 use Rattle.epf_slopes.proofs.block_slopes.Goals as goal
 
 pub loop-i-init : goal.loop-i-init

@@ -1,9 +1,7 @@
 -- `epf_slopes::block_slopes` meets its contract. The invariant: i columns of eight are written. Assumes nothing.
 use Prim.Native.Nat.{ℕ, ◌-◌}
-use native.Mathlib.Omega.{arith}
-use borrow.Author.Rules.{rules}
 use Rattle.planes.specs.Samples.{◌⊗◌}
-use Rattle.planes.proofs.Loop.{Written, written_none, written-more, written_all}
+use Rattle.planes.proofs.Loop.{Written}
 use Rattle.epf_step.specs.Steps.{multiplier}
 use Rattle.epf_slopes.proofs.block_slopes.Given as goal
 

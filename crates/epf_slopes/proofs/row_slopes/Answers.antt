@@ -1,9 +1,6 @@
-use mathlib.Core.Path.{◌≡◌, refl}
-use Prim.Native.Nat.{◌-◌, ◌*◌, ◌≤◌}
+use mathlib.Core.Path.{refl}
 use native.Mathlib.Omega.{arith}
-use borrow.Author.Rules.{rules}
 use Rattle.planes.specs.Fill.{fill}
-use Rattle.epf_slopes.specs.Slopes.{slope_at}
 use Rattle.epf_slopes.proofs.Slopes.{block-next, blocks_end}
 use Rattle.epf_slopes.proofs.row_slopes.Goals as goal
 

@@ -1,11 +1,8 @@
 -- `epf_slopes::row_slopes` meets its contract. The invariant: b blocks are written. Assumes nothing.
-use mathlib.Core.Path.{◌≡◌, refl}
+use mathlib.Core.Path.{◌≡◌}
 use Prim.Native.Nat.{◌-◌, ◌*◌, ◌≤◌}
-use native.Mathlib.Omega.{arith}
-use borrow.Author.Rules.{rules}
 use Rattle.planes.specs.Fill.{fill}
 use Rattle.epf_slopes.specs.Slopes.{slope_at}
-use Rattle.epf_slopes.proofs.Slopes.{block-next, blocks_end}
 use Rattle.epf_slopes.proofs.row_slopes.Given as goal
 
 abbrev pub invariant-loop-b : goal.invariant-loop-b

@@ -1,7 +1,6 @@
 -- `epf_step::multiplier` meets its contract. Assumes nothing.
 use mathlib.Core.Path.{◌≡◌, sym, ◌∙◌}
 use mathlib.Core.Bool.{true, false}
-use borrow.Author.Rules.{rules}
 use Rattle.epf_step.specs.Steps.{border, multiplier}
 use Rattle.epf_step.proofs.multiplier.Goals as goal
 

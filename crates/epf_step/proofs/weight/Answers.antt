@@ -1,5 +1,4 @@
 -- `epf_step::weight` meets its contract. Assumes nothing.
-use borrow.Author.Rules.{rules}
 use Rattle.epf_step.specs.Steps.{weight_by}
 use Rattle.epf_step.proofs.Bounds.{weight-bounded}
 use Rattle.epf_step.proofs.weight.Goals as goal

@@ -1,8 +1,6 @@
 -- `epf_window::load` meets its contract. If a test fails, the window is unchanged. Assumes nothing.
 use mathlib.Core.Path.{sym, ◌∙◌}
 use native.Mathlib.Omega.{arith}
-use borrow.Author.Rules.{rules}
-use borrow.Author.Tests.{not-true, not-false}
 use lib.ListN.{length}
 use Rattle.epf_window.specs.Window.{WindowFits}
 use Rattle.epf_window.proofs.Window.{no_source, no-column, no_row, no_top, no_rows, few-columns, many-columns, window-fits, window-loaded}

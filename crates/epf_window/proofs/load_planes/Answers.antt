@@ -1,10 +1,8 @@
-use mathlib.Core.Path.{◌≡◌, refl}
-use Prim.Native.Nat.{ℕ, ◌+◌, ◌-◌, ◌≤◌}
+use mathlib.Core.Path.{refl}
 use native.Mathlib.Omega.{arith}
 use Rattle.planes.specs.Rect.{planes_fill}
 use Rattle.planes.proofs.Rect.{planes-end}
 use Rattle.planes.proofs.Room.{PlaneRoom, plane-room}
-use Rattle.epf_window.specs.Window.{window_filled}
 use Rattle.epf_window.proofs.Window.{plane-fits, plane-next}
 use Rattle.epf_window.proofs.load_planes.Goals as goal
 

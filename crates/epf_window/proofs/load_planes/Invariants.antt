@@ -1,12 +1,7 @@
 -- `epf_window::load_planes` meets its contract. The invariant: c planes are written. Assumes nothing.
-use mathlib.Core.Path.{◌≡◌, refl}
-use Prim.Native.Nat.{ℕ, ◌+◌, ◌-◌, ◌≤◌}
-use native.Mathlib.Omega.{arith}
-use Rattle.planes.specs.Rect.{planes_fill}
-use Rattle.planes.proofs.Rect.{planes-end}
-use Rattle.planes.proofs.Room.{PlaneRoom, plane-room}
+use mathlib.Core.Path.{◌≡◌}
+use Prim.Native.Nat.{◌-◌, ◌≤◌}
 use Rattle.epf_window.specs.Window.{window_filled}
-use Rattle.epf_window.proofs.Window.{plane-fits, plane-next}
 use Rattle.epf_window.proofs.load_planes.Given as goal
 
 abbrev pub invariant-loop-c : goal.invariant-loop-c

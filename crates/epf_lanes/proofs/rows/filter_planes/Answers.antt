@@ -13,12 +13,11 @@ unfolding planes_fill
 loop-c-init c = (omega arith, refl, refl)
 
 pub loop-c-preserved : goal.loop-c-preserved
-loop-c-preserved c =
-    (
-      omega (arith, c.loop-c-test.true),
-      c.plane_rows.auto.dst ∙ c.loop-c.invariant.1,
-      planes-turn c.args.l.image.width c.args.l.image.height (c.args.l.left + c.args.rect.x) c.args.rect.cols (c.args.l.top + c.args.rect.y) c.args.rect.rows (tile_of c.args.step c.args.fields.now c.args.slopes.now c.args.win.now c.args.top) _ _ _ c.loop-c.c c.loop-c.invariant.2 c.plane_rows.ensures,
-    )
+loop-c-preserved c = (
+  omega (arith, c.loop-c-test.true),
+  c.plane_rows.auto.dst ∙ c.loop-c.invariant.1,
+  planes-turn c.args.l.image.width c.args.l.image.height (c.args.l.left + c.args.rect.x) c.args.rect.cols (c.args.l.top + c.args.rect.y) c.args.rect.rows (tile_of c.args.step c.args.fields.now c.args.slopes.now c.args.win.now c.args.top) _ _ _ c.loop-c.c c.loop-c.invariant.2 c.plane_rows.ensures,
+)
 
 pub overflow_add-above : goal.overflow_add-above
 overflow_add-above c = omega (arith, c.requires.0, c.requires.0.layout)

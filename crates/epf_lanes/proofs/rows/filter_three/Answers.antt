@@ -11,12 +11,11 @@ use Rattle.epf_lanes.proofs.Lanes.{ThreeRoom, three-room, three-next}
 use Rattle.epf_lanes.proofs.rows.filter_three.Goals as goal
 
 pub loop-r-preserved : goal.loop-r-preserved
-loop-r-preserved c =
-    (
-      omega (arith, c.loop-r-test.true),
-      c.three_row.auto.dst ∙ c.loop-r.invariant.1,
-      three-next c.args.step c.args.fields.now c.args.slopes.now c.args.win.now c.args.l c.args.top c.args.rect c.loop-r.r _ _ _ _ _ _ c.requires.0 c.loop-r-test.true c.first_slope-first.ensures refl refl c.loop-r.invariant.2 c.three_row.ensures,
-    )
+loop-r-preserved c = (
+  omega (arith, c.loop-r-test.true),
+  c.three_row.auto.dst ∙ c.loop-r.invariant.1,
+  three-next c.args.step c.args.fields.now c.args.slopes.now c.args.win.now c.args.l c.args.top c.args.rect c.loop-r.r _ _ _ _ _ _ c.requires.0 c.loop-r-test.true c.first_slope-first.ensures refl refl c.loop-r.invariant.2 c.three_row.ensures,
+)
 
 pub overflow_mul-plane : goal.overflow_mul-plane
 overflow_mul-plane c = omega (arith, mul-le-mul c.requires.0.layout.height-le c.requires.0.layout.width-le)

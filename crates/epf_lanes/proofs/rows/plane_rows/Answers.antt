@@ -15,12 +15,11 @@ unfolding rows_fill
 loop-r-init c = (omega arith, refl, refl)
 
 pub loop-r-preserved : goal.loop-r-preserved
-loop-r-preserved c =
-    (
-      omega (arith, c.loop-r-test.true),
-      c.one_row.auto.dst ∙ c.loop-r.invariant.1,
-      one-next c.args.step c.args.fields.now c.args.slopes.now c.args.win.now c.args.top c.args.c c.loop-r.r _ _ _ _ _ _ _ _ c.first_slope-first.ensures c.loop-r.invariant.2 refl c.one_row.ensures,
-    )
+loop-r-preserved c = (
+  omega (arith, c.loop-r-test.true),
+  c.one_row.auto.dst ∙ c.loop-r.invariant.1,
+  one-next c.args.step c.args.fields.now c.args.slopes.now c.args.win.now c.args.top c.args.c c.loop-r.r _ _ _ _ _ _ _ _ c.first_slope-first.ensures c.loop-r.invariant.2 refl c.one_row.ensures,
+)
 
 pub overflow_mul-at : goal.overflow_mul-at
 overflow_mul-at c =

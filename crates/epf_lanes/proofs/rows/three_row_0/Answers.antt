@@ -9,13 +9,12 @@ use Rattle.epf_lanes.proofs.Lanes.{lane-0}
 use Rattle.epf_lanes.proofs.rows.three_row_0.Goals as goal
 
 pub loop-i-preserved : goal.loop-i-preserved
-loop-i-preserved c =
-    (
-      omega arith,
-      simp length-set c.loop-i.invariant.1,
-      three-turn _ _ _ c.args.plane c.loop-i.i _ _ _ _ (omega arith) c.loop-i.invariant.2
-          (lane-0 c.args.fields.now c.args.slopes.now c.args.win.now c.args.first 0 c.loop-i.i c.args.r _ _ (omega arith) _ c.weights_0-w.ensures.0 c.mix_0-a.ensures) (lane-0 c.args.fields.now c.args.slopes.now c.args.win.now c.args.first 1 c.loop-i.i c.args.r _ _ (omega arith) _ c.weights_0-w.ensures.0 c.mix_0-b.ensures) (lane-0 c.args.fields.now c.args.slopes.now c.args.win.now c.args.first 2 c.loop-i.i c.args.r _ _ (omega arith) _ c.weights_0-w.ensures.0 c.mix_0-c.ensures),
-    )
+loop-i-preserved c = (
+  omega arith,
+  simp length-set c.loop-i.invariant.1,
+  three-turn _ _ _ c.args.plane c.loop-i.i _ _ _ _ (omega arith) c.loop-i.invariant.2
+      (lane-0 c.args.fields.now c.args.slopes.now c.args.win.now c.args.first 0 c.loop-i.i c.args.r _ _ (omega arith) _ c.weights_0-w.ensures.0 c.mix_0-a.ensures) (lane-0 c.args.fields.now c.args.slopes.now c.args.win.now c.args.first 1 c.loop-i.i c.args.r _ _ (omega arith) _ c.weights_0-w.ensures.0 c.mix_0-b.ensures) (lane-0 c.args.fields.now c.args.slopes.now c.args.win.now c.args.first 2 c.loop-i.i c.args.r _ _ (omega arith) _ c.weights_0-w.ensures.0 c.mix_0-c.ensures),
+)
 
 pub loop-i-init : goal.loop-i-init
 loop-i-init c = (omega arith, refl, three-none _ _ _ _)

@@ -9,13 +9,12 @@ use Rattle.epf_lanes.proofs.Lanes.{lane-1}
 use Rattle.epf_lanes.proofs.rows.three_row_1.Goals as goal
 
 pub loop-i-preserved : goal.loop-i-preserved
-loop-i-preserved c =
-    (
-      omega arith,
-      simp length-set c.loop-i.invariant.1,
-      three-turn _ _ _ c.args.plane c.loop-i.i _ _ _ _ (omega arith) c.loop-i.invariant.2
-          (lane-1 c.args.fields.now c.args.slopes.now c.args.win.now c.args.first 0 c.loop-i.i c.args.r _ _ (omega arith) _ c.weights_1-w.ensures.0 c.mix_1-a.ensures) (lane-1 c.args.fields.now c.args.slopes.now c.args.win.now c.args.first 1 c.loop-i.i c.args.r _ _ (omega arith) _ c.weights_1-w.ensures.0 c.mix_1-b.ensures) (lane-1 c.args.fields.now c.args.slopes.now c.args.win.now c.args.first 2 c.loop-i.i c.args.r _ _ (omega arith) _ c.weights_1-w.ensures.0 c.mix_1-c.ensures),
-    )
+loop-i-preserved c = (
+  omega arith,
+  simp length-set c.loop-i.invariant.1,
+  three-turn _ _ _ c.args.plane c.loop-i.i _ _ _ _ (omega arith) c.loop-i.invariant.2
+      (lane-1 c.args.fields.now c.args.slopes.now c.args.win.now c.args.first 0 c.loop-i.i c.args.r _ _ (omega arith) _ c.weights_1-w.ensures.0 c.mix_1-a.ensures) (lane-1 c.args.fields.now c.args.slopes.now c.args.win.now c.args.first 1 c.loop-i.i c.args.r _ _ (omega arith) _ c.weights_1-w.ensures.0 c.mix_1-b.ensures) (lane-1 c.args.fields.now c.args.slopes.now c.args.win.now c.args.first 2 c.loop-i.i c.args.r _ _ (omega arith) _ c.weights_1-w.ensures.0 c.mix_1-c.ensures),
+)
 
 pub loop-i-init : goal.loop-i-init
 loop-i-init c = (omega arith, refl, three-none _ _ _ _)

@@ -1,12 +1,10 @@
 use mathlib.Core.Path.{◌≡◌, refl, ◌∙◌}
-use Prim.Native.Nat.{ℕ, ◌+◌, ◌-◌, ◌*◌, ◌/◌, ◌%◌, ◌≤◌, ◌<◌}
+use Prim.Native.Nat.{◌+◌, ◌%◌, ◌≤◌}
 use native.Mathlib.Omega.{arith}
-use borrow.Author.Rules.{rules}
 use lib.ListN.{length}
-use Rattle.planes.specs.Rect.{planes_fill}
 use Rattle.frame.specs.Sizes.{blocks_along}
 use Rattle.epf_rects.specs.declared.Rect.{Rect}
-use Rattle.epf_tiles.specs.Tile.{sigma_first, TileInPass, Scratch, pass_over}
+use Rattle.epf_tiles.specs.Tile.{sigma_first, TileInPass, pass_over}
 use Rattle.epf_tiles.proofs.Region.{columns-none, tile-fits, tile-long, tile-sigmas, tile-beside}
 use Rattle.epf_tiles.proofs.strips.strip.Goals as goal
 
@@ -14,8 +12,7 @@ pub loop-x-preserved : goal.loop-x-preserved
 loop-x-preserved c =
     let rect : Rect = record { x = c.loop-x.x; y = c.args.span.y; rows = c.args.span.rows; cols = c.min-cols.result } in
     let begins : c.loop-x.x % 8 ≡ 0 = c.loop-x.invariant.1 c.loop-x-test.true in
-    let fits : TileInPass c.args.pass rect (length c.args.src.now) (length c.args.dst.now) = tile-fits c.args.pass _ _ _ c.args.span.y c.args.span.rows c.loop-x.x _ c.requires.pass_fits c.requires.strip_fits c.loop-x-test.true begins c.min-cols.ensures in
-    (
+    let fits : TileInPass c.args.pass rect (length c.args.src.now) (length c.args.dst.now) = tile-fits c.args.pass _ _ _ c.args.span.y c.args.span.rows c.loop-x.x _ c.requires.pass_fits c.requires.strip_fits c.loop-x-test.true begins c.min-cols.ensures in (
       omega (arith, fits.tile.across),
       (λ h. omega (arith, begins, c.min-cols.ensures)),
       c.tile.auto.dst ∙ c.loop-x.invariant.2,

@@ -1,14 +1,9 @@
 -- `epf_tiles::strips::strip` meets its contract. The invariant: x columns are written. Assumes nothing.
-use mathlib.Core.Path.{◌≡◌, refl, ◌∙◌}
-use Prim.Native.Nat.{ℕ, ◌+◌, ◌-◌, ◌*◌, ◌/◌, ◌%◌, ◌≤◌, ◌<◌}
-use native.Mathlib.Omega.{arith}
-use borrow.Author.Rules.{rules}
+use mathlib.Core.Path.{◌≡◌}
+use Prim.Native.Nat.{ℕ, ◌+◌, ◌-◌, ◌%◌, ◌≤◌, ◌<◌}
 use lib.ListN.{length}
 use Rattle.planes.specs.Rect.{planes_fill}
-use Rattle.frame.specs.Sizes.{blocks_along}
-use Rattle.epf_rects.specs.declared.Rect.{Rect}
-use Rattle.epf_tiles.specs.Tile.{sigma_first, TileInPass, Scratch, pass_over}
-use Rattle.epf_tiles.proofs.Region.{columns-none, tile-fits, tile-long, tile-sigmas, tile-beside}
+use Rattle.epf_tiles.specs.Tile.{Scratch, pass_over}
 use Rattle.epf_tiles.proofs.strips.strip.Given as goal
 
 abbrev pub invariant-loop-x : goal.invariant-loop-x

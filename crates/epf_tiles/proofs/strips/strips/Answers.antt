@@ -1,17 +1,13 @@
 use mathlib.Core.Path.{◌≡◌, refl, ◌∙◌}
-use Prim.Native.Nat.{ℕ, ◌+◌, ◌-◌, ◌≤◌}
 use native.Mathlib.Omega.{arith}
-use borrow.Author.Rules.{rules}
-use lib.ListN.{length}
-use Rattle.epf_tiles.specs.Tile.{Scratch, pass_over}
-use Rattle.epf_tiles.specs.Region.{StripFits, rows_stepped}
+use Rattle.epf_tiles.specs.Tile.{pass_over}
+use Rattle.epf_tiles.specs.Region.{StripFits}
 use Rattle.epf_tiles.proofs.Region.{rows_start, strip-fits, strip-below, pass-long}
 use Rattle.epf_tiles.proofs.strips.strips.Goals as goal
 
 pub loop-y-preserved : goal.loop-y-preserved
 loop-y-preserved c =
-    let fits : StripFits c.args.pass.layout c.loop-y.y c.min-rows.result = strip-fits c.args.pass.layout c.loop-y.y c.args.to _ c.loop-y-test.true c.requires.from_le_to.1 c.min-rows.ensures in
-    (
+    let fits : StripFits c.args.pass.layout c.loop-y.y c.min-rows.result = strip-fits c.args.pass.layout c.loop-y.y c.args.to _ c.loop-y-test.true c.requires.from_le_to.1 c.min-rows.ensures in (
       omega (arith, c.loop-y.invariant.0),
       omega (arith, c.min-rows.ensures),
       c.strip.auto.dst ∙ c.loop-y.invariant.2,

@@ -1,12 +1,9 @@
 -- `epf_tiles::strips::strips` meets its contract. The invariant: the rows above y are written. Assumes nothing.
-use mathlib.Core.Path.{◌≡◌, refl, ◌∙◌}
-use Prim.Native.Nat.{ℕ, ◌+◌, ◌-◌, ◌≤◌}
-use native.Mathlib.Omega.{arith}
-use borrow.Author.Rules.{rules}
+use mathlib.Core.Path.{◌≡◌}
+use Prim.Native.Nat.{◌-◌, ◌≤◌}
 use lib.ListN.{length}
-use Rattle.epf_tiles.specs.Tile.{Scratch, pass_over}
-use Rattle.epf_tiles.specs.Region.{StripFits, rows_stepped}
-use Rattle.epf_tiles.proofs.Region.{rows_start, strip-fits, strip-below, pass-long}
+use Rattle.epf_tiles.specs.Tile.{Scratch}
+use Rattle.epf_tiles.specs.Region.{rows_stepped}
 use Rattle.epf_tiles.proofs.strips.strips.Given as goal
 
 abbrev pub invariant-loop-y : goal.invariant-loop-y

@@ -1,13 +1,7 @@
-use mathlib.Core.Path.{◌≡◌, sym, ◌∙◌}
-use mathlib.Core.Bool.{true, false≢true}
-use Prim.Native.Nat.{ℕ, ◌+◌, ◌-◌, ◌≤◌, ◌<◌}
+use mathlib.Core.Path.{sym, ◌∙◌}
+use mathlib.Core.Bool.{false≢true}
 use native.Mathlib.Omega.{arith}
 use borrow.Author.Count.{below_more}
-use borrow.Author.Rules.{rules}
-use borrow.Author.Tests.{not-false}
-use lib.ListN.{get_or}
-use lib.Ieee.{nan}
-use Rattle.epf_step.specs.Steps.{copied}
 use Rattle.epf_tiles.proofs.tile.all_copied.Goals as goal
 
 pub loop-b-init : goal.loop-b-init

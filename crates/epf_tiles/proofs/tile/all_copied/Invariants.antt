@@ -1,11 +1,7 @@
 -- `epf_tiles::tile::all_copied` meets its contract. The invariant: the first b blocks are copied. Assumes nothing.
-use mathlib.Core.Path.{◌≡◌, sym, ◌∙◌}
-use mathlib.Core.Bool.{true, false≢true}
+use mathlib.Core.Path.{◌≡◌}
+use mathlib.Core.Bool.{true}
 use Prim.Native.Nat.{ℕ, ◌+◌, ◌-◌, ◌≤◌, ◌<◌}
-use native.Mathlib.Omega.{arith}
-use borrow.Author.Count.{below_more}
-use borrow.Author.Rules.{rules}
-use borrow.Author.Tests.{not-false}
 use lib.ListN.{get_or}
 use lib.Ieee.{nan}
 use Rattle.epf_step.specs.Steps.{copied}

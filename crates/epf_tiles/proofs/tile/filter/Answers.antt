@@ -2,14 +2,13 @@
 use mathlib.Core.Path.{◌≡◌, sym, ◌∙◌}
 use mathlib.Core.List.{List}
 use Prim.Native.Nat.{ℕ, ◌+◌, ◌≤◌}
-use native.Mathlib.Omega.{arith}
 use lib.Ieee.{Float}
 use lib.ListN.{length}
 use Rattle.frame.specs.Sizes.{blocks_along}
 use Rattle.epf_slopes.specs.Slopes.{slopes_of, Sloped}
 use Rattle.epf_rects.specs.declared.Rect.{Rect}
 use Rattle.epf_tiles.specs.declared.Pass.{Pass}
-use Rattle.epf_tiles.specs.Tile.{sigma_first, Scratch, TileInPass}
+use Rattle.epf_tiles.specs.Tile.{sigma_first, TileInPass}
 use Rattle.epf_tiles.proofs.TileLaws.{tile-sloped, inside-filtered}
 use Rattle.epf_tiles.proofs.tile.filter.Goals as goal
 
@@ -24,8 +23,7 @@ returns-then-lies_inside c =
     let a = c.args in
     let p = c.requires.tile_in_pass in
     let z = c.requires.scratch in
-    let k = steep a.pass a.src.now a.rect a.dst.now p a.sigmas.now a.slopes.now c.requires.cols_in_bounds z.slopes-length _ _ _ c.first_sigma-first.ensures c.blocks_of.ensures c.tile_slopes.ensures in
-    (
+    let k = steep a.pass a.src.now a.rect a.dst.now p a.sigmas.now a.slopes.now c.requires.cols_in_bounds z.slopes-length _ _ _ c.first_sigma-first.ensures c.blocks_of.ensures c.tile_slopes.ensures in (
       inside-filtered a.pass a.src.now a.rect a.dst.now p _ _ c.if-n-eq-PLANES.true c.if-s-eq-LAST_STEP.true (sym c.lies_inside.ensures ∙ c.if-lies_inside.true) c.filter_inside.ensures _ k,
       record { win-length = z.win-length; fields-length = z.fields-length; slopes-length = k.slopes-length },
     )

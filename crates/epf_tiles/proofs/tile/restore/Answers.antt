@@ -1,18 +1,14 @@
-use mathlib.Core.Path.{◌≡◌, refl, ◌∙◌}
-use Prim.Native.Nat.{ℕ, ◌-◌, ◌*◌, ◌≤◌, ◌<◌}
+use mathlib.Core.Path.{refl, ◌∙◌}
+use Prim.Native.Nat.{ℕ, ◌*◌, ◌<◌}
 use native.Mathlib.Omega.{arith}
-use borrow.Author.Rules.{rules}
-use lib.ListN.{length}
 use Rattle.epf_rects.proofs.Rects.{rect-long}
-use Rattle.epf_tiles.specs.Tile.{Restored}
 use Rattle.epf_tiles.proofs.TileLaws.{restored-none, restored-next, restored-end, part-fits}
 use Rattle.epf_tiles.proofs.tile.restore.Goals as goal
 
 pub loop-b-preserved : goal.loop-b-preserved
 loop-b-preserved c =
     let b : ℕ = c.loop-b.b in
-    let some : b * 8 < c.args.rect.cols = omega (arith, c.loop-b-test.true, c.blocks_of-blocks.ensures) in
-    (
+    let some : b * 8 < c.args.rect.cols = omega (arith, c.loop-b-test.true, c.blocks_of-blocks.ensures) in (
       omega arith,
       c.restore_block.auto.dst ∙ c.loop-b.invariant.1,
       restored-next c.args.pass.layout c.args.pass.planes c.args.pass.settings.limit c.args.sigmas.now c.args.src.now c.args.first c.args.rect _ _ _ b _ some c.min.ensures c.loop-b.invariant.2 c.restore_block.ensures,

@@ -1,12 +1,8 @@
 -- `epf_tiles::tile::restore` meets its contract. The invariant: b blocks are restored if they are copied. Assumes nothing.
-use mathlib.Core.Path.{◌≡◌, refl, ◌∙◌}
-use Prim.Native.Nat.{ℕ, ◌-◌, ◌*◌, ◌≤◌, ◌<◌}
-use native.Mathlib.Omega.{arith}
-use borrow.Author.Rules.{rules}
+use mathlib.Core.Path.{◌≡◌}
+use Prim.Native.Nat.{◌-◌, ◌≤◌}
 use lib.ListN.{length}
-use Rattle.epf_rects.proofs.Rects.{rect-long}
 use Rattle.epf_tiles.specs.Tile.{Restored}
-use Rattle.epf_tiles.proofs.TileLaws.{restored-none, restored-next, restored-end, part-fits}
 use Rattle.epf_tiles.proofs.tile.restore.Given as goal
 
 abbrev pub invariant-loop-b : goal.invariant-loop-b

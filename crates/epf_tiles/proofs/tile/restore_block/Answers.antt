@@ -1,7 +1,5 @@
 -- `epf_tiles::tile::restore_block` meets its contract. Assumes nothing.
 use mathlib.Core.Path.{◌∙◌}
-use borrow.Author.Rules.{rules}
-use borrow.Author.Tests.{not-true, not-false}
 use Rattle.epf_rects.proofs.Rects.{rect-copied}
 use Rattle.epf_tiles.proofs.TileLaws.{block-kept, block-copied}
 use Rattle.epf_tiles.proofs.tile.restore_block.Goals as goal

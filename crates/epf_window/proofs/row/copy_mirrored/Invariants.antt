@@ -1,12 +1,6 @@
 -- `epf_window::row::copy_mirrored` meets its contract. The invariant: j samples of n are written. Assumes nothing.
-use mathlib.Core.Path.{◌≡◌}
-use Prim.Native.Nat.{ℕ, ◌-◌, ◌<◌}
-use native.Mathlib.Omega.{arith}
-use borrow.Author.Rules.{rules}
-use lib.IntN.{ℤ}
-use Rattle.mirror.specs.Mirror.{mirror}
-use Rattle.mirror.proofs.Laws.{mirror-lt}
-use Rattle.planes.proofs.Loop.{Written, written_none, written-more, written_all}
+use Prim.Native.Nat.{◌-◌}
+use Rattle.planes.proofs.Loop.{Written}
 use Rattle.epf_window.specs.Window.{row_sample}
 use Rattle.epf_window.proofs.row.copy_mirrored.Given as goal
 

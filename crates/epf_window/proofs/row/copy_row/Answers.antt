@@ -1,8 +1,6 @@
 -- `epf_window::row::copy_row` meets its contract. Mirrored left of the row, copied inside it, mirrored right of it. Assumes nothing.
 use mathlib.Core.Path.{refl, ap, ◌∙◌}
-use Prim.Native.Nat.{◌-◌}
 use native.Mathlib.Omega.{arith}
-use borrow.Author.Rules.{rules}
 use lib.ListN.{length}
 use Rattle.planes.proofs.Fill.{length-fill}
 use Rattle.planes.proofs.Copy.{copied-run}
