@@ -12,7 +12,7 @@ use Rattle.gabor_kernel.specs.Ends.{End, only, first, last, inner}
 use Rattle.gabor_kernel.specs.Gabor.{alone}
 use Rattle.gabor_kernel.specs.Formula.{Formula, one, two, three, w0, w1, sample, ◌⊞◌, ◌⊠◌, formula}
 use Rattle.gabor_kernel.specs.Mirrored.{Term, constant, times, products, expand, same, fold, mirrored_kernel, Coefficient, coefficient}
-use Rattle.gabor_kernel.specs.Exact.{Arithmetic, Exact, integers, exactly, power, multiple, nine_offsets, read_product, term_value, sum_of, weighted, weighted_sum, Weighs, AsMirrored, ExpansionSums, CoefficientsWeigh, FormulasMirrored, IntegersExact}
+use Rattle.gabor_kernel.specs.Exact.{Arithmetic, Exact, exactly, power, multiple, nine_offsets, read_product, term_value, sum_of, weighted, weighted_sum, Weighs, AsMirrored, ExpansionSums, CoefficientsWeigh, FormulasMirrored, IntegersExact}
 
 -- ---- the same terms in a different order
 

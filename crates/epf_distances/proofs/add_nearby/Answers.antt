@@ -3,7 +3,7 @@ use native.Mathlib.Omega.{arith}
 use lib.ListN.{get_or}
 use lib.Ieee.{Float, nan}
 use Rattle.planes.specs.Samples.{◌⊕◌, ◌⊗◌}
-use Rattle.planes.proofs.Loop.{Written, written_none, written_all}
+use Rattle.planes.proofs.Loop.{written_none, written_all}
 use Rattle.epf_distances.proofs.Runs.{run_more}
 use Rattle.epf_distances.specs.Seen.{nearby}
 use Rattle.epf_distances.proofs.add_nearby.Goals as goal

@@ -1,11 +1,9 @@
 -- `epf_distances::add_nearby` meets its contract. The invariant: i of n are added. Assumes nothing.
 use Prim.Native.Nat.{ℕ, ◌+◌, ◌-◌}
-use native.Mathlib.Omega.{arith}
 use lib.ListN.{get_or}
-use lib.Ieee.{Float, nan}
+use lib.Ieee.{nan}
 use Rattle.planes.specs.Samples.{◌⊕◌, ◌⊗◌}
-use Rattle.planes.proofs.Loop.{Written, written_none, written_all}
-use Rattle.epf_distances.proofs.Runs.{run_more}
+use Rattle.planes.proofs.Loop.{Written}
 use Rattle.epf_distances.specs.Seen.{nearby}
 use Rattle.epf_distances.proofs.add_nearby.Given as goal
 

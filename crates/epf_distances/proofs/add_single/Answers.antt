@@ -1,10 +1,8 @@
 use Prim.Native.Nat.{ℕ, ◌+◌, ◌-◌}
 use native.Mathlib.Omega.{arith}
-use borrow.Author.Rules.{rules}
-use lib.ListN.{get_or}
-use lib.Ieee.{Float, nan}
+use lib.Ieee.{Float}
 use Rattle.planes.specs.Samples.{◌⊕◌, ◌⊗◌}
-use Rattle.planes.proofs.Loop.{Written, written_none, written_all}
+use Rattle.planes.proofs.Loop.{written_none, written_all}
 use Rattle.epf_distances.proofs.Runs.{run_more}
 use Rattle.epf_distances.specs.Seen.{nearby, apart_by}
 use Rattle.epf_distances.proofs.add_single.Goals as goal

@@ -1,9 +1,7 @@
 -- `epf_distances::clear` meets its contract. The invariant: i of n are cleared. Assumes nothing.
-use mathlib.Core.Path.{refl}
 use Prim.Native.Nat.{ℕ, ◌-◌}
-use native.Mathlib.Omega.{arith}
 use Rattle.planes.specs.Samples.{b0}
-use Rattle.planes.proofs.Loop.{Written, written_none, written-more, written_all}
+use Rattle.planes.proofs.Loop.{Written}
 use Rattle.epf_distances.proofs.clear.Given as goal
 
 abbrev pub invariant-loop-i : goal.invariant-loop-i

@@ -1,8 +1,6 @@
 -- `epf_distances::differences` meets its contract. The invariant: i of n are written. Assumes nothing.
 use Prim.Native.Nat.{ℕ, ◌+◌, ◌-◌}
-use native.Mathlib.Omega.{arith}
-use borrow.Author.Rules.{rules}
-use Rattle.planes.proofs.Loop.{Written, written_none, written-more, written_all}
+use Rattle.planes.proofs.Loop.{Written}
 use Rattle.epf_distances.specs.Seen.{apart_by}
 use Rattle.epf_distances.proofs.differences.Given as goal
 

@@ -1,9 +1,6 @@
-use mathlib.Core.Path.{◌≡◌}
-use Prim.Native.Nat.{ℕ, ◌+◌, ◌-◌, ◌≤◌}
+use Prim.Native.Nat.{◌-◌}
 use native.Mathlib.Omega.{arith}
-use lib.ListN.{length}
-use Rattle.planes.specs.Fill.{fill}
-use Rattle.epf_distances.proofs.Fields.{channels_at, channel-none, channel-turn, channel-end}
+use Rattle.epf_distances.proofs.Fields.{channel-none, channel-turn, channel-end}
 use Rattle.epf_distances.proofs.field.Goals as goal
 
 pub loop-c-init : goal.loop-c-init

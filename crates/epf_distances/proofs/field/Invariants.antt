@@ -1,10 +1,9 @@
 -- `epf_distances::field` meets its contract. The invariant: c channels are added. Assumes nothing.
 use mathlib.Core.Path.{◌≡◌}
 use Prim.Native.Nat.{ℕ, ◌+◌, ◌-◌, ◌≤◌}
-use native.Mathlib.Omega.{arith}
 use lib.ListN.{length}
 use Rattle.planes.specs.Fill.{fill}
-use Rattle.epf_distances.proofs.Fields.{channels_at, channel-none, channel-turn, channel-end}
+use Rattle.epf_distances.proofs.Fields.{channels_at}
 use Rattle.epf_distances.proofs.field.Given as goal
 
 abbrev pub invariant-loop-c : goal.invariant-loop-c

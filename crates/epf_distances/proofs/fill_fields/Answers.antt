@@ -1,8 +1,6 @@
 use mathlib.Core.Path.{◌≡◌, refl}
 use Prim.Native.Nat.{ℕ, ◌-◌, ◌≤◌, ◌<◌}
 use native.Mathlib.Omega.{arith}
-use borrow.Author.Rules.{rules}
-use lib.ListN.{length}
 use Rattle.epf_step.specs.Steps.{scaled}
 use Rattle.epf_distances.specs.Taps.{half, shift}
 use Rattle.epf_distances.proofs.Taps.{half_le, shift-bounds}

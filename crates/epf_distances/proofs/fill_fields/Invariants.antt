@@ -1,14 +1,9 @@
 -- `epf_distances::fill_fields` meets its contract. The invariant: h fields are written. Assumes nothing.
-use mathlib.Core.Path.{◌≡◌, refl}
-use Prim.Native.Nat.{ℕ, ◌-◌, ◌≤◌, ◌<◌}
-use native.Mathlib.Omega.{arith}
-use borrow.Author.Rules.{rules}
+use mathlib.Core.Path.{◌≡◌}
+use Prim.Native.Nat.{◌-◌, ◌≤◌}
 use lib.ListN.{length}
 use Rattle.epf_step.specs.Steps.{scaled}
-use Rattle.epf_distances.specs.Taps.{half, shift}
-use Rattle.epf_distances.proofs.Taps.{half_le, shift-bounds}
 use Rattle.epf_distances.specs.Fields.{fields_fill}
-use Rattle.epf_distances.proofs.Fields.{field-turn, field_end}
 use Rattle.epf_distances.proofs.fill_fields.Given as goal
 
 abbrev pub invariant-loop-h : goal.invariant-loop-h

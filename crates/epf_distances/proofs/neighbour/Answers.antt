@@ -1,7 +1,6 @@
 -- `epf_distances::neighbour` meets its contract. Assumes nothing.
 use mathlib.Core.Path.{◌≡◌}
 use Prim.Native.Nat.{ℕ, ◌<◌}
-use borrow.Author.Rules.{rules}
 use Rattle.epf_distances.specs.Taps.{field_of}
 use Rattle.epf_distances.proofs.Taps.{field_below, first-backward, first-forward, other-forward, other-backward}
 use Rattle.epf_distances.proofs.neighbour.Goals as goal

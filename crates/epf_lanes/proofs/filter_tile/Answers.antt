@@ -1,7 +1,5 @@
 -- `epf_lanes::filter_tile` meets its contract. If a test fails, `dst` is unchanged. Assumes nothing.
 use mathlib.Core.Path.{refl, sym, ◌∙◌}
-use borrow.Author.Rules.{rules}
-use borrow.Author.Tests.{not-true, not-false}
 use lib.ListN.{length}
 use Rattle.epf_rects.specs.Rects.{RectFits}
 use Rattle.epf_rects.proofs.Rects.{rect-facts}

@@ -1,7 +1,6 @@
 -- `frame::bad_sides` meets its contract. Assumes nothing.
 use mathlib.Core.Path.{◌≡◌, sym, ◌∙◌}
 use mathlib.Core.Bool.{true, false}
-use borrow.Author.Rules.{rules}
 use Rattle.frame.specs.Outcome.{bad_side, bad_sides}
 use Rattle.frame.proofs.bad_sides.Goals as goal
 

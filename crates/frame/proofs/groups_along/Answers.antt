@@ -1,7 +1,6 @@
 -- `frame::groups_along` meets its contract. Assumes nothing.
 use mathlib.Core.Path.{ap, ◌∙◌}
 use Prim.Native.Nat.{ℕ, ◌*◌}
-use borrow.Author.Rules.{rules}
 use native.Mathlib.Omega.{arith}
 use Rattle.frame.specs.Sizes.{divided_up}
 use Rattle.frame.proofs.Laws.{group-dim-ge, group-dim-le}

@@ -1,7 +1,6 @@
 -- `frame::split_block` meets its contract: the shift divides by the group dimension, the mask keeps the remainder. Assumes nothing.
 use mathlib.Core.Path.{◌≡◌, sym}
 use Prim.Native.Nat.{ℕ, ◌-◌, ◌/◌, ◌%◌, ◌^◌, ◌≤◌}
-use borrow.Author.Rules.{rules}
 use borrow.Author.Tests.{lt-ltb, le-ltb}
 use native.Mathlib.Omega.{arith}
 use lib.Bits.{and_mask, bit_and}

@@ -1,5 +1,4 @@
 -- `gabor_kernel::solo3` meets its contract: the code is the formula of a single row, with the same roundings. Assumes nothing.
-use borrow.Author.Rules.{rules}
 use Rattle.gabor_kernel.specs.Formula.{evaluate, formula}
 use Rattle.gabor_kernel.specs.Gabor.{alone, gabor_by}
 use Rattle.gabor_kernel.specs.Nine.{nine, pick}

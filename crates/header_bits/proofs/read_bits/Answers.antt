@@ -1,6 +1,5 @@
 -- `header_bits::read_bits` meets its contract. Assumes nothing.
 use native.Mathlib.Omega.{arith}
-use borrow.Author.Rules.{rules}
 use Rattle.header_bits.proofs.Checked.{u-long, u-short, u-whole}
 use Rattle.header_bits.proofs.read_bits.Goals as goal
 

@@ -1,8 +1,5 @@
 -- `header_epf_sigma::read_sigma` meets its contract. Assumes nothing.
-use borrow.Author.Rules.{rules}
 use mathlib.Core.Path.{◌∙◌}
-use Rattle.header_bits.specs.Bits.{bits_outcome}
-use Rattle.header_fields.proofs.Rows.{answer-is}
 use Rattle.header_epf_sigma.proofs.Cases.{sigma-refused, sigma-off, sigma-on}
 use mathlib.Core.Path.{sym}
 use Rattle.header_epf_sigma.proofs.read_sigma.Goals as goal

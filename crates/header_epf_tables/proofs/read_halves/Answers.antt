@@ -1,15 +1,8 @@
-use Prim.Native.Nat.{◌-◌, ◌≤◌}
-use mathlib.Core.Path.{◌≡◌, refl}
+use Prim.Native.Nat.{◌-◌}
+use mathlib.Core.Path.{refl}
 use native.Mathlib.Omega.{arith}
-use borrow.Author.Rules.{rules}
-use lib.ListN.{length, take, length-set}
-use Rattle.header_bits.specs.Outcome.{accepted}
-use Rattle.header_half.specs.Half.{half_outcome}
-use Rattle.header_fields.specs.Fields.{f16s}
-use Rattle.header_fields.proofs.Rows.{answer-is}
+use lib.ListN.{length-set}
 use Rattle.header_epf_tables.proofs.Halves.{halves-none, halves-more, halves-stop, halves-all}
-use Rattle.header_epf_tables.proofs.read_halves.Reads as reads
-use Rattle.header_epf_tables.proofs.read_halves.Lts as lts
 use mathlib.Core.Path.{sym}
 use Rattle.header_epf_tables.proofs.read_halves.Goals as goal
 
@@ -24,7 +17,6 @@ loop-i-preserved c = (
   omega arith,
   simp length-set c.loop-i.invariant.1,
   halves-more _ _ c.loop-i.out _ _ _ _ (omega arith) c.loop-i.invariant.2 (sym c.in-Value.ensures),
-
 )
 
 pub returns : goal.returns

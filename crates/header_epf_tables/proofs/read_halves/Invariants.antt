@@ -1,16 +1,9 @@
 -- `header_epf_tables::read_halves` meets its contract. The loop's invariant: the first `i` values are the first `i` halves. Assumes nothing.
 use Prim.Native.Nat.{◌-◌, ◌≤◌}
-use mathlib.Core.Path.{◌≡◌, refl}
-use native.Mathlib.Omega.{arith}
-use borrow.Author.Rules.{rules}
-use lib.ListN.{length, take, length-set}
+use mathlib.Core.Path.{◌≡◌}
+use lib.ListN.{length, take}
 use Rattle.header_bits.specs.Outcome.{accepted}
-use Rattle.header_half.specs.Half.{half_outcome}
 use Rattle.header_fields.specs.Fields.{f16s}
-use Rattle.header_fields.proofs.Rows.{answer-is}
-use Rattle.header_epf_tables.proofs.Halves.{halves-none, halves-more, halves-stop, halves-all}
-use Rattle.header_epf_tables.proofs.read_halves.Reads as reads
-use Rattle.header_epf_tables.proofs.read_halves.Lts as lts
 use Rattle.header_epf_tables.proofs.read_halves.Given as goal
 
 abbrev pub invariant-loop-i : goal.invariant-loop-i

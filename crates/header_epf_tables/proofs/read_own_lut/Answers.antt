@@ -1,5 +1,4 @@
 -- `header_epf_tables::read_own_lut` meets its contract. Assumes nothing.
-use borrow.Author.Rules.{rules}
 use mathlib.Core.Path.{sym, ap, ◌∙◌}
 use Rattle.header_epf_tables.specs.Tables.{sharp_answer}
 use Rattle.header_epf_tables.proofs.Answers.{answer-place}

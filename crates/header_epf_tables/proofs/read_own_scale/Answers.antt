@@ -1,8 +1,5 @@
 -- `header_epf_tables::read_own_scale` meets its contract. Assumes nothing.
-use borrow.Author.Rules.{rules}
 use mathlib.Core.Path.{ap, ◌∙◌}
-use Rattle.header_bits.specs.Bits.{bits_outcome}
-use Rattle.header_fields.proofs.Rows.{answer-is}
 use Rattle.header_epf_tables.specs.Tables.{scale_answer}
 use Rattle.header_epf_tables.proofs.Answers.{answer-place}
 use Rattle.header_epf_tables.proofs.Cases.{own-scale-refused, own-scale-short, own-scale}

@@ -1,8 +1,5 @@
 -- `header_epf_tables::read_sharp_lut` meets its contract. Assumes nothing.
-use borrow.Author.Rules.{rules}
 use mathlib.Core.Path.{ap, ◌∙◌}
-use Rattle.header_bits.specs.Bits.{bits_outcome}
-use Rattle.header_fields.proofs.Rows.{answer-is}
 use Rattle.header_epf_tables.specs.Tables.{sharp_answer}
 use Rattle.header_epf_tables.proofs.Cases.{sharp-refused, sharp-off, sharp-on}
 use mathlib.Core.Path.{sym}

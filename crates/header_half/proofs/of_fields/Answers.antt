@@ -1,5 +1,4 @@
 -- `header_half::of_fields` meets its contract. Assumes nothing.
-use borrow.Author.Rules.{rules}
 use Rattle.header_half.proofs.Fields.{of-fields, no_nan}
 use Rattle.header_half.proofs.of_fields.Goals as goal
 

@@ -1,9 +1,7 @@
 -- `header_half::read_f16_as_f32` meets its contract. Assumes nothing.
-use borrow.Author.Rules.{rules}
-use mathlib.Core.Path.{sym, ap, ◌∙◌}
+use mathlib.Core.Path.{ap, ◌∙◌}
 use Prim.Native.Nat.{ℕ}
 use Rattle.header_bits.specs.Outcome.{Outcome, and_then}
-use Rattle.header_bits.specs.Bits.{bits_outcome}
 use Rattle.header_half.specs.Half.{f16, finite}
 use Rattle.header_bits.proofs.Checked.{u-below}
 use Rattle.header_half.proofs.read_f16_as_f32.Goals as goal

@@ -1,10 +1,7 @@
 use mathlib.Core.Path.{◌≡◌, refl, ap, ◌∙◌}
-use Prim.Native.Nat.{◌≤◌, ◌-◌}
+use Prim.Native.Nat.{◌-◌}
 use native.Mathlib.Numerals.{add-one}
 use native.Mathlib.Omega.{arith}
-use borrow.Author.Rules.{rules}
-use lib.ListN.{length}
-use Rattle.run_outcomes.specs.Band.{State}
 use Rattle.loupe.specs.Outcome.{after_pass, after_passes}
 use Rattle.loupe.proofs.all_passes.Goals as goal
 

@@ -1,13 +1,10 @@
 -- `loupe::all_passes` meets its contract. The loop's invariant: the state is that after k passes, and both sets keep their lengths. The
 -- measure is the number of passes left. Assumes nothing.
-use mathlib.Core.Path.{◌≡◌, refl, ap, ◌∙◌}
+use mathlib.Core.Path.{◌≡◌}
 use Prim.Native.Nat.{◌≤◌, ◌-◌}
-use native.Mathlib.Numerals.{add-one}
-use native.Mathlib.Omega.{arith}
-use borrow.Author.Rules.{rules}
 use lib.ListN.{length}
 use Rattle.run_outcomes.specs.Band.{State}
-use Rattle.loupe.specs.Outcome.{after_pass, after_passes}
+use Rattle.loupe.specs.Outcome.{after_passes}
 use Rattle.loupe.proofs.all_passes.Given as goal
 
 abbrev pub invariant-loop-k : goal.invariant-loop-k

@@ -1,6 +1,5 @@
 -- `loupe::early_number` meets its contract. Assumes nothing.
 use mathlib.Core.Path.{sym, ◌∙◌}
-use borrow.Author.Rules.{rules}
 use Rattle.loupe.proofs.Early.{in-limits, groups-in-limits, outside, off-blocks, wanted-picture, wrong-slice, early-accepted, early-unknown}
 use Rattle.loupe.proofs.early_number.Goals as goal
 

@@ -1,5 +1,4 @@
 -- `loupe::finish` meets its contract. Assumes nothing.
-use borrow.Author.Rules.{rules}
 use borrow.Author.Tests.{eq-eqb, ne_eqb}
 use Rattle.loupe.specs.Pieces.{passed_outcome}
 use Rattle.loupe.proofs.finish.Goals as goal

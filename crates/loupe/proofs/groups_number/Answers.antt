@@ -4,7 +4,6 @@ use mathlib.Core.Path.{◌≡◌, refl, ◌∙◌}
 use mathlib.Core.Bool.{Bool, true, false}
 use mathlib.Core.List.{List}
 use Prim.Native.Nat.{ℕ}
-use borrow.Author.Rules.{rules}
 use lib.Ieee.{Float}
 use Rattle.refusals.specs.Checks.{first_of}
 use Rattle.frame.specs.declared.Frame.{Frame}

@@ -1,6 +1,5 @@
 -- `loupe::one_pass` meets its contract. Assumes nothing.
 use mathlib.Core.Path.{ap}
-use borrow.Author.Rules.{rules}
 use Rattle.run_outcomes.specs.Band.{BandOutcome}
 use Rattle.loupe.specs.Outcome.{after_pass}
 use Rattle.loupe.proofs.one_pass.Goals as goal

@@ -2,7 +2,6 @@
 use Prim.Native.Nat.{◌*◌, ◌≤◌}
 use native.Mathlib.Nat.{mul-le-mul}
 use native.Mathlib.Omega.{arith}
-use borrow.Author.Rules.{rules}
 use Rattle.region.proofs.Laws.{picture-bounds, bounds-width, bounds-height}
 use Rattle.loupe.proofs.wanted_length.Goals as goal
 

@@ -2,12 +2,10 @@
 use mathlib.Core.Path.{◌≡◌, sym, ◌∙◌}
 use mathlib.Core.Bool.{true, false}
 use native.Mathlib.Omega.{arith}
-use borrow.Author.Rules.{rules}
 use Rattle.refusals.specs.Checks.{first_of}
-use Rattle.region_interval.proofs.Flags.{not-true, not-false, yes}
+use Rattle.region_interval.proofs.Flags.{yes}
 use Rattle.region.specs.Measures.{picture_fits, rectangle_fits}
 use Rattle.region.proofs.Laws.{picture-bounds}
-use Rattle.loupe_region.specs.declared.LoupeSetup.{LoupeSetup}
 use Rattle.loupe_region.specs.Outcome.{bad_wanted, off_blocks, widened_checks}
 use Rattle.loupe_region.proofs.Laws.{rectangle-bounds, wanted-of}
 use Rattle.loupe_region.proofs.Answers.{whole-outside, wanted-outside, wanted-bad, whole-off-blocks, regions-pass, margin-number, margin-given, refused-answer, accepted-answer}

@@ -1,6 +1,5 @@
 -- `loupe_region::widened` meets its contract: both axes are within the limits. Assumes nothing.
 use mathlib.Core.Path.{◌≡◌}
-use borrow.Author.Rules.{rules}
 use mir.Syntax.{w32}
 use mir.Facts.{to_z-of_z}
 use Rattle.region_interval.specs.declared.Span.{Span}

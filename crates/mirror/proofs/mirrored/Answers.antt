@@ -1,7 +1,6 @@
 -- `mirror::mirrored` meets its contract. Assumes nothing.
 use mathlib.Core.Path.{◌∙◌}
 use native.Mathlib.Omega.{arith}
-use borrow.Author.Rules.{rules}
 use Rattle.mirror.proofs.Laws.{mirror-not-negative, mirror-back}
 use Rattle.mirror.proofs.mirrored.Goals as goal
 

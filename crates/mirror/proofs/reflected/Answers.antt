@@ -2,7 +2,6 @@
 use mathlib.Core.Path.{◌≡◌, sym}
 use native.Mathlib.Nat.{mod-lt}
 use native.Mathlib.Omega.{arith}
-use borrow.Author.Rules.{rules}
 use lib.IntN.{pos}
 use Rattle.mirror.proofs.Laws.{mirror-in, mirror-none, mirror-even, mirror-odd}
 use Rattle.mirror.proofs.reflected.Goals as goal

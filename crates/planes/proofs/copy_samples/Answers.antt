@@ -1,9 +1,7 @@
 use mathlib.Core.Path.{refl}
-use Prim.Native.Nat.{ℕ, ◌+◌, ◌-◌}
+use Prim.Native.Nat.{◌-◌}
 use native.Mathlib.Omega.{arith}
-use lib.ListN.{get_or}
-use lib.Ieee.{nan}
-use Rattle.planes.proofs.Loop.{Written, written_none, written-more, written_all}
+use Rattle.planes.proofs.Loop.{written_none, written-more, written_all}
 use Rattle.planes.proofs.copy_samples.Goals as goal
 
 pub loop-i-init : goal.loop-i-init

@@ -1,10 +1,8 @@
 -- `planes::copy_samples` meets its contract. The invariant: i samples of n are copied. Assumes nothing.
-use mathlib.Core.Path.{refl}
 use Prim.Native.Nat.{ℕ, ◌+◌, ◌-◌}
-use native.Mathlib.Omega.{arith}
 use lib.ListN.{get_or}
 use lib.Ieee.{nan}
-use Rattle.planes.proofs.Loop.{Written, written_none, written-more, written_all}
+use Rattle.planes.proofs.Loop.{Written}
 use Rattle.planes.proofs.copy_samples.Given as goal
 
 abbrev pub invariant-loop-i : goal.invariant-loop-i

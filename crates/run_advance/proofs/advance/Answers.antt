@@ -1,5 +1,4 @@
 -- `run_advance::advance` meets its contract. Assumes nothing.
-use borrow.Author.Rules.{rules}
 use Rattle.run_advance.proofs.Accepted.{advance-refused, advance-few, advance-done}
 use Rattle.run_advance.proofs.advance.Goals as goal
 

@@ -1,6 +1,5 @@
 -- `run_advance::advanced` meets its contract. Assumes nothing.
 use native.Mathlib.Numerals.{add-one}
-use borrow.Author.Rules.{rules}
 use Rattle.run_record.specs.Record.{advanced}
 use Rattle.run_advance.proofs.advanced.Goals as goal
 

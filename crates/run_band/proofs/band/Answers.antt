@@ -1,7 +1,6 @@
 -- `run_band::band` meets its contract. Assumes nothing.
 use mathlib.Core.Path.{sym, ◌∙◌}
 use native.Mathlib.Omega.{arith}
-use borrow.Author.Rules.{rules}
 use Rattle.run_outcomes.specs.Band.{State}
 use Rattle.run_band.proofs.Accepted.{room, number_is, band-refused, band-done}
 use Rattle.run_band.proofs.band.Goals as goal

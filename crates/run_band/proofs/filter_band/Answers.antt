@@ -2,7 +2,6 @@
 use mathlib.Core.Path.{◌≡◌, ap, ◌∙◌}
 use Prim.Native.Nat.{◌+◌, ◌*◌, min}
 use native.Mathlib.Omega.{arith}
-use borrow.Author.Rules.{rules}
 use Rattle.run_setup.specs.Setup.{band_to}
 use Rattle.run_outcomes.specs.Band.{State}
 use Rattle.run_band.proofs.Accepted.{Room, room, first_rows, second-rows, second-written, first-written}

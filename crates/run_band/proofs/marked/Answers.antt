@@ -1,6 +1,5 @@
 -- `run_band::marked` meets its contract. Assumes nothing.
 use mathlib.Core.Path.{refl}
-use borrow.Author.Rules.{rules}
 use Rattle.run_record.specs.Record.{marked}
 use Rattle.run_band.proofs.marked.Goals as goal
 

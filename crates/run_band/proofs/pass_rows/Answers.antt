@@ -1,6 +1,5 @@
 -- `run_band::pass_rows` meets its contract. Assumes nothing.
 use mathlib.Core.Path.{sym, ◌∙◌}
-use borrow.Author.Rules.{rules}
 use Rattle.run_band.proofs.Rows.{gabor-rows, step-rows}
 use Rattle.run_band.proofs.pass_rows.Goals as goal
 

@@ -1,14 +1,12 @@
-use mathlib.Core.Path.{◌≡◌, refl, ◌∙◌}
+use mathlib.Core.Path.{refl, ◌∙◌}
 use Prim.Native.Nat.{ℕ, ◌+◌, ◌-◌, ◌*◌, ◌≤◌, ◌<◌}
 use native.Mathlib.Nat.{suc-mul, mul-le-mul, mul-le-mul_right, add-mul}
 use native.Mathlib.Omega.{arith}
-use lib.ListN.{length}
 use Rattle.planes.specs.declared.Layout.{Layout}
 use Rattle.planes.specs.Rect.{planes_fill}
 use Rattle.planes.proofs.Rect.{planes-end}
 use Rattle.planes.specs.Fits.{LayoutFits}
 use Rattle.planes.proofs.Room.{PlaneRoom, plane-room}
-use Rattle.planes.specs.Band.{inner}
 use Rattle.run_result.proofs.Part.{plane-next}
 use Rattle.run_result.proofs.copy_planes.Goals as goal
 

@@ -1,6 +1,5 @@
 -- `run_result::copy_result` meets its contract. Assumes nothing.
 use native.Mathlib.Omega.{arith}
-use borrow.Author.Rules.{rules}
 use Rattle.run_result.proofs.Part.{setup-part, source-length, target-length, setup-copied}
 use Rattle.run_result.proofs.copy_result.Goals as goal
 

@@ -2,7 +2,6 @@
 -- region of the set that is read. Assumes nothing.
 use mathlib.Core.Path.{◌≡◌, sym, ◌∙◌}
 use mathlib.Core.Bool.{false}
-use borrow.Author.Rules.{rules}
 use lib.ListN.{length}
 use Rattle.refusals.specs.Checks.{applies}
 use Rattle.run_outcomes.specs.Band.{set_check}

@@ -1,6 +1,5 @@
 -- `run_start::picture_number` meets its contract. Assumes nothing.
 use mathlib.Core.Path.{ap, ◌∙◌}
-use borrow.Author.Rules.{rules}
 use Rattle.region_placement.specs.declared.PlacedAnswer.{PlacedAnswer}
 use Rattle.run_start.specs.Lowest.{lowest}
 use Rattle.run_start.specs.Pieces.{number_of}

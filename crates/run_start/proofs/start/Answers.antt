@@ -1,6 +1,5 @@
 -- `run_start::start` meets its contract. Assumes nothing.
 use mathlib.Core.Path.{◌∙◌}
-use borrow.Author.Rules.{rules}
 use Rattle.run_outcomes.specs.Start.{Handed}
 use Rattle.run_start.proofs.Tests.{same-sigmas}
 use Rattle.run_start.proofs.Number.{refused, accepted}

@@ -1,5 +1,4 @@
 -- `sigma_grids::bad_grid` meets its contract. Assumes nothing.
-use borrow.Author.Rules.{rules}
 use borrow.Author.Tests.{eq-eqb, ne_eqb}
 use Rattle.sigma_grids.specs.Table.{presence, bad_grid}
 use Rattle.sigma_grids.proofs.bad_grid.Goals as goal

@@ -1,7 +1,6 @@
 -- `sigma_grids::cells` meets its contract. Assumes nothing.
 use mathlib.Core.Path.{◌≡◌, sym}
 use Prim.Native.Nat.{◌*◌}
-use borrow.Author.Rules.{rules}
 use native.Mathlib.Nat.{mul-le-mul}
 use native.Mathlib.Omega.{arith}
 use Rattle.sigma_grids.specs.Table.{grid_width, grid_height}

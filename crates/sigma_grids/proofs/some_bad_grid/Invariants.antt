@@ -1,10 +1,8 @@
 -- `sigma_grids::some_bad_grid` meets its contract. The invariant: no entry below g is bad. Assumes nothing.
-use mathlib.Core.Path.{◌≡◌, refl, sym, ◌∙◌}
+use mathlib.Core.Path.{◌≡◌}
 use mathlib.Core.Bool.{false}
 use Prim.Native.Nat.{◌-◌, ◌≤◌}
-use native.Mathlib.Omega.{arith}
 use Rattle.sigma_grids.specs.Table.{bad_grid, some_below}
-use Rattle.sigma_grids.proofs.Laws.{some-found, some_turn, some_end}
 use Rattle.sigma_grids.proofs.some_bad_grid.Given as goal
 
 abbrev pub invariant-loop-g : goal.invariant-loop-g

@@ -1,11 +1,8 @@
 -- `epf_lanes::rows::filter_planes` meets its contract. The invariant: c planes are written. Assumes nothing.
-use mathlib.Core.Path.{◌≡◌, refl, ◌∙◌}
-use Prim.Native.Nat.{◌+◌, ◌-◌, ◌≤◌}
-use native.Mathlib.Omega.{arith}
+use mathlib.Core.Path.{◌≡◌}
+use Prim.Native.Nat.{◌-◌, ◌≤◌}
 use lib.ListN.{length}
 use Rattle.planes.specs.Rect.{planes_fill}
-use Rattle.planes.proofs.Rect.{planes-turn, planes-end}
-use Rattle.epf_rects.proofs.Rects.{PlaneRoom, plane-room}
 use Rattle.epf_lanes.specs.Lanes.{tile_of}
 use Rattle.epf_lanes.proofs.rows.filter_planes.Given as goal
 

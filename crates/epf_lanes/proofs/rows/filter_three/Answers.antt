@@ -1,12 +1,10 @@
 use mathlib.Core.Path.{◌≡◌, refl, ◌∙◌}
-use Prim.Native.Nat.{◌-◌, ◌≤◌}
+use Prim.Native.Nat.{◌-◌}
 use native.Mathlib.Nat.{mul-le-mul}
 use native.Mathlib.Omega.{arith}
-use borrow.Author.Rules.{rules}
 use lib.ListN.{length}
-use Rattle.epf_rects.proofs.Three.{rows_to, rows_none}
+use Rattle.epf_rects.proofs.Three.{rows_none}
 use Rattle.epf_slopes.proofs.Slopes.{first_small}
-use Rattle.epf_lanes.specs.Lanes.{tile_of}
 use Rattle.epf_lanes.proofs.Lanes.{ThreeRoom, three-room, three-next}
 use Rattle.epf_lanes.proofs.rows.filter_three.Goals as goal
 

@@ -1,14 +1,9 @@
 -- `epf_lanes::rows::filter_three` meets its contract. The invariant: r rows are written. Assumes nothing.
-use mathlib.Core.Path.{◌≡◌, refl, ◌∙◌}
+use mathlib.Core.Path.{◌≡◌}
 use Prim.Native.Nat.{◌-◌, ◌≤◌}
-use native.Mathlib.Nat.{mul-le-mul}
-use native.Mathlib.Omega.{arith}
-use borrow.Author.Rules.{rules}
 use lib.ListN.{length}
-use Rattle.epf_rects.proofs.Three.{rows_to, rows_none}
-use Rattle.epf_slopes.proofs.Slopes.{first_small}
+use Rattle.epf_rects.proofs.Three.{rows_to}
 use Rattle.epf_lanes.specs.Lanes.{tile_of}
-use Rattle.epf_lanes.proofs.Lanes.{ThreeRoom, three-room, three-next}
 use Rattle.epf_lanes.proofs.rows.filter_three.Given as goal
 
 abbrev pub invariant-loop-r : goal.invariant-loop-r

@@ -1,5 +1,4 @@
 -- `epf_lanes::rows::one_row` meets its contract. Steps 1 and 2 have the same lanes. Assumes nothing.
-use borrow.Author.Rules.{rules}
 use Rattle.epf_lanes.proofs.Lanes.{row_first, row-later}
 use Rattle.epf_lanes.proofs.rows.one_row.Goals as goal
 

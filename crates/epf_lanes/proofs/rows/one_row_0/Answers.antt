@@ -1,8 +1,7 @@
 use mathlib.Core.Path.{refl}
 use Prim.Native.Nat.{◌-◌}
 use native.Mathlib.Omega.{arith}
-use Rattle.planes.proofs.Loop.{Written, written_none, written-more, written_all}
-use Rattle.epf_lanes.specs.Lanes.{row_of}
+use Rattle.planes.proofs.Loop.{written_none, written-more, written_all}
 use Rattle.epf_lanes.proofs.Lanes.{lane-0}
 use Rattle.epf_lanes.proofs.rows.one_row_0.Goals as goal
 

@@ -1,10 +1,7 @@
 -- `epf_lanes::rows::one_row_0` meets its contract. The invariant: i samples are written. Assumes nothing.
-use mathlib.Core.Path.{refl}
 use Prim.Native.Nat.{◌-◌}
-use native.Mathlib.Omega.{arith}
-use Rattle.planes.proofs.Loop.{Written, written_none, written-more, written_all}
+use Rattle.planes.proofs.Loop.{Written}
 use Rattle.epf_lanes.specs.Lanes.{row_of}
-use Rattle.epf_lanes.proofs.Lanes.{lane-0}
 use Rattle.epf_lanes.proofs.rows.one_row_0.Given as goal
 
 abbrev pub invariant-loop-i : goal.invariant-loop-i

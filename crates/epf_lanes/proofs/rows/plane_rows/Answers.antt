@@ -1,12 +1,10 @@
-use mathlib.Core.Path.{◌≡◌, refl, ◌∙◌}
-use Prim.Native.Nat.{ℕ, ◌+◌, ◌-◌, ◌*◌, ◌≤◌}
+use mathlib.Core.Path.{refl, ◌∙◌}
+use Prim.Native.Nat.{◌+◌, ◌-◌, ◌*◌, ◌≤◌}
 use native.Mathlib.Omega.{arith}
-use borrow.Author.Rules.{rules}
 use lib.ListN.{length}
 use Rattle.planes.specs.Rect.{rows_fill}
 use Rattle.planes.proofs.Rect.{rows_end}
 use Rattle.epf_slopes.proofs.Slopes.{first_small}
-use Rattle.epf_lanes.specs.Lanes.{tile_of}
 use Rattle.epf_lanes.proofs.Lanes.{one-next}
 use Rattle.epf_lanes.proofs.rows.plane_rows.Goals as goal
 

@@ -1,14 +1,9 @@
 -- `epf_lanes::rows::plane_rows` meets its contract. The invariant: r rows are written. Assumes nothing.
-use mathlib.Core.Path.{◌≡◌, refl, ◌∙◌}
-use Prim.Native.Nat.{ℕ, ◌+◌, ◌-◌, ◌*◌, ◌≤◌}
-use native.Mathlib.Omega.{arith}
-use borrow.Author.Rules.{rules}
+use mathlib.Core.Path.{◌≡◌}
+use Prim.Native.Nat.{ℕ, ◌-◌, ◌≤◌}
 use lib.ListN.{length}
 use Rattle.planes.specs.Rect.{rows_fill}
-use Rattle.planes.proofs.Rect.{rows_end}
-use Rattle.epf_slopes.proofs.Slopes.{first_small}
 use Rattle.epf_lanes.specs.Lanes.{tile_of}
-use Rattle.epf_lanes.proofs.Lanes.{one-next}
 use Rattle.epf_lanes.proofs.rows.plane_rows.Given as goal
 
 abbrev pub invariant-loop-r : goal.invariant-loop-r

@@ -1,10 +1,8 @@
-use mathlib.Core.Path.{◌≡◌, refl}
-use Prim.Native.Nat.{◌-◌, ◌≤◌}
+use mathlib.Core.Path.{refl}
+use Prim.Native.Nat.{◌-◌}
 use native.Mathlib.Omega.{arith}
-use lib.ListN.{length, length-set}
-use Rattle.epf_rects.specs.Three.{three_fill}
+use lib.ListN.{length-set}
 use Rattle.epf_rects.proofs.Three.{three-none, three-turn, three-end}
-use Rattle.epf_lanes.specs.Lanes.{row_of}
 use Rattle.epf_lanes.proofs.Lanes.{lane-1}
 use Rattle.epf_lanes.proofs.rows.three_row_1.Goals as goal
 

@@ -1,12 +1,9 @@
 -- `epf_lanes::rows::three_row_1` meets its contract. The invariant: i samples of each plane are written. Assumes nothing.
-use mathlib.Core.Path.{◌≡◌, refl}
+use mathlib.Core.Path.{◌≡◌}
 use Prim.Native.Nat.{◌-◌, ◌≤◌}
-use native.Mathlib.Omega.{arith}
-use lib.ListN.{length, length-set}
+use lib.ListN.{length}
 use Rattle.epf_rects.specs.Three.{three_fill}
-use Rattle.epf_rects.proofs.Three.{three-none, three-turn, three-end}
 use Rattle.epf_lanes.specs.Lanes.{row_of}
-use Rattle.epf_lanes.proofs.Lanes.{lane-1}
 use Rattle.epf_lanes.proofs.rows.three_row_1.Given as goal
 
 abbrev pub invariant-loop-i : goal.invariant-loop-i

@@ -1,7 +1,6 @@
 -- `epf_lanes::weights::weights_0` meets its contract. Assumes nothing.
 use mathlib.Core.Path.{refl}
 use native.Mathlib.Omega.{arith}
-use borrow.Author.Rules.{rules}
 use Rattle.epf_lanes.proofs.Lanes.{twelve-neighbours, four-in, twelve-weighed}
 use Rattle.epf_lanes.proofs.weights.weights_0.Goals as goal
 

@@ -1,7 +1,6 @@
 -- `epf_lanes::weights::weights_1` meets its contract. Assumes nothing.
 use mathlib.Core.Path.{refl}
 use native.Mathlib.Omega.{arith}
-use borrow.Author.Rules.{rules}
 use Rattle.epf_lanes.proofs.Lanes.{four-neighbours, four-in, cross-weighed}
 use Rattle.epf_lanes.proofs.weights.weights_1.Goals as goal
 

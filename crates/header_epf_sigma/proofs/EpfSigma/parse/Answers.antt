@@ -1,7 +1,4 @@
 -- `header_epf_sigma::EpfSigma::parse` meets its contract. Assumes nothing.
-use borrow.Author.Rules.{rules}
-use Rattle.header_half.specs.Half.{half_outcome}
-use Rattle.header_fields.proofs.Rows.{answer-is}
 use Rattle.header_epf_sigma.proofs.Cases.{own-sigma-refused, pass0-refused, pass2-refused, border-refused, own-sigma}
 use mathlib.Core.Path.{sym}
 use Rattle.header_epf_sigma.proofs.EpfSigma.parse.Goals as goal
