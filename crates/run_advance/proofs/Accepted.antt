@@ -42,3 +42,6 @@ module _ (r : Run) (n : ℕ) (e : n ≡ first_of (over_checks r)) where
   advance-done h a p =
       let z : advance_number r ≡ 0 = sym e ∙ h in
       rw (z, p)
+
+-- for the answers of `advance`
+pub ruleset advance_rules = (advance-refused, advance-few, advance-done)

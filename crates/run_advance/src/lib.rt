@@ -22,6 +22,7 @@ fn advanced(run: Run) -> Run
 }
 
 // Advances to the next pass, or finishes the run.
+#[tactic(auto, using(crate::proofs::Accepted::advance_rules))]
 pub fn advance(run: Run) -> RunAnswer
     ensures { result ≡ advance_outcome run }
 {

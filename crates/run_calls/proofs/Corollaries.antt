@@ -27,7 +27,7 @@ use Rattle.run_outcomes.specs.Start.{Handed, sigmas_filled}
 use Rattle.run_outcomes.specs.Band.{State, source}
 use Rattle.run_outcomes.specs.Result.{result_of}
 use Rattle.run_outcomes.proofs.Laws.{PictureFits, leaves-same}
-use Rattle.run_calls.specs.Calls.{StartAccepted, start_state, Calls, end}
+use Rattle.run_calls.specs.Calls.{StartAccepted, start_state, Calls, Effects, end}
 use Rattle.run_calls.specs.Places.{Clear, result_at, sample_at}
 use Rattle.run_calls.specs.Theorem.{CutFrom, Delivers}
 use Rattle.run_calls.specs.Corollaries.{FinishedRun, first_at, SameButBands, handed_over, WholePicture, TwoCutsAgree, OutsideKept, BandsAlike}
@@ -44,10 +44,10 @@ from_itself n h e = record { unrefused = start-unrefused n h e; contained = insi
 no-cut-edge : (m : ℕ) (r : Region) (x y : ℤ) → Clear m r r x y
 no-cut-edge m r x y = record { left = λ f. absurd (f refl); right = λ f. absurd (f refl); top = λ f. absurd (f refl); bottom = λ f. absurd (f refl) }
 
-module _ (n : ℕ) (K : Calls n) where
+module _ (n : ℕ) (K : Calls n) (E : Effects n K) where
   -- the theorem on rectangles for a finished run
   cut-run : (h large : Handed) (r : FinishedRun n K h) → CutFrom n h large → Delivers n h large (handed_over n K h r)
-  cut-run h large r from = rectangle-theorem n K h large r.calls r.slice (record { start-accepted = r.accepted; cut-from-larger = from; buffers-unaltered = r.unaltered; run-finished = r.ended; slice_fits = r.room })
+  cut-run h large r from = rectangle-theorem n K E h large r.calls r.slice (record { start-accepted = r.accepted; cut-from-larger = from; buffers-unaltered = r.unaltered; run-finished = r.ended; slice_fits = r.room })
 
   pub whole-picture : WholePicture n K
   whole-picture h r =
@@ -77,7 +77,7 @@ not-in-filter s fits x y held out =
     go (inl a) (inr b) = rw (a.2, b.1)
     go (inr a) b = rw a.1
 
-module _ (n : ℕ) (K : Calls n) (h : Handed) (r : FinishedRun n K h) where
+module _ (n : ℕ) (K : Calls n) (E : Effects n K) (h : Handed) (r : FinishedRun n K h) where
   abbrev state : State
   state = end n K (start_state n h) r.calls
 
@@ -85,7 +85,7 @@ module _ (n : ℕ) (K : Calls n) (h : Handed) (r : FinishedRun n K h) where
   fits = setup-fits h.setup (picture-accepted n h r.accepted).setup
 
   kept : KeptFrom n h state
-  kept = after-start n K h r.accepted r.calls r.unaltered
+  kept = after-start n K E h r.accepted r.calls r.unaltered
 
   -- the slice after the result call
   out-is : (handed_over n K h r).out ≡ result_of n (layout h.setup) (source state)
@@ -119,8 +119,8 @@ module _ (n : ℕ) (K : Calls n) (h : Handed) (r : FinishedRun n K h) where
           run-outside n h state kept c _ _ p (image-in-result (layout s) _ _ e (column-below s.image x y held) (row_below s.image x y held)) (not-in-filter s fits x y held out)
       go false e held = absurd (out held)
 
-pub outside_kept : (n : ℕ) (K : Calls n) → OutsideKept n K
-outside_kept n K h r = kept-outside n K h r
+pub outside_kept : (n : ℕ) (K : Calls n) → Effects n K → OutsideKept n K
+outside_kept n K E h r = kept-outside n K E h r
 
 -- ---- any order of bands and any band height
 
@@ -147,20 +147,20 @@ module _ (n : ℕ) (a b : Handed) (same : SameButBands a b) where
     sample-same : (c : ℕ) (x y : ℤ) → sample_at n a c x y ≡ sample_at n b c x y
     sample-same c x y = rw (leaves-same n a b same.first, sigmas-same, same.image, same.filter, same.full, same.settings)
 
-module _ (n : ℕ) (K : Calls n) (a b : Handed) (same : SameButBands a b) (r : FinishedRun n K a) (q : FinishedRun n K b) where
+module _ (n : ℕ) (K : Calls n) (E : Effects n K) (a b : Handed) (same : SameButBands a b) (r : FinishedRun n K a) (q : FinishedRun n K b) where
   each_same : (c : ℕ) (x y : ℤ) → c < n → Holds (result_region a.setup) x y → result_at a.setup (handed_over n K a r).out c x y ≡ result_at b.setup (handed_over n K b q).out c x y
   each_same c x y h held = go (holds-or-not a.setup.filter x y)
     where
       go : Dec (Holds a.setup.filter x y) → result_at a.setup (handed_over n K a r).out c x y ≡ result_at b.setup (handed_over n K b q).out c x y
       go (yes i) =
-          (whole-picture n K a r).1 c x y h i ∙ sample-same n a b same (picture-accepted n a r.accepted) (picture-accepted n b q.accepted) c x y
-          ∙ sym ((whole-picture n K b q).1 c x y h (rw same.filter at i))
+          (whole-picture n K E a r).1 c x y h i ∙ sample-same n a b same (picture-accepted n a r.accepted) (picture-accepted n b q.accepted) c x y
+          ∙ sym ((whole-picture n K E b q).1 c x y h (rw same.filter at i))
       go (no o) =
-          outside_kept n K a r c x y h held o ∙ first-same n a b same c x y
-          ∙ sym (outside_kept n K b q c x y h (rw (region-same n a b same) at held) (rw same.filter at o))
+          outside_kept n K E a r c x y h held o ∙ first-same n a b same c x y
+          ∙ sym (outside_kept n K E b q c x y h (rw (region-same n a b same) at held) (rw same.filter at o))
 
   bands-same : (handed_over n K a r).out ≡ (handed_over n K b q).out
-  bands-same = sets-ext n region.width region.height (handed_over n K a r).out (handed_over n K b q).out (out-length n K a r) (rw (region-same n a b same) (out-length n K b q)) each
+  bands-same = sets-ext n region.width region.height (handed_over n K a r).out (handed_over n K b q).out (out-length n K E a r) (rw (region-same n a b same) (out-length n K E b q)) each
     where
       region : Region
       region = result_region a.setup
@@ -171,5 +171,5 @@ module _ (n : ℕ) (K : Calls n) (a b : Handed) (same : SameButBands a b) (r : F
           rw (← region-same n a b same, nth-offset region.left x, nth-offset region.top y) at
           (each_same c (region.left +ℤ pos x) (region.top +ℤ pos y) h (nth-holds region x y i j))
 
-pub bands-alike : (n : ℕ) (K : Calls n) → BandsAlike n K
-bands-alike n K a b same r q = bands-same n K a b same r q
+pub bands-alike : (n : ℕ) (K : Calls n) → Effects n K → BandsAlike n K
+bands-alike n K E a b same r q = bands-same n K E a b same r q

@@ -21,7 +21,8 @@ use Rattle.run_record.specs.RunFits.{RunFits}
 use Rattle.run_outcomes.specs.Start.{start_leaves}
 use Rattle.run_outcomes.specs.Band.{State}
 use Rattle.run_outcomes.proofs.Laws.{BandFits, band-number, band-leaves, band-fits, AdvanceFits, advance-number, advance-leaves, advance-fits}
-use Rattle.run_calls.specs.Calls.{start_state, Effect, one_band, one_advance, nothing, Calls, library_calls, state_after, end, Unaltered, bands_in, advances_in}
+use Rattle.run_calls.specs.Calls.{start_state, Effect, one_band, one_advance, nothing, Calls, Effects, library_calls, state_after, end, Unaltered, bands_in, advances_in}
+use Rattle.run_calls.proofs.Effects.{library_effect}
 use Rattle.run_calls.specs.Rules.{CountRule, LibraryCountRule}
 use Rattle.run_calls.proofs.Sound.{Sound}
 use Rattle.run_calls.proofs.Lists.{after_kept, start-state, start-sound, after-start}
@@ -94,14 +95,14 @@ effect-counted {n} {t} (one_band k e) l = rw (band-leaves n t k e) (band-counted
 effect-counted {n} {t} (one_advance e) l = rw (advance-leaves t.run e) (advance-counted t.run (advance-fits t.run (sym (advance-number t.run) ∙ e)))
 effect-counted {n} {t} nothing l = record { bands = omega arith; advances = omega arith }
 
-module _ (n : ℕ) (K : Calls n) (first : List Float) where
+module _ (n : ℕ) (K : Calls n) (E : Effects n K) (first : List Float) where
   next-counted : (t : State) (c : K.Call) → Sound n first t → (K.number (K.answer c) ≡ 0 → K.Lent t c)
       → Counted t.run (state_after n K t c).run (cond (eqb (K.number (K.answer c)) 0) (K.bands c) 0) (cond (eqb (K.number (K.answer c)) 0) (K.advances c) 0)
   unfolding state_after
   next-counted t c i l = go (eqb (K.number (K.answer c)) 0) refl
     where
       go : (b : Bool) → eqb (K.number (K.answer c)) 0 ≡ b → Counted t.run (cond b (K.leaves t (K.answer c)) t).run (cond b (K.bands c) 0) (cond b (K.advances c) 0)
-      go true e = let z = eqb-true (K.number (K.answer c)) 0 e in effect-counted (K.effect t c z (l z)) i.flags
+      go true e = let z = eqb-true (K.number (K.answer c)) 0 e in effect-counted (E t c z (l z)) i.flags
       go false e = record { bands = omega arith; advances = omega arith }
 
   end-counted : (t : State) (cs : List K.Call) → Sound n first t → Unaltered n K t cs → Counted t.run (end n K t cs).run (bands_in n K cs) (advances_in n K cs)
@@ -109,7 +110,7 @@ module _ (n : ℕ) (K : Calls n) (first : List Float) where
   end-counted t [] i u = record { bands = omega arith; advances = omega arith }
   end-counted t (c ∷ cs) i u =
       let s = next-counted t c i u.0 in
-      let r = end-counted (state_after n K t c) cs (after_kept n K first t c i u.0).sound u.1 in
+      let r = end-counted (state_after n K t c) cs (after_kept n K E first t c i u.0).sound u.1 in
       record { bands = omega (arith, r.bands, s.bands); advances = omega (arith, r.advances, s.advances) }
 
 -- a finished run has no done band
@@ -124,12 +125,12 @@ started-bands_done : (s : Setup) → (bands_done (started s) ≡ 0) × ((started
 unfolding started
 started-bands_done s = (omega (arith, none-ticks (is_done (started s)) (started_none s)), refl)
 
-pub count-rule : (n : ℕ) (K : Calls n) → CountRule n K
-count-rule n K h e cs u =
+pub count-rule : (n : ℕ) (K : Calls n) → Effects n K → CountRule n K
+count-rule n K E h e cs u =
     let s : Setup = h.setup in
-    let kept = after-start n K h e cs u in
+    let kept = after-start n K E h e cs u in
     let first : (bands_done (start_state n h).run ≡ 0) × ((start_state n h).run.pass ≡ 0) = rw (start-state n h e) (started-bands_done s) in
-    let c = end-counted n K (start_leaves n h) (start_state n h) cs (start-sound n h e) u in
+    let c = end-counted n K E (start_leaves n h) (start_state n h) cs (start-sound n h e) u in
     let r : Run = (end n K (start_state n h) cs).run in
     let p : pass_count r.setup ≡ pass_count s = ap pass_count kept.setup in (
       λ z.
@@ -140,4 +141,4 @@ count-rule n K h e cs u =
     )
 
 pub library-count-rule : LibraryCountRule
-library-count-rule = count-rule 3 (library_calls 3)
+library-count-rule = count-rule 3 (library_calls 3) (library_effect 3)

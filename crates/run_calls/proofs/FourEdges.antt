@@ -35,6 +35,7 @@ use Rattle.run_outcomes.specs.Start.{picture_checks, start_checks, start_leaves,
 use Rattle.run_outcomes.specs.Band.{State}
 use Rattle.run_outcomes.proofs.Laws.{band-number, band-leaves, band-accepted, advance-number, advance-leaves, advance-accepted}
 use Rattle.run_calls.specs.Calls.{StartAccepted, LibraryCall, band, advance, start, other, answer, number_in, left_by, library_calls, state_after, end, Unaltered}
+use Rattle.run_calls.proofs.Effects.{library_effect}
 use Rattle.run_calls.specs.Places.{input_at, sigma_at}
 use Rattle.run_calls.specs.Theorem.{CutFrom, Unrefused, Premises}
 use Rattle.run_calls.specs.FourEdges.{Given, larger, smaller, empty, begun, one, two, three, turned, four, five, six, accepted-calls, calls, slice, FourEdgesMet, FourEdgesClear, FourEdgesDelivered}
@@ -62,7 +63,7 @@ band-here first t r k h o =
     let i = h.sound in
     let taken = band-number 3 t k ∙ band-accepted 3 t k i.first-length i.second-length i.sigma-length i.run (rw h.run (band-open r k o)) in
     record {
-      sound = (after_kept 3 (library_calls 3) first t (band t k) i (λ e. refl)).sound;
+      sound = (after_kept 3 (library_calls 3) (library_effect 3) first t (band t k) i (λ e. refl)).sound;
       run = ap (λ (u : State). u.run) (after-accepted t (band t k) taken ∙ band-leaves 3 t k taken) ∙ ap (λ (q : Run). marked q k) h.run;
     }
 
@@ -72,7 +73,7 @@ advance-here first t r h o =
     let i = h.sound in
     let taken = advance-number t.run ∙ advance-accepted t.run i.run (rw h.run (pass-over r o)) in
     record {
-      sound = (after_kept 3 (library_calls 3) first t (advance t.run) i (λ e. refl)).sound;
+      sound = (after_kept 3 (library_calls 3) (library_effect 3) first t (advance t.run) i (λ e. refl)).sound;
       run = ap (λ (u : State). u.run) (after-accepted t (advance t.run) taken) ∙ advance-leaves t.run taken ∙ ap advanced h.run;
     }
 

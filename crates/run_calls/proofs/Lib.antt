@@ -1,4 +1,5 @@
 pub mod Rows
+pub mod Effects
 pub mod Sound
 pub mod Lists
 pub mod Refused

@@ -11,7 +11,7 @@ use Rattle.run_record.proofs.Laws.{fits-run}
 use Rattle.run_outcomes.specs.Start.{Handed, StartOutcome, start_leaves, sigmas_filled}
 use Rattle.run_outcomes.specs.Band.{State}
 use Rattle.run_outcomes.proofs.Laws.{PictureFits, picture-fits, start-picture, start-number, start-accepted, band-number, band-leaves, band-fits, advance-number, advance-leaves, advance-fits}
-use Rattle.run_calls.specs.Calls.{StartAccepted, left_by_start, start_state, Effect, one_band, one_advance, nothing, Calls, state_after, end, Unaltered}
+use Rattle.run_calls.specs.Calls.{StartAccepted, left_by_start, start_state, Effect, one_band, one_advance, nothing, Calls, Effects, state_after, end, Unaltered}
 use Rattle.run_calls.specs.Theorem.{Unrefused}
 use Rattle.run_calls.specs.States.{StateReached, from_start, by_effect, EndReached}
 use Rattle.run_calls.specs.Rules.{EndFits}
@@ -31,13 +31,13 @@ effect-kept {n} {t} first (one_band k e) i = rw (band-leaves n t k e) (record { 
 effect-kept {n} {t} first (one_advance e) i = rw (advance-leaves t.run e) (record { sound = sound-advance n first t i (advance-fits t.run (sym (advance-number t.run) ∙ e)).pass; setup = refl; sigmas = refl })
 effect-kept {n} {t} first nothing i = record { sound = i; setup = refl; sigmas = refl }
 
-module _ (n : ℕ) (K : Calls n) (first : List Float) where
+module _ (n : ℕ) (K : Calls n) (E : Effects n K) (first : List Float) where
   pub after_kept : (t : State) (c : K.Call) → Sound n first t → (K.number (K.answer c) ≡ 0 → K.Lent t c) → Kept n first t (state_after n K t c)
   unfolding state_after
   after_kept t c i l = go (eqb (K.number (K.answer c)) 0) refl
     where
       go : (b : Bool) → eqb (K.number (K.answer c)) 0 ≡ b → Kept n first t (cond b (K.leaves t (K.answer c)) t)
-      go true e = let z = eqb-true (K.number (K.answer c)) 0 e in effect-kept first (K.effect t c z (l z)) i
+      go true e = let z = eqb-true (K.number (K.answer c)) 0 e in effect-kept first (E t c z (l z)) i
       go false e = record { sound = i; setup = refl; sigmas = refl }
 
 -- ---- from the start on
@@ -77,13 +77,13 @@ reached-kept n h e t (by_effect s u a b r f) =
     record { sound = i.sound; setup = i.setup ∙ k.setup; sigmas = i.sigmas ∙ k.sigmas }
 
 -- lists of calls lead to such states; refused calls among them change nothing
-module _ (n : ℕ) (K : Calls n) (h : Handed) where
+module _ (n : ℕ) (K : Calls n) (E : Effects n K) (h : Handed) where
   after-reached : (t : State) (c : K.Call) → StateReached n h t → (K.number (K.answer c) ≡ 0 → K.Lent t c) → StateReached n h (state_after n K t c)
   unfolding state_after
   after-reached t c r l = go (eqb (K.number (K.answer c)) 0) refl
     where
       go : (b : Bool) → eqb (K.number (K.answer c)) 0 ≡ b → StateReached n h (cond b (K.leaves t (K.answer c)) t)
-      go true e = let z = eqb-true (K.number (K.answer c)) 0 e in by_effect t (K.leaves t (K.answer c)) (K.bands c) (K.advances c) r (K.effect t c z (l z))
+      go true e = let z = eqb-true (K.number (K.answer c)) 0 e in by_effect t (K.leaves t (K.answer c)) (K.bands c) (K.advances c) r (E t c z (l z))
       go false e = r
 
   list-reached : (t : State) (cs : List K.Call) → StateReached n h t → Unaltered n K t cs → StateReached n h (end n K t cs)
@@ -91,13 +91,13 @@ module _ (n : ℕ) (K : Calls n) (h : Handed) where
   list-reached t [] r u = r
   list-reached t (c ∷ cs) r u = list-reached (state_after n K t c) cs (after-reached t c r u.0) u.1
 
-pub end-reached : (n : ℕ) (K : Calls n) → EndReached n K
-end-reached n K h cs u = list-reached n K h (start_state n h) cs from_start u
+pub end-reached : (n : ℕ) (K : Calls n) → Effects n K → EndReached n K
+end-reached n K E h cs u = list-reached n K E h (start_state n h) cs from_start u
 
-pub after-start : (n : ℕ) (K : Calls n) (h : Handed) → StartAccepted n h → (cs : List K.Call) → Unaltered n K (start_state n h) cs → KeptFrom n h (end n K (start_state n h) cs)
-after-start n K h e cs u = reached-kept n h e _ (end-reached n K h cs u)
+pub after-start : (n : ℕ) (K : Calls n) → Effects n K → (h : Handed) → StartAccepted n h → (cs : List K.Call) → Unaltered n K (start_state n h) cs → KeptFrom n h (end n K (start_state n h) cs)
+after-start n K E h e cs u = reached-kept n h e _ (end-reached n K E h cs u)
 
-pub end_fits : (n : ℕ) (K : Calls n) → EndFits n K
-end_fits n K h e cs u =
-    let k = after-start n K h e cs u in
+pub end_fits : (n : ℕ) (K : Calls n) → Effects n K → EndFits n K
+end_fits n K E h e cs u =
+    let k = after-start n K E h e cs u in
     (k.setup, fits-run _ k.sound.run, k.sound.flags)

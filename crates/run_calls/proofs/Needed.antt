@@ -35,6 +35,7 @@ use Rattle.run_outcomes.specs.Start.{Handed, start_leaves, sigmas_filled}
 use Rattle.run_outcomes.specs.Band.{State, band_outcome}
 use Rattle.run_outcomes.proofs.Laws.{band-number, band-accepted}
 use Rattle.run_calls.specs.Calls.{start_state, LibraryCall, band, advance, answer, number_in, left_by, library_calls, state_after, end, Unaltered}
+use Rattle.run_calls.proofs.Effects.{library_effect}
 use Rattle.run_calls.specs.Places.{Clear, input_at, sample_at, sigma_at, result_at}
 use Rattle.run_calls.specs.Theorem.{DeliversBeyond, Premises, result_on}
 use Rattle.run_calls.specs.Corollaries.{FinishedRun, handed_over}
@@ -85,7 +86,7 @@ run_of {small} {large} {cs} {out} p = record {
 
 own-sample : (small : Handed) (r : FinishedRun 3 (library_calls 3) small) (x y : ℤ) → Holds small.setup.filter x y
     → result_at small.setup (handed_over 3 (library_calls 3) small r).out 0 x y ≡ sample_at 3 small 0 x y
-own-sample small r x y held = (whole-picture 3 (library_calls 3) small r).1 0 x y (omega arith) held
+own-sample small r x y held = (whole-picture 3 (library_calls 3) (library_effect 3) small r).1 0 x y (omega arith) held
 
 -- if these differ from the larger picture's at a clear position, the theorem's conclusion is false
 pub not-delivered : (m : ℕ) (small large : Handed) (r : FinishedRun 3 (library_calls 3) small) (x y : ℤ) → Holds small.setup.filter x y → Clear m small.setup.filter large.setup.filter x y

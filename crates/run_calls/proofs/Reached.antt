@@ -24,6 +24,7 @@ use Rattle.run_outcomes.specs.Start.{Handed, start_leaves}
 use Rattle.run_outcomes.specs.Band.{State}
 use Rattle.run_outcomes.proofs.Laws.{band-number, band-leaves, band-accepted, advance-number, advance-leaves, advance-accepted}
 use Rattle.run_calls.specs.Calls.{StartAccepted, start_state, LibraryCall, band, advance, Calls, library_calls, state_after, end, Unaltered, AllAccepted}
+use Rattle.run_calls.proofs.Effects.{library_effect}
 use Rattle.run_calls.specs.Rules.{ReachedFits, FitsReached, LeadsTo, EachReached, CanFinish}
 use Rattle.run_calls.proofs.Sound.{Sound}
 use Rattle.run_calls.proofs.Lists.{picture-accepted, start-state, after-start}
@@ -185,7 +186,7 @@ module _ (n : ℕ) (h : Handed) (start : StartAccepted n h) where
   leads r (by_band q k w e) =
       let l = leads q w in
       let t : State = end n (library_calls n) (start_state n h) l.0 in
-      let i : Sound n (start_leaves n h) t = (after-start n (library_calls n) h start l.0 l.1.unaltered).sound in
+      let i : Sound n (start_leaves n h) t = (after-start n (library_calls n) (library_effect n) h start l.0 l.1.unaltered).sound in
       let same : t.run ≡ q = l.1.ends in
       let o : Open t.run k = rw same (band-open q k e) in
       let taken = band-number n t k ∙ band-accepted n t k i.first-length i.second-length i.sigma-length i.run o in
@@ -193,7 +194,7 @@ module _ (n : ℕ) (h : Handed) (start : StartAccepted n h) where
   leads r (by_advance q w e) =
       let l = leads q w in
       let t : State = end n (library_calls n) (start_state n h) l.0 in
-      let i : Sound n (start_leaves n h) t = (after-start n (library_calls n) h start l.0 l.1.unaltered).sound in
+      let i : Sound n (start_leaves n h) t = (after-start n (library_calls n) (library_effect n) h start l.0 l.1.unaltered).sound in
       let same : t.run ≡ q = l.1.ends in
       let o : Over t.run = rw same (pass-over q e) in
       let taken = advance-number t.run ∙ advance-accepted t.run i.run o in

@@ -23,7 +23,8 @@ use Rattle.run_setup.proofs.Laws.{setup-fits}
 use Rattle.run_outcomes.specs.Start.{Handed, sigmas_filled}
 use Rattle.run_outcomes.specs.Band.{source}
 use Rattle.run_outcomes.proofs.Laws.{PictureFits, picture-fits}
-use Rattle.run_calls.specs.Calls.{Calls, library_calls}
+use Rattle.run_calls.specs.Calls.{Calls, Effects, library_calls}
+use Rattle.run_calls.proofs.Effects.{library_effect}
 use Rattle.run_calls.specs.Places.{input, Clear}
 use Rattle.run_calls.specs.Theorem.{CutFrom, RectangleTheorem, LibraryTheorem}
 use Rattle.run_calls.specs.States.{RectangleTheoremAt}
@@ -125,9 +126,9 @@ rectangle-theorem-at n small large e from t r z out room =
           ∙ beyond n small large fits from c x y h held clear);
     }
 
-pub rectangle-theorem : (n : ℕ) (K : Calls n) → RectangleTheorem n K
-rectangle-theorem n K small large cs out p = rectangle-theorem-at n small large p.start-accepted p.cut-from-larger _ (end-reached n K small cs p.buffers-unaltered) p.run-finished out p.slice_fits
+pub rectangle-theorem : (n : ℕ) (K : Calls n) → Effects n K → RectangleTheorem n K
+rectangle-theorem n K E small large cs out p = rectangle-theorem-at n small large p.start-accepted p.cut-from-larger _ (end-reached n K E small cs p.buffers-unaltered) p.run-finished out p.slice_fits
 
 -- three planes and the calls of Specification 13.7
 pub library-theorem : LibraryTheorem
-library-theorem = rectangle-theorem 3 (library_calls 3)
+library-theorem = rectangle-theorem 3 (library_calls 3) (library_effect 3)

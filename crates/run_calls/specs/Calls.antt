@@ -95,7 +95,7 @@ pub data Effect (n : ℕ) (t : State) : ℕ → ℕ → State → Type 0 where
   nothing : Effect n t 0 0 t
 
 -- A kind of calls, each with its answer. The answer determines the number and, for an accepted call that was given a state, the state after
--- it. `Lent` says which calls were given a state; `effect` says what those do to it.
+-- it. `Lent` says which calls were given a state; `Effects` says what those do to it.
 pub record Calls (n : ℕ) : Type 1 where
   pub Call : Type 0
   pub Answer : Type 0
@@ -105,14 +105,10 @@ pub record Calls (n : ℕ) : Type 1 where
   pub Lent : State → Call → Type 0
   pub bands : Call → ℕ
   pub advances : Call → ℕ
-  pub effect : (t : State) (c : Call) → number (answer c) ≡ 0 → Lent t c → Effect n t (bands c) (advances c) (leaves t (answer c))
 
-unfoldable pub library_effect : (n : ℕ) (t : State) (c : LibraryCall) → number_in (answer n c) ≡ 0 → PassesState t c → Effect n t (as_bands c) (as_advances c) (left_by t (answer n c))
-library_effect n t (band u k) e l = rw l (one_band k (rw l at e))
-library_effect n t (advance r) e l = rw l (one_advance (rw l at e))
-library_effect n t (result r first second out) e l = nothing
-library_effect n t (start h) e l = absurd l
-library_effect n t (other k) e l = absurd l
+-- each accepted call that was given a state has one of these effects on it, and counts as the bands and advances of that effect
+abbrev pub Effects : (n : ℕ) → Calls n → Type 0
+Effects n K = (t : State) (c : K.Call) → K.number (K.answer c) ≡ 0 → K.Lent t c → Effect n t (K.bands c) (K.advances c) (K.leaves t (K.answer c))
 
 abbrev pub library_calls : (n : ℕ) → Calls n
 library_calls n = record {
@@ -124,7 +120,6 @@ library_calls n = record {
   Lent = PassesState;
   bands = as_bands;
   advances = as_advances;
-  effect = library_effect n;
 }
 
 -- ---- lists of calls of kind K, in runs of n planes

@@ -11,7 +11,7 @@ use Rattle.epf_step.specs.Bounds.{DistanceNotNegative, SlopeNotPositive, WeightB
 use Rattle.epf_lanes.specs.Divisors.{LaneDivisorBounds}
 use Rattle.run_passes.specs.Statements.{PassNear, CutSame, PlanReach}
 use Rattle.run_passes.specs.Bounds.{StepBounds, SettingsBounds, BoundsReached}
-use Rattle.run_calls.specs.Calls.{Calls}
+use Rattle.run_calls.specs.Calls.{Calls, Effects}
 use Rattle.run_calls.specs.Theorem.{RectangleTheorem, LibraryTheorem}
 use Rattle.run_calls.specs.States.{EndReached, ResultAt, RectangleTheoremAt}
 use Rattle.run_calls.specs.Rules.{StartTied, CallsTied, RefusedUntouched, CanFinish, CountRule, LibraryCountRule, EndFits, ReachedFits, FitsReached, EachReached}
@@ -25,11 +25,11 @@ pub record Promises : Type 1 where
   -- the theorem on rectangles (Specification 13.6): for three planes and the calls of 13.7, and for any number of planes and any kind of
   -- calls
   pub library-theorem : LibraryTheorem
-  pub rectangle-theorem : (n : ℕ) (K : Calls n) → RectangleTheorem n K
+  pub rectangle-theorem : (n : ℕ) (K : Calls n) → Effects n K → RectangleTheorem n K
   -- the theorem for a state, however it was reached, and that lists of calls reach such states
   pub rectangle-theorem-at : RectangleTheoremAt
   pub result-at-state : ResultAt
-  pub end-reached : (n : ℕ) (K : Calls n) → EndReached n K
+  pub end-reached : (n : ℕ) (K : Calls n) → Effects n K → EndReached n K
   -- examples meet the premises, one of them with four cut edges
   pub premises-met : PremisesMet
   pub place-clear : PlaceClear
@@ -47,19 +47,19 @@ pub record Promises : Type 1 where
   pub sigmas-needed : SigmasNeeded
   pub unaltered-needed : UnalteredNeeded
   -- corollaries
-  pub whole-picture : (n : ℕ) (K : Calls n) → WholePicture n K
-  pub two-cuts-agree : (n : ℕ) (K : Calls n) → TwoCutsAgree n K
-  pub outside_kept : (n : ℕ) (K : Calls n) → OutsideKept n K
-  pub bands-alike : (n : ℕ) (K : Calls n) → BandsAlike n K
+  pub whole-picture : (n : ℕ) (K : Calls n) → Effects n K → WholePicture n K
+  pub two-cuts-agree : (n : ℕ) (K : Calls n) → Effects n K → TwoCutsAgree n K
+  pub outside_kept : (n : ℕ) (K : Calls n) → Effects n K → OutsideKept n K
+  pub bands-alike : (n : ℕ) (K : Calls n) → Effects n K → BandsAlike n K
   -- the calls of a run, and how many finish it
   pub start-tied : StartTied
   pub calls-tied : CallsTied
   pub refused-untouched : RefusedUntouched
   pub library-count-rule : LibraryCountRule
-  pub count-rule : (n : ℕ) (K : Calls n) → CountRule n K
+  pub count-rule : (n : ℕ) (K : Calls n) → Effects n K → CountRule n K
   pub can-finish : CanFinish
   -- the records of runs: which are valid, which are reached
-  pub end_fits : (n : ℕ) (K : Calls n) → EndFits n K
+  pub end_fits : (n : ℕ) (K : Calls n) → Effects n K → EndFits n K
   pub reached-fits : ReachedFits
   pub fits-reached : FitsReached
   pub each-reached : EachReached
