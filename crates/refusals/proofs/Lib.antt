@@ -1,2 +1,3 @@
+pub mod Outcomes
 pub mod Tables
 pub mod Rows

@@ -1,46 +1,72 @@
-// The numbers of Specification 3.1, grouped by where they come from. All other crates use these names;
-// specs/Numbers.antt has the same names for definitions.
+// The refusals of Specification 3.1, grouped by where they come from, with their numbers. All other crates use these names;
+// specs/Numbers.antt has the numbers for definitions.
 #![tactic(auto)]
 
 ghost use Rattle.std.specs.Prelude.{◌≡◌};
 ghost use Rattle.refusals.specs.Flags.{flag_fits, flag_set};
+ghost use Rattle.refusals.specs.Refusals.{number, number_of};
 
+#[derive(Clone, Copy, Debug, PartialEq, Eq)]
+pub enum Refusal {
+    // From the file.
+    BitsRunOut = 1,
+    HalfNotFinite = 2,
+    KernelNearZero = 3,
+    // From the description of a picture.
+    OutOfLimits = 4,
+    NotInside = 5,
+    NotOnBlocks = 6,
+    WrongLength = 7,
+    BlockNotHeld = 8,
+    OutOfRange = 9,
+    // From the order of calls.
+    BandNotOpen = 10,
+    PassNotDone = 11,
+    // From a cut file.
+    NotACutFile = 12,
+    BadEntry = 13,
+    WrongEnd = 14,
+    // From a wanted rectangle.
+    WantedOutside = 15,
+}
+
+// The number of a call that is not refused.
 pub const ACCEPTED: u32 = 0;
 
-// From the file.
+// The numbers, for crates that answer them.
 pub const BITS_RUN_OUT: u32 = 1;
-
 pub const HALF_NOT_FINITE: u32 = 2;
-
 pub const KERNEL_NEAR_ZERO: u32 = 3;
-
-// From the description of a picture.
 pub const OUT_OF_LIMITS: u32 = 4;
-
 pub const NOT_INSIDE: u32 = 5;
-
 pub const NOT_ON_BLOCKS: u32 = 6;
-
 pub const WRONG_LENGTH: u32 = 7;
-
 pub const BLOCK_NOT_HELD: u32 = 8;
-
 pub const OUT_OF_RANGE: u32 = 9;
-
-// From the order of calls.
 pub const BAND_NOT_OPEN: u32 = 10;
-
 pub const PASS_NOT_DONE: u32 = 11;
-
-// From a cut file.
 pub const NOT_A_CUT_FILE: u32 = 12;
-
 pub const BAD_ENTRY: u32 = 13;
-
 pub const WRONG_END: u32 = 14;
-
-// From a wanted rectangle.
 pub const WANTED_OUTSIDE: u32 = 15;
+
+impl From<Refusal> for u32 {
+    ghost from_gives = { λ r n. n ≡ number r };
+
+    fn from(refusal: Refusal) -> u32 {
+        refusal as u32
+    }
+}
+
+// The number that a call answers on the C boundary: 0, or that of its refusal.
+pub fn number_of(answer: Result<(), Refusal>) -> u32
+    ensures { result ≡ number_of answer }
+{
+    match answer {
+        Ok(()) => ACCEPTED,
+        Err(refusal) => u32::from(refusal),
+    }
+}
 
 // A flag is a number: 0 is no, 1 is yes, and any other value is out of range (Specification 2.6).
 const YES: u32 = 1;
