@@ -10,6 +10,7 @@ ghost use Rattle.mirror.specs.Outcome.{mirror_outcome};
 
 use epf::EpfStep;
 use mirror::MirrorAnswer;
+use refusals::number_of;
 use region::Region;
 use run_passes::GaborSettings;
 
@@ -52,7 +53,8 @@ pub extern "C" fn restoration_gabor_pass(
         dst.old) }
 {
     let weights = run_passes::weights(settings);
-    gabor::gabor_pass(image, filter, preserve_outside, weights, from, to, src, dst)
+    let answer = gabor::gabor_pass(image, filter, preserve_outside, weights, from, to, src, dst);
+    number_of(answer)
 }
 
 // Applies step 0, 1 or 2 of the edge-preserving filter to rows `from` up to, not including, `to` of the result

@@ -1,70 +1,73 @@
 -- The tests of the Gabor pass in order, and the result of an accepted pass. Assumes nothing.
-use mathlib.Core.Path.{◌≡◌, sym, ◌∙◌}
+use mathlib.Core.Path.{◌≡◌, sym}
 use mathlib.Core.Bool.{true, false}
 use mathlib.Core.List.{List}
 use Prim.Native.Nat.{ℕ, ◌<◌}
 use native.Mathlib.Omega.{arith}
 use lib.ListN.{length}
 use lib.Ieee.{Float}
+use Rattle.std.specs.Prelude.{Result, Ok, Err, IsErrAnd}
 use Rattle.refusals.specs.Numbers.{wrong_length, out_of_range}
 use Rattle.refusals.specs.Checks.{first_of}
 use Rattle.refusals.specs.Flags.{flag_fits, flag_set}
+use Rattle.refusals.specs.declared.Refusal.{Refusal}
+use Rattle.refusals.specs.Refusals.{number, number_of}
+use Rattle.refusals.proofs.Outcomes.{number-nonzero}
 use Rattle.region_placement.specs.Placed.{placed_checks}
 use Rattle.region.specs.declared.Region.{Region}
+use Rattle.planes.specs.declared.Layout.{Layout}
 use Rattle.planes.specs.Band.{set_fits, rows_fit}
 use Rattle.planes.specs.Fits.{BandFits}
 use Rattle.planes.proofs.Stored.{band-fits}
-use Rattle.planes_layout.specs.declared.LayoutAnswer.{LayoutAnswer}
-use Rattle.planes_layout.specs.Outcome.{layout_of, layout_outcome, PassOutcome}
-use Rattle.planes_layout.proofs.Fits.{layout-accepted, not-placed, wrong-source, wrong_target, wrong-flag, wrong-rows, pass-accepted, answer-number, answer-layout, pass-refused, pass-done}
+use Rattle.planes_layout.specs.Outcome.{layout_of, PassOutcome}
+use Rattle.planes_layout.proofs.Fits.{layout-accepted, not-placed, wrong-source, wrong_target, wrong-flag, wrong-rows, pass-accepted, pass-refused, pass-done}
 use Rattle.gabor.specs.Outcome.{gabor_passed, gabor_outcome}
 
--- a is the answer of `layout_of`
-module _ (image filter : Region) (full : ℕ) (ws : List (List Float)) (from to : ℕ) (src dst : List Float) (a : LayoutAnswer) (e : a ≡ layout_outcome image filter (flag_set full)) where
+module _ (image filter : Region) (full : ℕ) (ws : List (List Float)) (from to : ℕ) (src dst : List Float) where
   abbrev Outcome : ℕ → List Float → Type 0
   Outcome n d = ◌≡◌ {A = PassOutcome} (record { number = n; target = d }) (gabor_outcome image filter full ws from to src dst)
 
-  pub outcome-placed : (a.number ≡ 0 → ⊥) → Outcome a.number dst
+  -- e: the refusal of the layout, r: what `?` returns for it
+  pub outcome-placed : (e : Refusal) (r : Result Unit Refusal) → number e ≡ first_of (placed_checks image filter) → IsErrAnd r (λ x. x ≡ e) → Outcome (number_of r) dst
   unfolding gabor_outcome
-  outcome-placed h =
-      pass-refused a.number _ _ dst (not-placed image filter full 3 from to src dst a.number (answer-number image filter (flag_set full) a e) h) h
+  outcome-placed e (Ok u) k is = absurd is
+  outcome-placed e (Err x) k is =
+      rw is (pass-refused (number e) _ _ dst (not-placed image filter full 3 from to src dst (number e) k (number-nonzero e)) (number-nonzero e))
 
-  module _ (z : a.number ≡ 0) where
+  -- l is the layout
+  module _ (l : Layout) (placed : 0 ≡ first_of (placed_checks image filter)) (l-is : l ≡ layout_of image filter (flag_set full)) where
     ok : first_of (placed_checks image filter) ≡ 0
-    ok = sym (answer-number image filter (flag_set full) a e) ∙ z
+    ok = sym placed
 
-    l-is : a.layout ≡ layout_of image filter (flag_set full)
-    l-is = answer-layout image filter (flag_set full) a e z
-
-    pub outcome-source : set_fits a.layout 3 (length src) ≡ false → Outcome wrong_length dst
+    pub outcome-source : set_fits l 3 (length src) ≡ false → Outcome wrong_length dst
     unfolding gabor_outcome
     outcome-source s =
         pass-refused wrong_length _ _ dst (wrong-source image filter full 3 from to src dst ok (omega arith) (rw l-is at s)) (λ (q : wrong_length ≡ 0). omega arith)
 
-    pub outcome-target : set_fits a.layout 3 (length dst) ≡ false → Outcome wrong_length dst
+    pub outcome-target : set_fits l 3 (length dst) ≡ false → Outcome wrong_length dst
     unfolding gabor_outcome
     outcome-target t =
         pass-refused wrong_length _ _ dst (wrong_target image filter full 3 from to src dst ok (omega arith) (rw l-is at t)) (λ (q : wrong_length ≡ 0). omega arith)
 
-    module _ (s : set_fits a.layout 3 (length src) ≡ true) (t : set_fits a.layout 3 (length dst) ≡ true) where
+    module _ (s : set_fits l 3 (length src) ≡ true) (t : set_fits l 3 (length dst) ≡ true) where
       pub outcome-flag : flag_fits full ≡ false → Outcome out_of_range dst
       unfolding gabor_outcome
       outcome-flag f =
           pass-refused out_of_range _ _ dst (wrong-flag image filter full 3 from to src dst ok (omega arith) (rw l-is at s) (rw l-is at t) f) (λ (q : out_of_range ≡ 0). omega arith)
 
-      pub outcome-rows : flag_fits full ≡ true → rows_fit a.layout from to ≡ false → Outcome out_of_range dst
+      pub outcome-rows : flag_fits full ≡ true → rows_fit l from to ≡ false → Outcome out_of_range dst
       unfolding gabor_outcome
       outcome-rows f r =
           pass-refused out_of_range _ _ dst (wrong-rows image filter full 3 from to src dst ok (omega arith) (rw l-is at s) (rw l-is at t) f (rw l-is at r)) (λ (q : out_of_range ≡ 0). omega arith)
 
-      module _ (r : rows_fit a.layout from to ≡ true) where
-        pub outcome_fits : BandFits a.layout 3 from to src dst
-        outcome_fits = band-fits a.layout 3 from to src dst s t r
+      module _ (r : rows_fit l from to ≡ true) where
+        pub outcome_fits : BandFits l 3 from to src dst
+        outcome_fits = band-fits l 3 from to src dst s t r
 
-        pub outcome-sides : (0 < a.layout.width) × (0 < a.layout.height)
+        pub outcome-sides : (0 < l.width) × (0 < l.height)
         outcome-sides = rw l-is ((layout-accepted image filter (flag_set full) ok).width-pos, (layout-accepted image filter (flag_set full) ok).height-pos)
 
-        pub outcome-passed : flag_fits full ≡ true → (b : List Float) → b ≡ gabor_passed 3 a.layout ws from to src dst → Outcome 0 b
+        pub outcome-passed : flag_fits full ≡ true → (b : List Float) → b ≡ gabor_passed 3 l ws from to src dst → Outcome 0 b
         unfolding gabor_outcome
         outcome-passed f b h =
             pass-done _ _ dst b (pass-accepted image filter full 3 from to src dst ok (omega arith) (rw l-is at s) (rw l-is at t) f (rw l-is at r)) (rw l-is at h)

@@ -40,7 +40,7 @@ fn pass_rows(run: Run, sigmas: &[f32], src: &[f32], dst: &mut [f32], from: u32, 
     let s = run.setup;
     if gabor_at(s.settings, run.pass) {
         let w = weights(s.settings.gabor);
-        gabor_pass(s.image, s.filter, s.preserve_outside, w, from, to, src, dst);
+        let _ = gabor_pass(s.image, s.filter, s.preserve_outside, w, from, to, src, dst);
         return;
     }
     let step = step_at(s.settings, run.pass);

@@ -1,0 +1,27 @@
+-- `gabor::checked_layout` meets its contract. Assumes nothing.
+use Rattle.std.proofs.Common.{sym, ◌∙◌, arith}
+use mathlib.Core.Path.{◌≡◌}
+use mathlib.Core.Bool.{Bool, true, false, cond}
+use Prim.Native.Nat.{ℕ}
+use Rattle.refusals.specs.Numbers.{out_of_limits, not_inside}
+use Rattle.planes_layout.proofs.Fits.{answer-number, answer-layout}
+use Rattle.gabor.proofs.checked_layout.Goals as goal
+
+other : (a b : Bool) (n : ℕ) → n ≡ cond a out_of_limits (cond b not_inside 0) → (n ≡ 0 → ⊥) → (n ≡ out_of_limits → ⊥) → not_inside ≡ cond a out_of_limits (cond b not_inside 0)
+other true b n e z f = absurd (f e)
+other false true n e z f = omega arith
+other false false n e z f = absurd (z e)
+
+pub returns-then-answer-eq0 : goal.returns-then-answer-eq0
+returns-then-answer-eq0 c =
+    (sym (sym (answer-number _ _ _ _ c.layout_of-answer.ensures) ∙ c.if-answer-eq0.true), answer-layout _ _ _ _ c.layout_of-answer.ensures c.if-answer-eq0.true)
+
+pub returns-then-answer-from : goal.returns-then-answer-from
+returns-then-answer-from c = (sym (sym (answer-number _ _ _ _ c.layout_of-answer.ensures) ∙ (c.if-answer-from.true ∙ c.from.ensures)), tt)
+
+pub returns : goal.returns
+returns c = (
+  other _ _ c.layout_of-answer.result.number (answer-number _ _ _ _ c.layout_of-answer.ensures) c.if-answer-eq0.false
+      (λ q. c.if-answer-from.false (q ∙ sym c.from.ensures)),
+  tt,
+)
