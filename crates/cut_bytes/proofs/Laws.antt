@@ -1,12 +1,13 @@
 -- Laws of numbers as bytes: what is written is read back, and stores of parts are a store of the whole.
 use mathlib.Core.Path.{◌≡◌, refl, sym, ap, ◌∙◌, subst}
-use mathlib.Core.List.{List, [], ◌∷◌, ◌++◌, append-nil}
+use mathlib.Core.List.{List, [], ◌∷◌, ◌++◌, append-nil, append_assoc}
 use Prim.Native.Nat.{ℕ, zero, suc, ◌+◌, ◌*◌, ◌/◌, ◌%◌, ◌^◌, ◌≤◌, ◌<◌}
 use native.Mathlib.Nat.{suc-add, add-suc, pow-zero, pow-suc}
 use native.Mathlib.Omega.{arith}
 use borrow.Author.Tests.{le-leb, lt-leb}
-use lib.ListN.{length, get_or, set, drop_of_length-le, get_or-append, get_or-eq_default}
-use lib.Seq.{sets, sets-eq, get_or-append-add}
+use lib.ListN.{length, get_or, set, take, drop, drop_of_length-le, get_or-append, get_or-eq_default}
+use lib.Seq.{sets, sets-eq, get_or-append-add, drop-drop}
+use borrow.Rule.Slice.PartMut.{put_mid}
 use Rattle.cut_bytes.specs.Bytes.{bytes_of, number_at, stored}
 
 -- ---- bytes
@@ -111,3 +112,8 @@ pub number_small : (s : List ℕ) → ((i : ℕ) → get_or s i 0 < 256) → (at
 unfolding number_at
 number_small s b at zero = omega (arith, pow-zero 256)
 number_small s b at (suc n) = omega (arith, pow-suc 256 n, b at, number_small s b (at + 1) n)
+
+-- a part of a list that is written over
+pub part-stored : (s : List ℕ) (at k : ℕ) (xs : List ℕ) → k ≡ length xs → at + length xs ≤ length s → put_mid at k s xs ≡ stored s at xs
+part-stored s at k xs e h =
+    sym (stored-inside s at xs h ∙ sets-eq xs s at h ∙ append_assoc (take at s) xs (drop (at + length xs) s) ∙ rw (e, drop-drop (length xs) at s))

@@ -1,15 +1,11 @@
 -- `cut_bytes::u32_at` meets its contract. Assumes nothing.
-use mathlib.Core.Path.{sym}
-use native.Mathlib.Omega.{arith}
-use Rattle.cut_bytes.proofs.Laws.{four_bytes, number-outside}
+use Rattle.std.proofs.Common.{◌≡◌, ◌+◌, arith}
+use Rattle.cut_bytes.proofs.Laws.{four_bytes}
 use Rattle.cut_bytes.proofs.u32_at.Goals as goal
-
-pub returns-then-bytes-at : goal.returns-then-bytes-at
-returns-then-bytes-at c =
-    let a = c.args in
-    sym (number-outside a.bytes.now a.at 4 c.if-bytes-at.true)
 
 pub returns : goal.returns
 returns c =
     let a = c.args in
-    omega (arith, four_bytes a.bytes.now a.at, c.byte_at.ensures.0, c.byte_at-2.ensures.0, c.byte_at-3.ensures.0, c.byte_at-4.ensures.0)
+    let b = c.bytes_at.ensures in
+    let first : a.at + 0 ≡ a.at = omega arith in
+    omega (arith, four_bytes a.bytes.now a.at, rw first at (b 0 (omega arith)), b 1 (omega arith), b 2 (omega arith), b 3 (omega arith), c.from_le_bytes.ensures)
