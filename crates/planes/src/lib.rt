@@ -2,9 +2,7 @@
 // and rows fit it.
 #![tactic(auto)]
 
-ghost use Rattle.std.specs.Prelude.{◌≡◌, ℕ, ◌+◌, ◌≤◌, leb, length, get_or};
-ghost use Rattle.std.specs.Float.{nan};
-ghost use Rattle.planes.specs.Fill.{fill};
+ghost use Rattle.std.specs.Prelude.{◌≡◌, ◌+◌, leb};
 ghost use Rattle.planes.specs.Copy.{copied_run};
 ghost use Rattle.planes.specs.Band.{layout_fits, set_fits, rows_fit, filter_row};
 
@@ -14,7 +12,7 @@ use limits::MAX_SIDE;
 pub const PLANES: usize = 3;
 
 // The sides of a region, in samples.
-#[derive(Clone, Copy)]
+#[derive(Clone, Copy, Debug, PartialEq, Eq)]
 pub struct Size {
     pub width: usize,
     pub height: usize,
@@ -22,7 +20,7 @@ pub struct Size {
 
 // The position of a filter region in an image region: `left` and `top` count from the image region's corner.
 // `full`: the result region is the image region (`preserve_outside` is 1), otherwise the filter region.
-#[derive(Clone, Copy)]
+#[derive(Clone, Copy, Debug, PartialEq, Eq)]
 pub struct Layout {
     pub image: Size,
     pub left: usize,
@@ -98,18 +96,6 @@ pub fn filter_row(l: Layout, y: usize) -> usize
     if row <= l.height { row } else { l.height }
 }
 
-fn copy_samples(dst: &mut [f32], at: usize, src: &[f32], from: usize, n: usize)
-    requires { (at + n ≤ length dst.old) × (from + n ≤ length src.now) }
-    ensures { dst.new ≡ fill dst.old at n
-        (λ (i : ℕ). get_or src.now (from + i) nan) }
-{
-    let mut i = 0;
-    while i < n {
-        dst[at + i] = src[from + i];
-        i += 1;
-    }
-}
-
 // Copies n samples from index `from` of `src` to index `at` of `dst`. Does nothing if either slice is too short.
 pub fn copy_run(dst: &mut [f32], at: usize, src: &[f32], from: usize, n: usize)
     ensures { dst.new ≡ copied_run dst.old at src.now from n }
@@ -120,5 +106,5 @@ pub fn copy_run(dst: &mut [f32], at: usize, src: &[f32], from: usize, n: usize)
     if !inside(from, n, src.len()) {
         return;
     }
-    copy_samples(dst, at, src, from, n);
+    dst[at..at + n].copy_from_slice(&src[from..from + n]);
 }
