@@ -14,17 +14,7 @@ fn expect(ok: bool) {
 # Whether two lists of samples are the same, bit by bit.
 SAMPLES = """
 fn same(a: &[f32], b: &[f32]) -> bool {
-    if a.len() != b.len() {
-        return false;
-    }
-    let mut i = 0;
-    while i < a.len() {
-        if f32::to_bits(a[i]) != f32::to_bits(b[i]) {
-            return false;
-        }
-        i += 1;
-    }
-    true
+    a.len() == b.len() && a.iter().zip(b.iter()).all(|(x, y)| x.to_bits() == y.to_bits())
 }
 """
 
@@ -33,7 +23,7 @@ SHARED = {
     # Weights of 0, so that the Gabor-like filter changes nothing, and no default among the edge filter's settings.
     "run_passes": """
 fn settings(gabor: u32, iters: u32) -> run_passes::Settings {
-    let gabor = run_passes::gabor_settings(gabor, [[0.0; 2]; 3]);
+    let gabor = run_passes::GaborSettings { enabled: gabor, weights: [[0.0; 2]; 3] };
     let sigma = header_epf_sigma::EpfSigma { quant_mul: 0.25, pass0_sigma_scale: 0.75, pass2_sigma_scale: 6.0, border_sad_mul: 0.5 };
     let epf = run_passes::EpfSettings { iters, channel_scale: [1.0; 3], sigma, sigma_for_modular: 1.0 };
     run_passes::Settings { gabor, epf }

@@ -122,7 +122,7 @@ class File:
         self.name, self.crate, self.raw, self.text = name, name.split("/")[1], text, blank(text)
         self.impls = []
         for found in re.finditer(r"^impl\b([^{;]*)\{", self.text, re.M):
-            owner = re.sub(r".* for ", "", re.sub(r"^<[^>]*>", "", squeezed(found.group(1))))
+            owner = re.sub(r".* for ", "", re.sub(r"^<[^>]*>", "", squeezed(found.group(1)))).strip()
             self.impls.append((found.start(), closing(self.text, found.end() - 1), owner))
         heads = re.finditer(r'(?:\b(pub(?:\([^)]*\))? )?)(?:(extern) +"?[ C]*"? *)?\bfn (\w+)(?=[(<])', self.text)
         self.functions = [Function(self, head) for head in heads]
