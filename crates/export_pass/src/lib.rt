@@ -10,6 +10,7 @@ ghost use Rattle.mirror.specs.Outcome.{mirror_outcome};
 
 use epf::EpfStep;
 use mirror::MirrorAnswer;
+use refusals::number_of;
 use region::Region;
 use run_passes::GaborSettings;
 
@@ -80,7 +81,7 @@ pub extern "C" fn restoration_epf_pass(
         (epf_outcome image filter preserve_outside s sigmas.now from to src.now
         dst.old) }
 {
-    epf::epf_pass(
+    number_of(epf::epf_pass(
         image,
         filter,
         preserve_outside,
@@ -90,5 +91,5 @@ pub extern "C" fn restoration_epf_pass(
         to,
         src,
         dst,
-    )
+    ))
 }
