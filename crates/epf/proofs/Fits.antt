@@ -10,6 +10,10 @@ use borrow.Author.Tests.{leb-true, lt-ltb, le-ltb, ltb-false, eq-eqb, ne_eqb, eq
 use lib.Dec.{eqb, leb}
 use lib.ListN.{length}
 use lib.Ieee.{Float}
+use Rattle.std.specs.Prelude.{Result, Ok, Err, IsErrAnd}
+use Rattle.refusals.specs.declared.Refusal.{Refusal}
+use Rattle.refusals.specs.Refusals.{number, number_of}
+use Rattle.refusals.proofs.Outcomes.{number-nonzero}
 use Rattle.refusals.specs.Numbers.{not_on_blocks, wrong_length, out_of_range}
 use Rattle.refusals.specs.Checks.{Check, first_of}
 use Rattle.refusals.specs.Flags.{flag_fits, flag_set}
@@ -22,9 +26,8 @@ use Rattle.planes.specs.Rect.{planes_fill}
 use Rattle.planes.specs.Band.{passed, copied_outside, filter_row, result_height, rows_fit}
 use Rattle.planes.specs.Fits.{LayoutFits, BandFits}
 use Rattle.planes.proofs.Stored.{passed_over, fits-copied, and_first, and_second}
-use Rattle.planes_layout.specs.declared.LayoutAnswer.{LayoutAnswer}
-use Rattle.planes_layout.specs.Outcome.{layout_of, layout_outcome, flag_check, PassOutcome}
-use Rattle.planes_layout.proofs.Fits.{Accepted, layout-accepted, placed_first, placed-then, answer-number, answer-layout, pass-refused, pass-done}
+use Rattle.planes_layout.specs.Outcome.{layout_of, flag_check, PassOutcome}
+use Rattle.planes_layout.proofs.Fits.{Accepted, layout-accepted, placed_first, placed-then, pass-refused, pass-done}
 use Rattle.epf_tiles.specs.Blocks.{block_columns, block_rows}
 use Rattle.epf_tiles.proofs.Region.{BlocksRoom, blocks-room}
 use Rattle.epf.specs.declared.EpfStep.{EpfStep}
@@ -127,8 +130,9 @@ pub band-passed : (l : Layout) (n from to f t : ℕ) (p : Picture) (src dst a b 
     → b ≡ passed n l from to p src dst
 band-passed l n from to f t p src dst a b fits e u v h = passed_over l n from to src dst fits p b (h ∙ rw (e, fits-copied l n from to src dst fits, u, v))
 
--- ---- all checks; a is the answer of `layout_of`
-module _ (image filter : Region) (full : ℕ) (s : EpfStep) (sigmas : List Float) (from to : ℕ) (src dst : List Float) (a : LayoutAnswer) (e : a ≡ layout_outcome image filter (flag_set full)) where
+-- ---- all checks
+
+module _ (image filter : Region) (full : ℕ) (s : EpfStep) (sigmas : List Float) (from to : ℕ) (src dst : List Float) where
   abbrev Outcome : ℕ → List Float → Type 0
   Outcome k d = ◌≡◌ {A = PassOutcome} (record { number = k; target = d }) (epf_outcome image filter full s sigmas from to src dst)
 
@@ -136,29 +140,28 @@ module _ (image filter : Region) (full : ℕ) (s : EpfStep) (sigmas : List Float
   abbrev own : List Check
   own = step_checks 3 (layout_of image filter (flag_set full)) filter full s.step from to (length sigmas) (length src) (length dst)
 
-  pub not-placed : (a.number ≡ 0 → ⊥) → Outcome a.number dst
+  -- e: what a check refuses, r: what `?` returns for it
+  pub not-placed : (e : Refusal) (r : Result Unit Refusal) → number e ≡ first_of (placed_checks image filter) → IsErrAnd r (λ x. x ≡ e) → Outcome (number_of r) dst
   unfolding epf_outcome epf_checks
-  not-placed h = pass-refused a.number _ _ dst (placed_first image filter own a.number (answer-number image filter (flag_set full) a e) h) h
+  not-placed e (Ok u) k is = absurd is
+  not-placed e (Err x) k is = rw is (pass-refused (number e) _ _ dst (placed_first image filter own (number e) k (number-nonzero e)) (number-nonzero e))
 
-  module _ (z : a.number ≡ 0) where
-    ok : first_of (placed_checks image filter) ≡ 0
-    ok = sym (answer-number image filter (flag_set full) a e) ∙ z
+  module _ (l : Layout) (placed : 0 ≡ first_of (placed_checks image filter)) (l-is : l ≡ layout_of image filter (flag_set full)) where
+    pub layout-held : Accepted l
+    layout-held = rw l-is (layout-accepted image filter (flag_set full) (sym placed))
 
-    l-is : a.layout ≡ layout_of image filter (flag_set full)
-    l-is = answer-layout image filter (flag_set full) a e z
+    abbrev Checked : ℕ → Type 0
+    Checked k = k ≡ first_of (step_checks 3 l filter full s.step from to (length sigmas) (length src) (length dst))
 
-    pub layout-held : Accepted a.layout
-    layout-held = rw l-is (layout-accepted image filter (flag_set full) ok)
+    number_is : (k : ℕ) → Checked k → k ≡ first_of (epf_checks image filter full s sigmas from to src dst)
+    unfolding epf_checks
+    number_is k p = placed-then image filter own (sym placed) k (rw l-is at p)
 
-    module _ (k : ℕ) (p : k ≡ first_of (step_checks 3 a.layout filter full s.step from to (length sigmas) (length src) (length dst))) where
-      number_is : k ≡ first_of (epf_checks image filter full s sigmas from to src dst)
-      unfolding epf_checks
-      number_is = placed-then image filter own ok k (rw l-is at p)
+    pub refused : (e : Refusal) (r : Result Unit Refusal) → Checked (number e) → IsErrAnd r (λ x. x ≡ e) → Outcome (number_of r) dst
+    unfolding epf_outcome
+    refused e (Ok u) p is = absurd is
+    refused e (Err x) p is = rw is (pass-refused (number e) _ _ dst (number_is (number e) p) (number-nonzero e))
 
-      pub refused : (k ≡ 0 → ⊥) → Outcome k dst
-      unfolding epf_outcome
-      refused h = pass-refused k _ _ dst number_is h
-
-      pub done : k ≡ 0 → (b : List Float) → b ≡ passed 3 a.layout from to (epf_over 3 a.layout s (clamp_to_zero filter.top) sigmas src) src dst → Outcome 0 b
-      unfolding epf_outcome
-      done h b q = pass-done _ _ dst b (sym h ∙ number_is) (rw l-is at q)
+    pub done : Checked 0 → (b : List Float) → b ≡ passed 3 l from to (epf_over 3 l s (clamp_to_zero filter.top) sigmas src) src dst → Outcome 0 b
+    unfolding epf_outcome
+    done p b q = pass-done _ _ dst b (number_is 0 p) (rw l-is at q)

@@ -4,9 +4,11 @@
 
 ghost use Rattle.std.specs.Prelude.{◌≡◌, ◌≤◌, length};
 ghost use Rattle.refusals.specs.Checks.{first_of};
+ghost use Rattle.refusals.specs.Refusals.{IsOutcome, number_of};
+ghost use Rattle.region_placement.specs.Placed.{placed_checks};
 ghost use Rattle.planes.specs.Band.{passed};
 ghost use Rattle.planes.specs.Fits.{LayoutFits, BandFits};
-ghost use Rattle.planes_layout.specs.Outcome.{PassOutcome};
+ghost use Rattle.planes_layout.specs.Outcome.{layout_of, PassOutcome};
 ghost use Rattle.epf_step.specs.Steps.{standard_limit};
 ghost use Rattle.epf_tiles.specs.Tile.{step_over};
 ghost use Rattle.epf_tiles.specs.Region.{RegionFits};
@@ -19,7 +21,7 @@ use limits::BLOCK;
 use planes::{Layout, PLANES, filter_row, rows_fit};
 use planes_layout::layout_of;
 use planes_outside::copy_outside;
-use refusals::{ACCEPTED, NOT_ON_BLOCKS, OUT_OF_RANGE, WRONG_LENGTH, flag_fits, flag_set};
+use refusals::{Refusal, flag_fits, flag_set};
 use region::Region;
 use region_placement::{clamp_to_zero, on_blocks};
 
@@ -37,7 +39,21 @@ pub struct EpfStep {
     pub border_sad_mul: f32,
 }
 
-// The number for the filter region's corner, the lengths, the step, the flag and the rows: 6, 7, 9 or 0.
+// The layout of the filter region in the image region.
+fn checked_layout(image: Region, filter: Region, full: bool) -> Result<Layout, Refusal>
+    ensures { IsOutcome result (first_of (placed_checks image filter)) (layout_of image filter full) }
+{
+    let answer = layout_of(image, filter, full);
+    if answer.number == 0 {
+        return Ok(answer.layout);
+    }
+    if answer.number == u32::from(Refusal::OutOfLimits) {
+        return Err(Refusal::OutOfLimits);
+    }
+    Err(Refusal::NotInside)
+}
+
+// Checks the filter region's corner, the lengths, the step, the flag and the rows.
 fn check_pass(
     l: Layout,
     filter: Region,
@@ -48,33 +64,33 @@ fn check_pass(
     sigmas: usize,
     src: usize,
     dst: usize,
-) -> u32
+) -> Result<(), Refusal>
     requires { LayoutFits l }
-    ensures { result ≡ first_of (step_checks 3 l filter preserve_outside step from to sigmas src dst) }
+    ensures { number_of result ≡ first_of (step_checks 3 l filter preserve_outside step from to sigmas src dst) }
 {
     if !on_blocks(filter) {
-        return NOT_ON_BLOCKS;
+        return Err(Refusal::NotOnBlocks);
     }
     let size = PLANES * l.image.height * l.image.width;
     if src != size {
-        return WRONG_LENGTH;
+        return Err(Refusal::WrongLength);
     }
     if dst != size {
-        return WRONG_LENGTH;
+        return Err(Refusal::WrongLength);
     }
     if sigmas != (l.height + 7) / BLOCK * ((l.width + 7) / BLOCK) {
-        return WRONG_LENGTH;
+        return Err(Refusal::WrongLength);
     }
     if LAST_STEP < step {
-        return OUT_OF_RANGE;
+        return Err(Refusal::OutOfRange);
     }
     if !flag_fits(preserve_outside) {
-        return OUT_OF_RANGE;
+        return Err(Refusal::OutOfRange);
     }
     if !rows_fit(l, from, to) {
-        return OUT_OF_RANGE;
+        return Err(Refusal::OutOfRange);
     }
-    ACCEPTED
+    Ok(())
 }
 
 fn step_of(s: EpfStep) -> Step
@@ -133,34 +149,25 @@ pub fn epf_pass(
     to: u32,
     src: &[f32],
     dst: &mut [f32],
-) -> u32
-    ensures { ◌≡◌ {A = PassOutcome} (record { number = result; target = dst.new })
+) -> Result<(), Refusal>
+    ensures { ◌≡◌ {A = PassOutcome} (record { number = number_of result; target = dst.new })
         (epf_outcome image filter preserve_outside s sigmas.now from to src.now
         dst.old) }
 {
-    let answer = layout_of(image, filter, flag_set(preserve_outside));
-    let placed = answer.number;
-    if placed != ACCEPTED {
-        return placed;
-    }
-    let l = answer.layout;
-    let step = s.step as usize;
+    let l = checked_layout(image, filter, flag_set(preserve_outside))?;
     let first = from as usize;
     let last = to as usize;
-    let number = check_pass(
+    check_pass(
         l,
         filter,
         preserve_outside,
-        step,
+        s.step as usize,
         first,
         last,
         sigmas.len(),
         src.len(),
         dst.len(),
-    );
-    if number != ACCEPTED {
-        return number;
-    }
+    )?;
     let settings = step_of(s);
     epf_band(
         src,
@@ -173,5 +180,5 @@ pub fn epf_pass(
         first,
         last,
     );
-    ACCEPTED
+    Ok(())
 }

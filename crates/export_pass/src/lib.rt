@@ -82,7 +82,7 @@ pub extern "C" fn restoration_epf_pass(
         (epf_outcome image filter preserve_outside s sigmas.now from to src.now
         dst.old) }
 {
-    epf::epf_pass(
+    number_of(epf::epf_pass(
         image,
         filter,
         preserve_outside,
@@ -92,5 +92,5 @@ pub extern "C" fn restoration_epf_pass(
         to,
         src,
         dst,
-    )
+    ))
 }

@@ -44,7 +44,7 @@ fn pass_rows(run: Run, sigmas: &[f32], src: &[f32], dst: &mut [f32], from: u32, 
         return;
     }
     let step = step_at(s.settings, run.pass);
-    epf_pass(
+    let _answer = epf_pass(
         s.image,
         s.filter,
         s.preserve_outside,

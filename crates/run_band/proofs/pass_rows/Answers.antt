@@ -11,4 +11,4 @@ returns-then-gabor_at c =
 pub returns : goal.returns
 returns c =
     step-rows c.args.run c.args.sigmas.now c.args.src.now c.args.dst.now c.args.from c.args.to c.requires
-    (sym c.gabor_at.ensures ∙ c.if-gabor_at.false) _ c.step_at-step.ensures _ _ c.epf_pass.ensures
+    (sym c.gabor_at.ensures ∙ c.if-gabor_at.false) _ c.step_at-step.ensures _ _ c.epf_pass-answer.ensures
