@@ -27,8 +27,7 @@ fn gabor_planes(
     ensures { dst.new ≡ planes_fill l.image.width l.image.height l.left l.width
         (l.top + from) rows (pass_rows weights l src.now from) dst.old n }
 {
-    let mut c = 0;
-    while c < n {
+    for c in 0..n {
         let p = weights[c];
         let at = (c * l.image.height + l.top) * l.image.width + l.left;
         let r = PlaneRegion {
@@ -38,7 +37,6 @@ fn gabor_planes(
             height: l.height,
         };
         gabor_plane(src, dst, r, from, rows, p[0], p[1]);
-        c += 1;
     }
 }
 

@@ -12,12 +12,12 @@ use Rattle.planes.specs.Rect.{rows_fill}
 use Rattle.planes.proofs.Fill.{fill-turn, fill-cong}
 use Rattle.planes.proofs.Rect.{rows-turn}
 use Rattle.gabor_kernel.specs.declared.Kernel.{Kernel}
-use Rattle.gabor_kernel.specs.Ends.{inner}
+use Rattle.gabor_kernel.specs.Ends.{End, first, last, inner}
 use Rattle.gabor_kernel.specs.Gabor.{gabor_by}
 use Rattle.gabor_plane.specs.declared.PlaneRegion.{PlaneRegion}
 use Rattle.gabor_plane.specs.Rows.{taps, inner_sample, row_sample, region_sample}
 use Rattle.gabor_plane.specs.Plane.{region_rows}
-use Rattle.gabor_plane.proofs.RowLaws.{inner-more, row_below, region-inner}
+use Rattle.gabor_plane.proofs.RowLaws.{row_more, row_below, region-inner}
 
 -- a sample stored outside a run may be stored before it
 pub set-fill : (d : List Float) (at n : ℕ) (f : ℕ → Float) (i : ℕ) (v : Float) → ((j : ℕ) → j < n → at + j ≡ i → ⊥) → set (fill d at n f) i v ≡ fill (set d i v) at n f
@@ -48,25 +48,25 @@ both-more {d} {dst} {o} {p} {n} {i} {f} {g} {v} {u} w apart l a b =
 pub both-all : {d dst : List Float} {o p n i : ℕ} {f g : ℕ → Float} → BothWritten d o p n f g dst i → n ≤ i → dst ≡ fill (fill d o n f) p n g
 both-all {d} {dst} {o} {p} {n} {i} {f} {g} w l = let z : i ≡ n = omega (arith, w.count-le) in rw (← z) w.held
 
--- ---- two inner rows of w columns, whose ends are written separately: v and u are those of the first row, v' and u' those of the second
-module _ (s : List Float) (t c b e w : ℕ) (k : Kernel) (d : List Float) (o p : ℕ) (two : 2 ≤ w) (apart : o + w ≤ p) where
+-- ---- two rows of w columns, one below the other, whose ends are written separately: v and u are those of the first row, v' and u' those of the second
+module _ (s : List Float) (t c b t' c' b' w : ℕ) (k : Kernel) (row : End) (d : List Float) (o p : ℕ) (two : 2 ≤ w) (apart : o + w ≤ p) where
   pub pair-more : (v v' u u' : Float) (n : List Float)
-      → v ≡ gabor_by k (taps s t c b 1 0 0) inner inner → v' ≡ gabor_by k (taps s c b e 1 0 0) inner inner
-      → n ≡ fill (fill (set (set d o v) p v') (o + 1) (w - 2) (inner_sample s t c b k inner)) (p + 1) (w - 2) (inner_sample s c b e k inner)
-      → u ≡ gabor_by k (taps s t c b (w - 2) (w - 1) (w - 1)) inner inner → u' ≡ gabor_by k (taps s c b e (w - 2) (w - 1) (w - 1)) inner inner
-      → set (set n (o + (w - 1)) u) (p + (w - 1)) u' ≡ fill (fill d o w (row_sample s t c b w k inner)) p w (row_sample s c b e w k inner)
+      → v ≡ gabor_by k (taps s t c b 0 0 1) first row → v' ≡ gabor_by k (taps s t' c' b' 0 0 1) first row
+      → n ≡ fill (fill (set (set d o v) p v') (o + 1) (w - 2) (inner_sample s t c b k row)) (p + 1) (w - 2) (inner_sample s t' c' b' k row)
+      → u ≡ gabor_by k (taps s t c b (w - 2) (w - 1) (w - 1)) last row → u' ≡ gabor_by k (taps s t' c' b' (w - 2) (w - 1) (w - 1)) last row
+      → set (set n (o + (w - 1)) u) (p + (w - 1)) u' ≡ fill (fill d o w (row_sample s t c b w k row)) p w (row_sample s t' c' b' w k row)
   pair-more v v' u u' n a a' h z z' =
-      let f = inner_sample s t c b k inner in
-      let g = inner_sample s c b e k inner in
+      let f = inner_sample s t c b k row in
+      let g = inner_sample s t' c' b' k row in
       let run : List Float = fill (set d o v) (o + 1) (w - 2) f in
-      let row : List Float = fill d o w (row_sample s t c b w k inner) in
+      let upper : List Float = fill d o w (row_sample s t c b w k row) in
       -- the first row's run, then the second row's first sample
       let begun : n ≡ fill (set run p v') (p + 1) (w - 2) g = h ∙ rw (set-fill (set d o v) (o + 1) (w - 2) f p v' (λ j l (q : o + 1 + j ≡ p). omega arith)) in
       -- the first row's last sample, then the second row's run
       let ended : set n (o + (w - 1)) u ≡ fill (set (set run p v') (o + (w - 1)) u) (p + 1) (w - 2) g = rw begun (set-fill (set run p v') (p + 1) (w - 2) g (o + (w - 1)) u (λ j l (q : p + 1 + j ≡ o + (w - 1)). omega arith)) in
       let apart-ends : set (set run p v') (o + (w - 1)) u ≡ set (set run (o + (w - 1)) u) p v' = set_comm run p (o + (w - 1)) v' u (λ (q : p ≡ o + (w - 1)). omega arith) in
-      let first : set run (o + (w - 1)) u ≡ row = inner-more s w k d o v u run two t c b a refl z in
-      inner-more s w k row p v' u' (set n (o + (w - 1)) u) two c b e a' (ended ∙ rw (apart-ends, first)) z'
+      let done : set run (o + (w - 1)) u ≡ upper = row_more s t c b w k row d o v u run two a refl z in
+      row_more s t' c' b' w k row upper p v' u' (set n (o + (w - 1)) u) two a' (ended ∙ rw (apart-ends, done)) z'
 
 -- ---- rows y and y + 1 of a region
 module _ (s : List Float) (r : PlaneRegion) (k : Kernel) (y o : ℕ) (d a : List Float) where

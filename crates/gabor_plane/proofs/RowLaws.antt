@@ -4,9 +4,9 @@ use mathlib.Core.List.{List}
 use Prim.Native.Nat.{ℕ, zero, suc, ◌+◌, ◌-◌, ◌*◌, ◌<◌, ◌≤◌}
 use native.Mathlib.Nat.{suc-mul, mul-le-mul_right}
 use native.Mathlib.Omega.{arith}
-use lib.ListN.{get_or, set}
+use lib.ListN.{set}
 use lib.IntN.{ℤ, pos, negsuc, ◌+ℤ◌, nat_abs}
-use lib.Ieee.{Float, nan}
+use lib.Ieee.{Float}
 use Rattle.mirror.specs.Mirror.{mirror}
 use Rattle.planes.specs.Picture.{around}
 use Rattle.planes.specs.Fill.{fill}
@@ -54,30 +54,6 @@ module _ (s : List Float) (t c b w : ℕ) (k : Kernel) (row : End) where
       → set n (o + (w - 1)) u ≡ fill d o w (row_sample s t c b w k row)
   row_more d o v u n p e f h =
       row-of-more d o w (row_sample s t c b w k row) (inner_sample s t c b k row) v u n p (e ∙ sym (at_first p)) f (λ j l. sym (at_inner j l)) (h ∙ sym (at_last p))
-
--- ---- the same, with the ends as the code computes them
-module _ (s : List Float) (w : ℕ) (k : Kernel) (d : List Float) (o : ℕ) (v u : Float) (n : List Float) (p : 2 ≤ w) where
-  -- an inner row: an end is computed like an inner column whose missing neighbour is the end sample; its only neighbour comes first
-  pub inner-more : (t c b : ℕ) → v ≡ gabor_by k (taps s t c b 1 0 0) inner inner → n ≡ fill (set d o v) (o + 1) (w - 2) (inner_sample s t c b k inner)
-      → u ≡ gabor_by k (taps s t c b (w - 2) (w - 1) (w - 1)) inner inner → set n (o + (w - 1)) u ≡ fill d o w (row_sample s t c b w k inner)
-  unfolding gabor_by alone evaluate formula nine pick
-  inner-more t c b e f h = row_more s t c b w k inner d o v u n p e f h
-
-  -- the first, last or only row: the first column is computed like the last column of the reversed row
-  pub edge_more : (c a : ℕ) → v ≡ gabor_by k (taps s a c a 1 0 0) last first → n ≡ fill (set d o v) (o + 1) (w - 2) (inner_sample s a c a k first)
-      → u ≡ gabor_by k (taps s a c a (w - 2) (w - 1) (w - 1)) last first → set n (o + (w - 1)) u ≡ fill d o w (row_sample s a c a w k first)
-  unfolding gabor_by alone evaluate formula nine pick
-  edge_more c a e f h = row_more s a c a w k first d o v u n p e f h
-
-  pub solo-more : (c : ℕ) → v ≡ gabor_by k (taps s c c c 1 0 0) last only → n ≡ fill (set d o v) (o + 1) (w - 2) (inner_sample s c c c k only)
-      → u ≡ gabor_by k (taps s c c c (w - 2) (w - 1) (w - 1)) last only → set n (o + (w - 1)) u ≡ fill d o w (row_sample s c c c w k only)
-  unfolding gabor_by alone evaluate formula nine pick
-  solo-more c e f h = row_more s c c c w k only d o v u n p e f h
-
--- a single sample
-pub solo-one : (s : List Float) (c w : ℕ) (k : Kernel) (d : List Float) (o : ℕ) → w ≡ 1 → set d o (get_or s c nan) ≡ fill d o w (row_sample s c c c w k only)
-unfolding gabor_by alone nine pick
-solo-one s c w k d o p = row_one s c c c w k only d o (get_or s c nan) p refl
 
 -- the adjacent rows are the mirrored ones
 pub region-row : (s : List Float) (r : PlaneRegion) (k : Kernel) (y x : ℕ) → x < r.width → y < r.height

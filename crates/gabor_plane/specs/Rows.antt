@@ -24,6 +24,10 @@ taps s t c b l m r = nine (three s t l m r) (three s c l m r) (three s b l m r)
 abbrev pub column : List Float → ℕ → ℕ → ℕ → ℤ → ℤ → Float
 column s t c b = nine (same (get_or s t nan)) (same (get_or s c nan)) (same (get_or s b nan))
 
+-- the first w columns of the rows that start at indices t, c and b lie in a list of length len
+abbrev pub RowsHold : ℕ → ℕ → ℕ → ℕ → ℕ → Type 0
+RowsHold t c b w len = (t + w ≤ len) × (c + w ≤ len) × (b + w ≤ len)
+
 -- column j + 1, which has neighbours on both sides; row is first, last, inner or only
 unfoldable pub inner_sample : List Float → ℕ → ℕ → ℕ → Kernel → End → ℕ → Float
 inner_sample s t c b k row j = gabor_by k (taps s t c b j (j + 1) (j + 2)) inner row

@@ -1,69 +1,66 @@
 // Two inner rows of the Gabor-like filter, one below the other, in one loop that loads the rows between them once.
-// They start at c and b in `src`, between the rows at t and e, and are written at indices o and p. w is their number of
-// columns.
+// They are written at indices o and p. w is their number of columns.
 ghost use Rattle.std.specs.Prelude.{◌≡◌, true, ◌+◌, ◌*◌, ◌<◌, ◌≤◌, length};
 ghost use Rattle.planes.specs.Fill.{fill};
 ghost use Rattle.planes.specs.Rect.{rows_fill};
 ghost use Rattle.gabor_kernel.specs.Ends.{inner};
-ghost use Rattle.gabor_plane.specs.Rows.{inner_sample, row_sample, region_sample, RegionFits};
+ghost use Rattle.gabor_plane.specs.Rows.{inner_sample, row_sample, region_sample, RegionFits, RowsHold};
 ghost use Rattle.gabor_plane.specs.Plane.{region_rows};
 
 use crate::PlaneRegion;
-use crate::reads::tap_at;
+use crate::reads::{InnerRow, Row};
 use crate::rows::region_row;
 use gabor_kernel::Kernel;
 
 // n columns with neighbours on both sides.
-fn tap_pair(
+fn pair_columns(
     src: &[f32],
     dst: &mut [f32],
-    t: usize,
-    c: usize,
-    b: usize,
-    e: usize,
+    upper: InnerRow,
+    lower: InnerRow,
     o: usize,
     p: usize,
     n: usize,
     k: Kernel,
 )
-    requires { (t + n + 2 ≤ length src.now) × (c + n + 2 ≤ length src.now) × (b + n + 2 ≤ length src.now)
-        × (e + n + 2 ≤ length src.now) × (o + n ≤ p) × (p + n ≤ length dst.old) }
-    ensures { dst.new ≡ fill (fill dst.old o n (inner_sample src.now t c b k inner))
-        p n (inner_sample src.now c b e k inner) }
+    requires upper_holds { RowsHold upper.above upper.here upper.below (n + 2) (length src.now) }
+    requires lower_holds { RowsHold lower.above lower.here lower.below (n + 2) (length src.now) }
+    requires apart { (o + n ≤ p) × (p + n ≤ length dst.old) }
+    ensures { dst.new
+        ≡ fill (fill dst.old o n (inner_sample src.now upper.above upper.here upper.below k inner))
+        p n (inner_sample src.now lower.above lower.here lower.below k inner) }
 {
-    let mut j = 0;
-    while j < n {
-        let x = tap_at(src, t, c, b, j, j + 1, j + 2, k);
-        let y = tap_at(src, c, b, e, j, j + 1, j + 2, k);
+    for j in 0..n {
+        let x = upper.inner_column(src, j, k);
+        let y = lower.inner_column(src, j, k);
         dst[o + j] = x;
         dst[p + j] = y;
-        j += 1;
     }
 }
 
 // Whole rows of two columns or more.
-fn gabor_pair(
+fn filter_pair(
     src: &[f32],
     dst: &mut [f32],
-    t: usize,
-    c: usize,
-    b: usize,
-    e: usize,
+    upper: InnerRow,
+    lower: InnerRow,
     o: usize,
     p: usize,
     w: usize,
     k: Kernel,
 )
-    requires { (2 ≤ w) × (t + w ≤ length src.now) × (c + w ≤ length src.now) × (b + w ≤ length src.now)
-        × (e + w ≤ length src.now) × (o + w ≤ p) × (p + w ≤ length dst.old) }
-    ensures { dst.new ≡ fill (fill dst.old o w (row_sample src.now t c b w k inner))
-        p w (row_sample src.now c b e w k inner) }
+    requires upper_holds { RowsHold upper.above upper.here upper.below w (length src.now) }
+    requires lower_holds { RowsHold lower.above lower.here lower.below w (length src.now) }
+    requires apart { (2 ≤ w) × (o + w ≤ p) × (p + w ≤ length dst.old) }
+    ensures { dst.new
+        ≡ fill (fill dst.old o w (row_sample src.now upper.above upper.here upper.below w k inner))
+        p w (row_sample src.now lower.above lower.here lower.below w k inner) }
 {
-    dst[o] = tap_at(src, t, c, b, 1, 0, 0, k);
-    dst[p] = tap_at(src, c, b, e, 1, 0, 0, k);
-    tap_pair(src, dst, t, c, b, e, o + 1, p + 1, w - 2, k);
-    dst[o + (w - 1)] = tap_at(src, t, c, b, w - 2, w - 1, w - 1, k);
-    dst[p + (w - 1)] = tap_at(src, c, b, e, w - 2, w - 1, w - 1, k);
+    dst[o] = upper.end_column(src, 1, 0, k);
+    dst[p] = lower.end_column(src, 1, 0, k);
+    pair_columns(src, dst, upper, lower, o + 1, p + 1, w - 2, k);
+    dst[o + (w - 1)] = upper.end_column(src, w - 2, w - 1, k);
+    dst[p + (w - 1)] = lower.end_column(src, w - 2, w - 1, k);
 }
 
 // Rows y and y + 1 of a region; row y starts at o in both slices.
@@ -74,8 +71,18 @@ fn region_pair(src: &[f32], dst: &mut [f32], r: PlaneRegion, y: usize, o: usize,
     ensures { dst.new ≡ fill (fill dst.old o r.width (region_sample src.now r k y))
         (o + r.stride) r.width (region_sample src.now r k (y + 1)) }
 {
-    let b = o + r.stride;
-    gabor_pair(src, dst, o - r.stride, o, b, b + r.stride, o, b, r.width, k);
+    let p = o + r.stride;
+    let upper = InnerRow {
+        above: o - r.stride,
+        here: o,
+        below: p,
+    };
+    let lower = InnerRow {
+        above: o,
+        here: p,
+        below: p + r.stride,
+    };
+    filter_pair(src, dst, upper, lower, o, p, r.width, k);
 }
 
 // Whether rows y and y + 1 are inner rows of two columns or more, and both among the next n rows.

@@ -1,10 +1,9 @@
-// Samples of the Gabor-like filter from a slice: only indices, no formulas.
-// t, c and b are the indices where the row above, the row itself and the row below start, and a is that of the adjacent
-// row where there is only one; l, m and r are the left column, this column and the right column.
-ghost use Rattle.std.specs.Prelude.{◌≡◌, ◌+◌, ◌<◌, length};
-ghost use Rattle.gabor_kernel.specs.Ends.{only, first, last, inner};
+// Rows of the Gabor-like filter, by the indices where they and the rows next to them start in a slice: only indices, no
+// formulas.
+ghost use Rattle.std.specs.Prelude.{◌≡◌, ℕ, ◌+◌, ◌<◌, ◌≤◌, length};
+ghost use Rattle.gabor_kernel.specs.Ends.{End, only, first, last, inner};
 ghost use Rattle.gabor_kernel.specs.Gabor.{gabor_by};
-ghost use Rattle.gabor_plane.specs.Rows.{three, taps, column};
+ghost use Rattle.gabor_plane.specs.Rows.{three, taps, column, inner_sample, RowsHold};
 
 use gabor_kernel::{Kernel, Row3, edge2, edge4, edge6, lone3, solo2, solo3, tap9};
 
@@ -20,85 +19,131 @@ fn three_at(src: &[f32], o: usize, l: usize, m: usize, r: usize) -> Row3
     }
 }
 
-// An inner row.
-pub(crate) fn tap_at(
-    src: &[f32],
-    t: usize,
-    c: usize,
-    b: usize,
-    l: usize,
-    m: usize,
-    r: usize,
-    k: Kernel,
-) -> f32
-    requires l_in_bounds { (t + l < length src.now) × (t + m < length src.now) × (t + r < length src.now) }
-    requires l_in_bounds_2 { (c + l < length src.now) × (c + m < length src.now) × (c + r < length src.now) }
-    requires l_in_bounds_3 { (b + l < length src.now) × (b + m < length src.now) × (b + r < length src.now) }
-    ensures { result ≡ gabor_by k (taps src.now t c b l m r) inner inner }
-{
-    let above = three_at(src, t, l, m, r);
-    let here = three_at(src, c, l, m, r);
-    let below = three_at(src, b, l, m, r);
-    tap9(above, here, below, k)
+// A row with the rows above and below it, as they are after mirroring: where there is only one other row, it is both, and
+// a single row is its own neighbour.
+pub(crate) trait Row: Copy {
+    ghost above: { Self → ℕ };
+
+    ghost here: { Self → ℕ };
+
+    ghost below: { Self → ℕ };
+
+    ghost stands: { End };
+
+    // Column j + 1, which has neighbours on both sides.
+    fn inner_column(self, src: &[f32], j: usize, k: Kernel) -> f32
+        requires { RowsHold (above self) (here self) (below self) (j + 3) (length src.now) }
+        ensures { result ≡ inner_sample src.now (above self) (here self) (below self) k stands j };
+
+    // An end m of the row; l is its only neighbour.
+    fn end_column(self, src: &[f32], l: usize, m: usize, k: Kernel) -> f32
+        requires l_in_bounds { RowsHold (above self) (here self) (below self) (l + 1) (length src.now) }
+        requires m_in_bounds { RowsHold (above self) (here self) (below self) (m + 1) (length src.now) }
+        ensures as_first { result ≡ gabor_by k (taps src.now (above self) (here self) (below self) m m l) first stands }
+        ensures as_last { result ≡ gabor_by k (taps src.now (above self) (here self) (below self) l m m) last stands };
+
+    // The only column.
+    fn only_column(self, src: &[f32], k: Kernel) -> f32
+        requires { RowsHold (above self) (here self) (below self) 1 (length src.now) }
+        ensures { result ≡ gabor_by k (column src.now (above self) (here self) (below self)) only stands };
 }
 
-// An inner row of a single column.
-pub(crate) fn lone_at(src: &[f32], t: usize, c: usize, b: usize, k: Kernel) -> f32
-    requires { (t < length src.now) × (c < length src.now) × (b < length src.now) }
-    ensures { result ≡ gabor_by k (column src.now t c b) only inner }
-{
-    lone3(src[t], src[c], src[b], k)
+// An inner row. An end of it is computed like an inner column whose missing neighbour is the end sample.
+#[derive(Clone, Copy)]
+pub(crate) struct InnerRow {
+    pub above: usize,
+    pub here: usize,
+    pub below: usize,
 }
 
-// The first or last of several rows.
-pub(crate) fn edge_at(
-    src: &[f32],
-    c: usize,
-    a: usize,
-    l: usize,
-    m: usize,
-    r: usize,
-    k: Kernel,
-) -> f32
-    requires l_in_bounds { (c + l < length src.now) × (c + m < length src.now) × (c + r < length src.now) }
-    requires l_in_bounds_2 { (a + l < length src.now) × (a + m < length src.now) × (a + r < length src.now) }
-    ensures { result ≡ gabor_by k (taps src.now a c a l m r) inner first }
-{
-    let adjacent = three_at(src, a, l, m, r);
-    let here = three_at(src, c, l, m, r);
-    edge6(adjacent, here, k)
+impl Row for InnerRow {
+    ghost above = { λ r. r.above };
+
+    ghost here = { λ r. r.here };
+
+    ghost below = { λ r. r.below };
+
+    ghost stands = { inner };
+
+    #[tactic(auto, unfolding(crate::specs::Rows::inner_sample))]
+    fn inner_column(self, src: &[f32], j: usize, k: Kernel) -> f32 {
+        let above = three_at(src, self.above, j, j + 1, j + 2);
+        let here = three_at(src, self.here, j, j + 1, j + 2);
+        let below = three_at(src, self.below, j, j + 1, j + 2);
+        tap9(above, here, below, k)
+    }
+
+    fn end_column(self, src: &[f32], l: usize, m: usize, k: Kernel) -> f32 {
+        let above = three_at(src, self.above, l, m, m);
+        let here = three_at(src, self.here, l, m, m);
+        let below = three_at(src, self.below, l, m, m);
+        tap9(above, here, below, k)
+    }
+
+    fn only_column(self, src: &[f32], k: Kernel) -> f32 {
+        lone3(src[self.above], src[self.here], src[self.below], k)
+    }
 }
 
-// An end m of the first or last row; l is its only neighbour.
-pub(crate) fn edge_end(src: &[f32], c: usize, a: usize, l: usize, m: usize, k: Kernel) -> f32
-    requires l_in_bounds { (c + l < length src.now) × (c + m < length src.now) }
-    requires l_in_bounds_2 { (a + l < length src.now) × (a + m < length src.now) }
-    ensures { result ≡ gabor_by k (taps src.now a c a l m m) last first }
-{
-    edge4(src[a + l], src[a + m], src[c + l], src[c + m], k)
+// The first or last of several rows, and the row next to it.
+#[derive(Clone, Copy)]
+pub(crate) struct EdgeRow {
+    pub here: usize,
+    pub adjacent: usize,
 }
 
-// The first or last row of a single column.
-pub(crate) fn edge_lone(src: &[f32], c: usize, a: usize, k: Kernel) -> f32
-    requires { (c < length src.now) × (a < length src.now) }
-    ensures { result ≡ gabor_by k (column src.now a c a) only first }
-{
-    edge2(src[a], src[c], k)
+impl Row for EdgeRow {
+    ghost above = { λ r. r.adjacent };
+
+    ghost here = { λ r. r.here };
+
+    ghost below = { λ r. r.adjacent };
+
+    ghost stands = { first };
+
+    #[tactic(auto, unfolding(crate::specs::Rows::inner_sample))]
+    fn inner_column(self, src: &[f32], j: usize, k: Kernel) -> f32 {
+        let adjacent = three_at(src, self.adjacent, j, j + 1, j + 2);
+        let here = three_at(src, self.here, j, j + 1, j + 2);
+        edge6(adjacent, here, k)
+    }
+
+    fn end_column(self, src: &[f32], l: usize, m: usize, k: Kernel) -> f32 {
+        let a = self.adjacent;
+        let c = self.here;
+        edge4(src[a + l], src[a + m], src[c + l], src[c + m], k)
+    }
+
+    fn only_column(self, src: &[f32], k: Kernel) -> f32 {
+        edge2(src[self.adjacent], src[self.here], k)
+    }
 }
 
-// A single row.
-pub(crate) fn solo_at(src: &[f32], c: usize, l: usize, m: usize, r: usize, k: Kernel) -> f32
-    requires { (c + l < length src.now) × (c + m < length src.now) × (c + r < length src.now) }
-    ensures { result ≡ gabor_by k (taps src.now c c c l m r) inner only }
-{
-    let here = three_at(src, c, l, m, r);
-    solo3(here, k)
+// A single row. A single sample is copied.
+#[derive(Clone, Copy)]
+pub(crate) struct SingleRow {
+    pub here: usize,
 }
 
-// An end m of a single row; l is its only neighbour.
-pub(crate) fn solo_end(src: &[f32], c: usize, l: usize, m: usize, k: Kernel) -> f32
-    requires { (c + l < length src.now) × (c + m < length src.now) }
-    ensures { result ≡ gabor_by k (taps src.now c c c l m m) last only }
-{
-    solo2(src[c + l], src[c + m], k)
+impl Row for SingleRow {
+    ghost above = { λ r. r.here };
+
+    ghost here = { λ r. r.here };
+
+    ghost below = { λ r. r.here };
+
+    ghost stands = { only };
+
+    #[tactic(auto, unfolding(crate::specs::Rows::inner_sample))]
+    fn inner_column(self, src: &[f32], j: usize, k: Kernel) -> f32 {
+        solo3(three_at(src, self.here, j, j + 1, j + 2), k)
+    }
+
+    fn end_column(self, src: &[f32], l: usize, m: usize, k: Kernel) -> f32 {
+        solo2(src[self.here + l], src[self.here + m], k)
+    }
+
+    fn only_column(self, src: &[f32], _k: Kernel) -> f32 {
+        src[self.here]
+    }
 }

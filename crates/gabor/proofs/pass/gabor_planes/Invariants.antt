@@ -1,13 +1,10 @@
 -- The invariant: c planes of n are written.
-use Rattle.std.proofs.Common.{◌≡◌, ◌+◌, ◌-◌, ◌≤◌, length}
+use Rattle.std.proofs.Common.{◌≡◌, ◌+◌, length}
 use Rattle.planes.specs.Rect.{planes_fill}
 use Rattle.gabor.specs.Pass.{pass_rows}
 use Rattle.gabor.proofs.pass.gabor_planes.Given as goal
 
 abbrev pub invariant-loop-c : goal.invariant-loop-c
 invariant-loop-c l =
-    (l.c ≤ l.n) × (length l.dst ≡ length l.initial.dst)
+    (length l.dst ≡ length l.initial.dst)
     × (l.dst ≡ planes_fill l.l.image.width l.l.image.height l.l.left l.l.width (l.l.top + l.from) l.rows (pass_rows l.fn.weights l.l l.src l.from) l.initial.dst l.c)
-
-abbrev pub decreases-loop-c : goal.decreases-loop-c
-decreases-loop-c l = l.n - l.c

@@ -7,21 +7,21 @@ use Rattle.gabor_plane.proofs.rows.region_row.Goals as goal
 pub returns-then-r-eq1 : goal.returns-then-r-eq1
 returns-then-r-eq1 c =
     let i = c.requires.y_lt_height in
-    c.gabor_row_solo.ensures ∙ fill-cong _ _ _ _ _ (λ x p. region-only _ _ _ _ _ _ p i.0 i.1 (omega arith))
+    c.filter_row.ensures ∙ fill-cong _ _ _ _ _ (λ x p. region-only _ _ _ _ _ _ p i.0 i.1 (omega arith))
 
 pub returns-then-y-eq0 : goal.returns-then-y-eq0
 returns-then-y-eq0 c =
     let i = c.requires.y_lt_height in
-    c.gabor_row_edge.ensures ∙ fill-cong _ _ _ _ _ (λ x p. region-first _ _ _ _ _ _ p i.0 i.1 _ (omega arith) (omega arith) (omega arith))
+    c.filter_row-then-y-eq0.ensures ∙ fill-cong _ _ _ _ _ (λ x p. region-first _ _ _ _ _ _ p i.0 i.1 _ (omega arith) (omega arith) (omega arith))
 
 pub returns-then-y-r : goal.returns-then-y-r
 returns-then-y-r c =
     let i = c.requires.y_lt_height in
     let above : c.args.r.stride ≤ c.args.o = omega (arith, row-above c.args.y c.args.r.stride (omega arith)) in
-    c.gabor_row_edge-then-y-r.ensures ∙ fill-cong _ _ _ _ _ (λ x p. region-last _ _ _ _ _ _ p i.0 i.1 _ (omega arith) (omega arith) (omega arith))
+    c.filter_row-then-y-r.ensures ∙ fill-cong _ _ _ _ _ (λ x p. region-last _ _ _ _ _ _ p i.0 i.1 _ (omega arith) (omega arith) (omega arith))
 
 pub returns : goal.returns
 returns c =
     let i = c.requires.y_lt_height in
     let above : c.args.r.stride ≤ c.args.o = omega (arith, row-above c.args.y c.args.r.stride (omega arith)) in
-    c.gabor_row.ensures ∙ fill-cong _ _ _ _ _ (λ x p. region-inner _ _ _ _ _ _ p i.0 i.1 _ _ (omega arith) (omega arith) (omega arith) (omega arith))
+    c.filter_row-2.ensures ∙ fill-cong _ _ _ _ _ (λ x p. region-inner _ _ _ _ _ _ p i.0 i.1 _ _ (omega arith) (omega arith) (omega arith) (omega arith))
