@@ -55,7 +55,7 @@ class Item:
 
 
 class Function(Item):
-    """Its owner (the type of the impl around it), parameters as (name, type), answer, contract as (word, text), and body."""
+    """Its owner (the type of the impl around it), parameters as (name, type), answer, contract as (word, text), and body; `raw` is the body with comments and strings."""
 
     def __init__(self, file, match):
         super().__init__(file, match.start(), match.group(3))
@@ -75,7 +75,7 @@ class Function(Item):
         found = re.compile(r"[{;]").search(text, at)
         self.start = found.start() if found else len(text)
         self.end = closing(text, self.start) if found and found.group() == "{" else self.start
-        self.body = text[self.start + 1 : self.end - 1]
+        self.body, self.raw = text[self.start + 1 : self.end - 1], file.raw[self.start + 1 : self.end - 1]
 
     @staticmethod
     def parameter(text):
