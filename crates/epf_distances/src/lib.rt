@@ -153,11 +153,9 @@ fn differences(
         (λ (i : ℕ). apart_by win.now c k (from + i)) }
 {
     let base = c * WINDOW_PLANE;
-    let mut i = 0;
-    while i < n {
+    for i in 0..n {
         let p = from + i;
         d[from + i] = difference(win[base + (p + k)], win[base + p]);
-        i += 1;
     }
 }
 
@@ -188,10 +186,8 @@ fn add_nearby(
         (λ (i : ℕ). get_or fields.old (at + i) nan ⊕ scale ⊗ nearby_of step
         (λ (p : ℕ). get_or d.now p nan) (from + i)) }
 {
-    let mut i = 0;
-    while i < n {
+    for i in 0..n {
         fields[at + i] = fields[at + i] + scale * nearby(step, d, from + i);
-        i += 1;
     }
 }
 
@@ -212,12 +208,10 @@ fn add_single(
         (from + i)) }
 {
     let base = c * WINDOW_PLANE;
-    let mut i = 0;
-    while i < n {
+    for i in 0..n {
         let p = from + i;
         fields[at + i] = fields[at + i]
             + scale * (0.0 + difference(win[base + (p + k)], win[base + p]));
-        i += 1;
     }
 }
 
@@ -253,10 +247,8 @@ fn clear(fields: &mut [f32; FIELDS], at: usize, n: usize)
     requires { at + n ≤ fields_length }
     ensures { fields.new ≡ fill fields.old at n (λ (i : ℕ). b0) }
 {
-    let mut i = 0;
-    while i < n {
+    for i in 0..n {
         fields[at + i] = 0.0;
-        i += 1;
     }
 }
 
@@ -277,10 +269,8 @@ fn field(
         × (length d.new ≡ window_plane) }
 {
     clear(fields, run.at, run.n);
-    let mut c = 0;
-    while c < planes {
+    for c in 0..planes {
         add_channel(fields, run, d, win, c, step, k, scales[c]);
-        c += 1;
     }
 }
 
@@ -298,8 +288,7 @@ fn fill_fields(
 {
     let mut d = [0.0; WINDOW_PLANE];
     let count = half(step);
-    let mut h = 0;
-    while h < count {
+    for h in 0..count {
         let k = shift(step, h);
         let from = CENTRE - k;
         let run = Run {
@@ -308,7 +297,6 @@ fn fill_fields(
             n: rows * STRIDE + PAST - from,
         };
         field(fields, run, &mut d, win, step, k, scales, planes);
-        h += 1;
     }
 }
 

@@ -103,8 +103,7 @@ fn row(
         (lane_in src.now stride plane scales.now slopes.now first corner) }
 {
     let at = corner + stride + 1;
-    let mut i = 0;
-    while i < n {
+    for i in 0..n {
         let p = corner + i;
         let w = weights_at(src, stride, plane, scales, p, slopes[first + i]);
         let a = mix(src, stride, p, w);
@@ -113,7 +112,6 @@ fn row(
         dst[at + i] = a;
         dst[at + plane + i] = b;
         dst[at + 2 * plane + i] = c;
-        i += 1;
     }
 }
 
@@ -137,14 +135,12 @@ fn rows_of(
     let above = l.top + (rect.y - 1);
     let rows = rect.rows;
     let offset = top % BLOCK;
-    let mut r = 0;
-    while r < rows {
+    for r in 0..rows {
         let corner = (above + r) * stride + (l.left + (rect.x - 1));
         let first = first_slope(offset + r);
         row(
             dst, src, stride, plane, scales, slopes, first, corner, rect.cols,
         );
-        r += 1;
     }
 }
 

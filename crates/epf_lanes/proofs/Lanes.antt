@@ -5,7 +5,7 @@ use mathlib.Core.List.{List}
 use Prim.Native.Nat.{ℕ, zero, suc, ◌+◌, ◌*◌, ◌%◌, ◌<◌, ◌≤◌}
 use native.Mathlib.Nat.{add-mul, mul_assoc, mul-le-mul, mul-le-mul_right}
 use native.Mathlib.Omega.{arith}
-use borrow.Author.Tests.{le-leb, lt-leb}
+use borrow.Author.Tests.{le-leb, lt-leb, eq-eqb, ne_eqb}
 use lib.ListN.{length, get_or}
 use lib.Ieee.{Float, nan}
 use Rattle.planes.specs.declared.Layout.{Layout}
@@ -23,19 +23,29 @@ use Rattle.epf_slopes.specs.Slopes.{first_slope}
 use Rattle.epf_slopes.proofs.Slopes.{first-same}
 use Rattle.epf_distances.specs.Taps.{tap_of}
 use Rattle.epf_lanes.specs.declared.Four.{Four}
-use Rattle.epf_lanes.specs.declared.Twelve.{Twelve}
-use Rattle.epf_lanes.specs.declared.Cross.{Cross}
-use Rattle.epf_lanes.specs.Lanes.{weights_to, samples_to, weight_in, weight_of, sample_of, neighbour_of, lane_of, four_of, twelve_of, cross_of, sample_at, mix_twelve, mix_cross, row_of, tile_of, lanes_stored}
+use Rattle.epf_lanes.specs.declared.LaneWeights.{LaneWeights}
+use Rattle.epf_lanes.specs.Lanes.{weights_to, samples_to, weight_in, weight_of, sample_of, neighbour_of, lane_of, four_of, with_four, no_four, weights_of, sample_at, mix_of, row_of, tile_of, lanes_stored}
 use Rattle.epf_lanes.specs.Divisors.{LaneBounded}
 use Rattle.epf_lanes.proofs.Divisors.{lane-bounded}
 
-pub twelve-neighbours : length (kernel 0) ≡ 12
+twelve-neighbours : length (kernel 0) ≡ 12
 unfolding kernel
 twelve-neighbours = refl
 
-pub four-neighbours : length (kernel 1) ≡ 4
+four-neighbours : (s : ℕ) → length (kernel (suc s)) ≡ 4
 unfolding kernel
-four-neighbours = refl
+four-neighbours s = refl
+
+pub twelve : (step : ℕ) → step ≡ 0 → length (kernel step) ≡ 12
+twelve step h = rw h twelve-neighbours
+
+pub four : (step : ℕ) → (step ≡ 0 → ⊥) → length (kernel step) ≡ 4
+four zero h = absurd (h refl)
+four (suc s) h = four-neighbours s
+
+pub four-at-least : (step : ℕ) → 4 ≤ length (kernel step)
+four-at-least zero = omega (arith, twelve-neighbours)
+four-at-least (suc s) = omega (arith, four-neighbours s)
 
 -- ---- four neighbours at a time
 
@@ -63,7 +73,7 @@ unfolding samples_to
 samples-same f s t x y zero e h = e
 samples-same f s t x y (suc n) e h = rw (samples-same f s t x y n e h, h n)
 
--- ---- `weights_0` and `weights_1`
+-- ---- `weights`
 
 -- four weights of a lane at index j of a field
 pub four-in : (step : ℕ) (e : List Float) (slope : Float) (r i j q : ℕ) (w : Four) → j ≡ r * 64 + i
@@ -76,64 +86,67 @@ four-in step e slope r i j q w ej ew =
 summed : (f : ℕ → Float) (q : ℕ) (w : Four) (x y : Float) → w ≡ four_of f q → x ≡ weights_to f q → y ≡ x ⊕ w.a ⊕ w.b ⊕ w.c ⊕ w.d → y ≡ weights_to f (q + 4)
 summed f q w x y ew ex ey = ey ∙ rw ew (weights-four f x q ex)
 
-module _ (e : List Float) (slope : Float) (r i : ℕ) where
-  none-summed : (f : ℕ → Float) → b1 ≡ weights_to f 0
-  unfolding weights_to
-  none-summed f = refl
+none-summed : (f : ℕ → Float) → b1 ≡ weights_to f 0
+unfolding weights_to
+none-summed f = refl
 
-  pub twelve-weighed : (u v w : Four) (x y z : Float) → u ≡ four_of (weight_in 0 e slope r i) 0 → v ≡ four_of (weight_in 0 e slope r i) 4 → w ≡ four_of (weight_in 0 e slope r i) 8
-      → x ≡ b1 ⊕ u.a ⊕ u.b ⊕ u.c ⊕ u.d → y ≡ x ⊕ v.a ⊕ v.b ⊕ v.c ⊕ v.d → z ≡ y ⊕ w.a ⊕ w.b ⊕ w.c ⊕ w.d
-      → (◌≡◌ {A = Twelve} (record { u = u; v = v; w = w; sum = z }) (twelve_of (weight_in 0 e slope r i))) × LaneBounded 0 e slope r i z
-  twelve-weighed u v w x y z eu ev ew ex ey ez =
-      let f = weight_in 0 e slope r i in
-      let sum : z ≡ weights_to f 12 = summed f 8 w y z ew (summed f 4 v x y ev (summed f 0 u b1 x eu (none-summed f) ex) ey) ez in
-      let all : weights_to f 12 ≡ weights_to f (length (kernel 0)) = rw twelve-neighbours in
-      (rw (eu, ev, ew, sum), rw (sum ∙ all) (lane-bounded 0 e slope r i))
+module _ (step : ℕ) (e : List Float) (slope : Float) (r i : ℕ) where
+  abbrev each : ℕ → Float
+  each = weight_in step e slope r i
 
-  pub cross-weighed : (w : Four) (x : Float) → w ≡ four_of (weight_in 1 e slope r i) 0 → x ≡ b1 ⊕ w.a ⊕ w.b ⊕ w.c ⊕ w.d
-      → (◌≡◌ {A = Cross} (record { w = w; sum = x }) (cross_of (weight_in 1 e slope r i))) × LaneBounded 1 e slope r i x
-  cross-weighed w x ew ex =
-      let f = weight_in 1 e slope r i in
-      let sum : x ≡ weights_to f 4 = summed f 0 w b1 x ew (none-summed f) ex in
-      let all : weights_to f 4 ≡ weights_to f (length (kernel 1)) = rw four-neighbours in
-      (rw (ew, sum), rw (sum ∙ all) (lane-bounded 1 e slope r i))
+  abbrev Weighed : LaneWeights → Type 0
+  Weighed w = (w ≡ weights_of step each) × LaneBounded step e slope r i w.sum
+
+  pub four-weighed : (step ≡ 0 → ⊥) → (u : Four) (x : Float) → u ≡ four_of each 0 → x ≡ b1 ⊕ u.a ⊕ u.b ⊕ u.c ⊕ u.d → Weighed (record { u = u; v = no_four; w = no_four; sum = x })
+  four-weighed h u x eu ex =
+      let sum : x ≡ weights_to each 4 = summed each 0 u b1 x eu (none-summed each) ex in
+      let all : weights_to each 4 ≡ weights_to each (length (kernel step)) = rw (four step h) in
+      (rw (ne_eqb step 0 h, eu, sum), rw (sum ∙ all) (lane-bounded step e slope r i))
+
+  pub twelve-weighed : step ≡ 0 → (u v w : Four) (x y z : Float) → u ≡ four_of each 0 → v ≡ four_of each 4 → w ≡ four_of each 8
+      → x ≡ b1 ⊕ u.a ⊕ u.b ⊕ u.c ⊕ u.d → y ≡ x ⊕ v.a ⊕ v.b ⊕ v.c ⊕ v.d → z ≡ y ⊕ w.a ⊕ w.b ⊕ w.c ⊕ w.d → Weighed (record { u = u; v = v; w = w; sum = z })
+  twelve-weighed h u v w x y z eu ev ew ex ey ez =
+      let sum : z ≡ weights_to each 12 = summed each 8 w y z ew (summed each 4 v x y ev (summed each 0 u b1 x eu (none-summed each) ex) ey) ez in
+      let all : weights_to each 12 ≡ weights_to each (length (kernel step)) = rw (twelve step h) in
+      (rw (eq-eqb step 0 h, eu, ev, ew, sum), rw (sum ∙ all) (lane-bounded step e slope r i))
+
+-- ---- `mix`
+
+pub twelve-mixed : (step : ℕ) (win : List Float) (p : ℕ) (w : LaneWeights) (v x y z : Float) → step ≡ 0 → x ≡ with_four (get_or win (p + 196) nan) w.u (sample_at step win p) 0
+    → y ≡ with_four x w.v (sample_at step win p) 4 → z ≡ with_four y w.w (sample_at step win p) 8 → v ≡ z ⊘ w.sum → v ≡ mix_of step win p w
+twelve-mixed step win p w v x y z h ex ey ez ev = ev ∙ rw (eq-eqb step 0 h, ez, ey, ex)
+
+pub four-mixed : (step : ℕ) (win : List Float) (p : ℕ) (w : LaneWeights) (v x : Float) → (step ≡ 0 → ⊥) → x ≡ with_four (get_or win (p + 196) nan) w.u (sample_at step win p) 0
+    → v ≡ x ⊘ w.sum → v ≡ mix_of step win p w
+four-mixed step win p w v x h ex ev = ev ∙ rw (ne_eqb step 0 h, ex)
 
 -- ---- a lane
 
-module _ (f : ℕ → Float) (win : List Float) (p : ℕ) where
-  none-added : (s : ℕ → Float) (x : Float) → x ≡ samples_to f s x 0
-  unfolding samples_to
-  none-added s x = refl
+none-added : (f s : ℕ → Float) (x : Float) → x ≡ samples_to f s x 0
+unfolding samples_to
+none-added f s x = refl
 
-  mixed-twelve : mix_twelve win p (twelve_of f) ≡ samples_to f (sample_at 0 win p) (get_or win (p + 196) nan) 12 ⊘ weights_to f 12
-  mixed-twelve =
-      let s = sample_at 0 win p in
-      let x = get_or win (p + 196) nan in
-      ap (λ (y : Float). y ⊘ weights_to f 12) (samples-four f s x _ 8 (samples-four f s x _ 4 (samples-four f s x x 0 (none-added s x))))
+mixed : (step : ℕ) (f : ℕ → Float) (win : List Float) (p : ℕ) → mix_of step win p (weights_of step f) ≡ samples_to f (sample_at step win p) (get_or win (p + 196) nan) (length (kernel step)) ⊘ weights_to f (length (kernel step))
+mixed zero f win p =
+    let s = sample_at 0 win p in
+    let x = get_or win (p + 196) nan in
+    rw twelve-neighbours (ap (λ (y : Float). y ⊘ weights_to f 12) (samples-four f s x _ 8 (samples-four f s x _ 4 (samples-four f s x x 0 (none-added f s x)))))
+mixed (suc n) f win p =
+    let s = sample_at (suc n) win p in
+    let x = get_or win (p + 196) nan in
+    rw (ne_eqb (suc n) 0 (λ z. omega (arith, z)), four-neighbours n) (ap (λ (y : Float). y ⊘ weights_to f 4) (samples-four f s x x 0 (none-added f s x)))
 
-  mixed-cross : mix_cross win p (cross_of f) ≡ samples_to f (sample_at 1 win p) (get_or win (p + 196) nan) 4 ⊘ weights_to f 4
-  mixed-cross =
-      let s = sample_at 1 win p in
-      let x = get_or win (p + 196) nan in
-      ap (λ (y : Float). y ⊘ weights_to f 4) (samples-four f s x x 0 (none-added s x))
-
-module _ (e slopes win : List Float) (first c i r p : ℕ) (v : Float) (ep : p ≡ c * 896 + r * 64 + i) where
+module _ (step : ℕ) (e slopes win : List Float) (first c i r p : ℕ) (v : Float) (ep : p ≡ c * 896 + r * 64 + i) where
   -- the windows' samples at p are those of the lane
-  seen_same : (step n : ℕ) (f : ℕ → Float) → samples_to f (sample_at step win p) (get_or win (p + 196) nan) n ≡ samples_to f (neighbour_of step win c r i) (sample_of win c r 196 i) n
+  seen_same : (n : ℕ) (f : ℕ → Float) → samples_to f (sample_at step win p) (get_or win (p + 196) nan) n ≡ samples_to f (neighbour_of step win c r i) (sample_of win c r 196 i) n
   unfolding neighbour_of
-  seen_same step n f = samples-same f _ _ _ _ n (ap (λ (k : ℕ). get_or win k nan) (omega arith)) (λ q. ap (λ (k : ℕ). get_or win k nan) (omega arith))
+  seen_same n f = samples-same f _ _ _ _ n (ap (λ (k : ℕ). get_or win k nan) (omega arith)) (λ q. ap (λ (k : ℕ). get_or win k nan) (omega arith))
 
-  pub lane-0 : (w : Twelve) → w ≡ twelve_of (weight_in 0 e (get_or slopes (first + i) nan) r i) → v ≡ mix_twelve win p w → v ≡ row_of 0 e slopes win first r c i
-  unfolding lane_of weight_of kernel
-  lane-0 w ew ev =
-      let f = weight_in 0 e (get_or slopes (first + i) nan) r i in
-      ev ∙ rw ew (mixed-twelve f win p ∙ rw (seen_same 0 12 f))
-
-  pub lane-1 : (w : Cross) → w ≡ cross_of (weight_in 1 e (get_or slopes (first + i) nan) r i) → v ≡ mix_cross win p w → v ≡ row_of 1 e slopes win first r c i
-  unfolding lane_of weight_of kernel
-  lane-1 w ew ev =
-      let f = weight_in 1 e (get_or slopes (first + i) nan) r i in
-      ev ∙ rw ew (mixed-cross f win p ∙ rw (seen_same 1 4 f))
+  pub lane-mixed : (w : LaneWeights) → w ≡ weights_of step (weight_in step e (get_or slopes (first + i) nan) r i) → v ≡ mix_of step win p w → v ≡ row_of step e slopes win first r c i
+  unfolding lane_of weight_of
+  lane-mixed w ew ev =
+      let f = weight_in step e (get_or slopes (first + i) nan) r i in
+      ev ∙ rw ew (mixed step f win p ∙ rw (seen_same (length (kernel step)) f))
 
 -- ---- a row in any step
 

@@ -1,8 +1,8 @@
 -- What the loops over a tile's lanes compute from fields, slopes and windows, one neighbour at a time. Definitions only.
-use Rattle.std.specs.Prelude.{cond, ◌&&◌, List, ℕ, zero, suc, ◌+◌, ◌*◌, ◌<◌, ◌≤◌, leb, length, get_or, Float}
+use Rattle.std.specs.Prelude.{cond, ◌&&◌, List, ℕ, zero, suc, ◌+◌, ◌*◌, ◌<◌, ◌≤◌, leb, eqb, length, get_or, Float}
 use Rattle.std.specs.Float.{nan}
 use Rattle.planes.specs.declared.Layout.{Layout}
-use Rattle.planes.specs.Samples.{◌⊕◌, ◌⊗◌, ◌⊘◌, b1}
+use Rattle.planes.specs.Samples.{◌⊕◌, ◌⊗◌, ◌⊘◌, b0, b1}
 use Rattle.planes.specs.Picture.{Picture}
 use Rattle.epf_rects.specs.declared.Rect.{Rect}
 use Rattle.epf_rects.specs.Rects.{rect_filled, rect_fits}
@@ -11,8 +11,7 @@ use Rattle.epf_slopes.specs.Slopes.{slope_columns, first_slope}
 use Rattle.epf_distances.specs.Taps.{tap_of}
 use Rattle.epf_sizes.specs.Sizes.{lanes, tile_rows, stride, window_plane, window_centre}
 use Rattle.epf_lanes.specs.declared.Four.{Four}
-use Rattle.epf_lanes.specs.declared.Twelve.{Twelve}
-use Rattle.epf_lanes.specs.declared.Cross.{Cross}
+use Rattle.epf_lanes.specs.declared.LaneWeights.{LaneWeights}
 
 -- ---- sums over the first q neighbours
 
@@ -63,25 +62,26 @@ four_of f q = record { a = f q; b = f (q + 1); c = f (q + 2); d = f (q + 3) }
 abbrev pub with_four : Float → Four → (ℕ → Float) → ℕ → Float
 with_four x w s q = x ⊕ w.a ⊗ s q ⊕ w.b ⊗ s (q + 1) ⊕ w.c ⊗ s (q + 2) ⊕ w.d ⊗ s (q + 3)
 
--- all weights of a step and the divisor
-abbrev pub twelve_of : (ℕ → Float) → Twelve
-twelve_of f = record { u = four_of f 0; v = four_of f 4; w = four_of f 8; sum = weights_to f 12 }
+-- no neighbours
+abbrev pub no_four : Four
+no_four = record { a = b0; b = b0; c = b0; d = b0 }
 
-abbrev pub cross_of : (ℕ → Float) → Cross
-cross_of f = record { w = four_of f 0; sum = weights_to f 4 }
+-- all weights of a step and the divisor: twelve neighbours, or four
+abbrev pub weights_of : ℕ → (ℕ → Float) → LaneWeights
+weights_of step f =
+    cond (eqb step 0) (record { u = four_of f 0; v = four_of f 4; w = four_of f 8; sum = weights_to f 12 })
+    (record { u = four_of f 0; v = no_four; w = no_four; sum = weights_to f 4 })
 
 -- the sample of neighbour q of the lane at index p of the windows
 abbrev pub sample_at : ℕ → List Float → ℕ → ℕ → Float
 sample_at step win p q = get_or win (p + (tap_of step q).index) nan
 
 -- the sum over the divisor
-abbrev pub mix_twelve : List Float → ℕ → Twelve → Float
-mix_twelve win p w =
-    let s = sample_at 0 win p in
-    with_four (with_four (with_four (get_or win (p + window_centre) nan) w.u s 0) w.v s 4) w.w s 8 ⊘ w.sum
-
-abbrev pub mix_cross : List Float → ℕ → Cross → Float
-mix_cross win p w = with_four (get_or win (p + window_centre) nan) w.w (sample_at 1 win p) 0 ⊘ w.sum
+abbrev pub mix_of : ℕ → List Float → ℕ → LaneWeights → Float
+mix_of step win p w =
+    let s = sample_at step win p in
+    let x = with_four (get_or win (p + window_centre) nan) w.u s 0 in
+    cond (eqb step 0) (with_four (with_four x w.v s 4) w.w s 8 ⊘ w.sum) (x ⊘ w.sum)
 
 -- ---- rows and tiles
 

@@ -23,18 +23,12 @@ pub(crate) struct Four {
     d: f32,
 }
 
-// The weights of step 0's neighbours in the order of the kernel offsets, and the divisor: 1 plus their sum.
+// The weights of a step's neighbours in the order of the kernel offsets, and the divisor: 1 plus their sum. Steps 1 and 2
+// have four neighbours, a cross, and zeros in `v` and `w`.
 #[derive(Clone, Copy)]
-pub(crate) struct Twelve {
+pub(crate) struct LaneWeights {
     u: Four,
     v: Four,
-    w: Four,
-    sum: f32,
-}
-
-// The same for steps 1 and 2, whose neighbours form a cross.
-#[derive(Clone, Copy)]
-pub(crate) struct Cross {
     w: Four,
     sum: f32,
 }

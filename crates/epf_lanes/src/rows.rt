@@ -8,16 +8,16 @@ ghost use Rattle.epf_rects.specs.Three.{three_fill};
 ghost use Rattle.epf_sizes.specs.Sizes.{lanes, tile_rows};
 ghost use Rattle.epf_lanes.specs.Lanes.{row_of, tile_of, RowFits};
 
-use crate::weights::{mix_0, mix_1, weights_0, weights_1};
+use crate::weights::{mix, weights};
 use epf_rects::Rect;
 use epf_sizes::{FIELDS, STRIDE, WINDOW_PLANE, WINDOWS};
 use epf_slopes::{SLOPES, first_slope};
 use limits::BLOCK;
 use planes::Layout;
 
-// Filters n lanes of row r in step 0, in three planes that lie `plane` apart in the target. The row's slopes start at
+// Filters n lanes of row r in step STEP, in three planes that lie `plane` apart in the target. The row's slopes start at
 // index `first`.
-fn three_row_0(
+fn three_lanes<const STEP: usize>(
     dst: &mut [f32],
     at: usize,
     plane: usize,
@@ -30,54 +30,22 @@ fn three_row_0(
 )
     requires { RowFits first r n × (n ≤ plane) × (at + 2 * plane + n ≤ length dst.old) }
     ensures { dst.new ≡ three_fill dst.old at plane n
-        (row_of 0 fields.now slopes.now win.now first r) }
+        (row_of STEP fields.now slopes.now win.now first r) }
 {
-    let mut i = 0;
-    while i < n {
+    for i in 0..n {
         let p = r * STRIDE + i;
-        let w = weights_0(fields, slopes[first + i], r, i);
-        let a = mix_0(win, p, w);
-        let b = mix_0(win, WINDOW_PLANE + p, w);
-        let c = mix_0(win, 2 * WINDOW_PLANE + p, w);
+        let w = weights::<STEP>(fields, slopes[first + i], r, i);
+        let a = mix::<STEP>(win, p, w);
+        let b = mix::<STEP>(win, WINDOW_PLANE + p, w);
+        let c = mix::<STEP>(win, 2 * WINDOW_PLANE + p, w);
         dst[at + i] = a;
         dst[at + plane + i] = b;
         dst[at + 2 * plane + i] = c;
-        i += 1;
     }
 }
 
-// The same in steps 1 and 2.
-fn three_row_1(
-    dst: &mut [f32],
-    at: usize,
-    plane: usize,
-    fields: &[f32; FIELDS],
-    slopes: &[f32; SLOPES],
-    win: &[f32; WINDOWS],
-    first: usize,
-    r: usize,
-    n: usize,
-)
-    requires { RowFits first r n × (n ≤ plane) × (at + 2 * plane + n ≤ length dst.old) }
-    ensures { dst.new ≡ three_fill dst.old at plane n
-        (row_of 1 fields.now slopes.now win.now first r) }
-{
-    let mut i = 0;
-    while i < n {
-        let p = r * STRIDE + i;
-        let w = weights_1(fields, slopes[first + i], r, i);
-        let a = mix_1(win, p, w);
-        let b = mix_1(win, WINDOW_PLANE + p, w);
-        let c = mix_1(win, 2 * WINDOW_PLANE + p, w);
-        dst[at + i] = a;
-        dst[at + plane + i] = b;
-        dst[at + 2 * plane + i] = c;
-        i += 1;
-    }
-}
-
-// Filters n lanes of row r in plane c in step 0.
-fn one_row_0(
+// Filters n lanes of row r in plane c.
+fn one_lanes<const STEP: usize>(
     dst: &mut [f32],
     at: usize,
     c: usize,
@@ -90,43 +58,16 @@ fn one_row_0(
 )
     requires { RowFits first r n × (c < 3) × (at + n ≤ length dst.old) }
     ensures { dst.new ≡ fill dst.old at n
-        (row_of 0 fields.now slopes.now win.now first r c) }
+        (row_of STEP fields.now slopes.now win.now first r c) }
 {
     let base = c * WINDOW_PLANE + r * STRIDE;
-    let mut i = 0;
-    while i < n {
-        let w = weights_0(fields, slopes[first + i], r, i);
-        dst[at + i] = mix_0(win, base + i, w);
-        i += 1;
+    for i in 0..n {
+        let w = weights::<STEP>(fields, slopes[first + i], r, i);
+        dst[at + i] = mix::<STEP>(win, base + i, w);
     }
 }
 
-// The same in steps 1 and 2.
-fn one_row_1(
-    dst: &mut [f32],
-    at: usize,
-    c: usize,
-    fields: &[f32; FIELDS],
-    slopes: &[f32; SLOPES],
-    win: &[f32; WINDOWS],
-    first: usize,
-    r: usize,
-    n: usize,
-)
-    requires { RowFits first r n × (c < 3) × (at + n ≤ length dst.old) }
-    ensures { dst.new ≡ fill dst.old at n
-        (row_of 1 fields.now slopes.now win.now first r c) }
-{
-    let base = c * WINDOW_PLANE + r * STRIDE;
-    let mut i = 0;
-    while i < n {
-        let w = weights_1(fields, slopes[first + i], r, i);
-        dst[at + i] = mix_1(win, base + i, w);
-        i += 1;
-    }
-}
-
-// The row of three planes in any step.
+// The row of three planes in any step. Steps 1 and 2 have the same lanes.
 fn three_row(
     dst: &mut [f32],
     at: usize,
@@ -144,10 +85,10 @@ fn three_row(
         (row_of step fields.now slopes.now win.now first r) }
 {
     if step == 0 {
-        three_row_0(dst, at, plane, fields, slopes, win, first, r, n);
+        three_lanes::<0>(dst, at, plane, fields, slopes, win, first, r, n);
         return;
     }
-    three_row_1(dst, at, plane, fields, slopes, win, first, r, n);
+    three_lanes::<1>(dst, at, plane, fields, slopes, win, first, r, n);
 }
 
 // The row of plane c in any step.
@@ -168,10 +109,10 @@ fn one_row(
         (row_of step fields.now slopes.now win.now first r c) }
 {
     if step == 0 {
-        one_row_0(dst, at, c, fields, slopes, win, first, r, n);
+        one_lanes::<0>(dst, at, c, fields, slopes, win, first, r, n);
         return;
     }
-    one_row_1(dst, at, c, fields, slopes, win, first, r, n);
+    one_lanes::<1>(dst, at, c, fields, slopes, win, first, r, n);
 }
 
 // Filters a rectangle in three planes; its row 0 is at y = `top`.
@@ -195,12 +136,10 @@ pub(crate) fn filter_three(
     let rows = rect.rows;
     let n = rect.cols;
     let offset = top % BLOCK;
-    let mut r = 0;
-    while r < rows {
+    for r in 0..rows {
         let at = (above + r) * stride + (l.left + rect.x);
         let first = first_slope(offset + r);
         three_row(dst, at, plane, fields, slopes, win, step, first, r, n);
-        r += 1;
     }
 }
 
@@ -225,12 +164,10 @@ fn plane_rows(
     let rows = rect.rows;
     let n = rect.cols;
     let offset = top % BLOCK;
-    let mut r = 0;
-    while r < rows {
+    for r in 0..rows {
         let at = start + r * stride;
         let first = first_slope(offset + r);
         one_row(dst, at, c, fields, slopes, win, step, first, r, n);
-        r += 1;
     }
 }
 
@@ -254,10 +191,8 @@ pub(crate) fn filter_planes(
     let height = l.image.height;
     let above = l.top + rect.y;
     let left = l.left + rect.x;
-    let mut c = 0;
-    while c < n {
+    for c in 0..n {
         let start = (c * height + above) * stride + left;
         plane_rows(dst, start, stride, c, fields, slopes, win, step, top, rect);
-        c += 1;
     }
 }

@@ -6,14 +6,21 @@ ghost use Rattle.planes.specs.Samples.{◌⊕◌};
 ghost use Rattle.epf_sizes.specs.Sizes.{lanes, tile_rows, window_plane};
 ghost use Rattle.epf_step.specs.Steps.{kernel, weight_by};
 ghost use Rattle.epf_distances.specs.Taps.{tap_of};
-ghost use Rattle.epf_lanes.specs.Lanes.{last_lane, sample_at, weight_in, four_of, with_four, twelve_of, cross_of};
-ghost use Rattle.epf_lanes.specs.Lanes.{mix_twelve, mix_cross};
+ghost use Rattle.epf_lanes.specs.Lanes.{last_lane, sample_at, weight_in, four_of, with_four, weights_of};
+ghost use Rattle.epf_lanes.specs.Lanes.{mix_of};
 ghost use Rattle.epf_lanes.specs.Divisors.{LaneBounded};
 
-use crate::{Cross, Four, Twelve};
+use crate::{Four, LaneWeights};
 use epf_distances::neighbour;
 use epf_sizes::{CENTRE, FIELDS, STRIDE, WINDOWS};
 use epf_step::weight;
+
+const NONE: Four = Four {
+    a: 0.0,
+    b: 0.0,
+    c: 0.0,
+    d: 0.0,
+};
 
 // The weight of neighbour q of the lane at index j of a field.
 fn weight_of(fields: &[f32; FIELDS], slope: f32, step: usize, q: usize, j: usize) -> f32
@@ -63,44 +70,43 @@ fn with_four(x: f32, w: Four, win: &[f32; WINDOWS], step: usize, q: usize, p: us
     x + w.a * a + w.b * b + w.c * c + w.d * d
 }
 
-// The weights of lane i of row r in step 0, and the divisor; the contract bounds it (Specification 11.9).
-pub(crate) fn weights_0(fields: &[f32; FIELDS], slope: f32, r: usize, i: usize) -> Twelve
+// The weights of lane i of row r in step STEP, and the divisor; the contract bounds it (Specification 11.9).
+pub(crate) fn weights<const STEP: usize>(
+    fields: &[f32; FIELDS],
+    slope: f32,
+    r: usize,
+    i: usize,
+) -> LaneWeights
     requires { (r < tile_rows) × (i < lanes) }
-    ensures { (result ≡ twelve_of (weight_in 0 fields.now slope r i))
-        × LaneBounded 0 fields.now slope r i result.sum }
+    ensures { (result ≡ weights_of STEP (weight_in STEP fields.now slope r i))
+        × LaneBounded STEP fields.now slope r i result.sum }
 {
     let j = r * STRIDE + i;
-    let u = four(fields, slope, 0, 0, j);
-    let v = four(fields, slope, 0, 4, j);
-    let w = four(fields, slope, 0, 8, j);
-    let sum = summed(summed(summed(1.0, u), v), w);
-    Twelve { u, v, w, sum }
+    let u = four(fields, slope, STEP, 0, j);
+    let cross = summed(1.0, u);
+    if STEP != 0 {
+        return LaneWeights {
+            u,
+            v: NONE,
+            w: NONE,
+            sum: cross,
+        };
+    }
+    let v = four(fields, slope, STEP, 4, j);
+    let w = four(fields, slope, STEP, 8, j);
+    let sum = summed(summed(cross, v), w);
+    LaneWeights { u, v, w, sum }
 }
 
-// The sample at index p of the windows plus its weighted neighbours, over the divisor: step 0.
-pub(crate) fn mix_0(win: &[f32; WINDOWS], p: usize, w: Twelve) -> f32
+// The sample at index p of the windows plus its weighted neighbours, over the divisor.
+pub(crate) fn mix<const STEP: usize>(win: &[f32; WINDOWS], p: usize, w: LaneWeights) -> f32
     requires { p ≤ 2 * window_plane + last_lane }
-    ensures { result ≡ mix_twelve win.now p w }
+    ensures { result ≡ mix_of STEP win.now p w }
 {
-    let x = with_four(win[p + CENTRE], w.u, win, 0, 0, p);
-    let y = with_four(x, w.v, win, 0, 4, p);
-    with_four(y, w.w, win, 0, 8, p) / w.sum
-}
-
-// The same for steps 1 and 2.
-pub(crate) fn weights_1(fields: &[f32; FIELDS], slope: f32, r: usize, i: usize) -> Cross
-    requires { (r < tile_rows) × (i < lanes) }
-    ensures { (result ≡ cross_of (weight_in 1 fields.now slope r i))
-        × LaneBounded 1 fields.now slope r i result.sum }
-{
-    let w = four(fields, slope, 1, 0, r * STRIDE + i);
-    let sum = summed(1.0, w);
-    Cross { w, sum }
-}
-
-pub(crate) fn mix_1(win: &[f32; WINDOWS], p: usize, w: Cross) -> f32
-    requires { p ≤ 2 * window_plane + last_lane }
-    ensures { result ≡ mix_cross win.now p w }
-{
-    with_four(win[p + CENTRE], w.w, win, 1, 0, p) / w.sum
+    let x = with_four(win[p + CENTRE], w.u, win, STEP, 0, p);
+    if STEP != 0 {
+        return x / w.sum;
+    }
+    let y = with_four(x, w.v, win, STEP, 4, p);
+    with_four(y, w.w, win, STEP, 8, p) / w.sum
 }

@@ -33,10 +33,8 @@ fn store_rows(
     ensures { dst.new ≡ rows_fill dst.old at stride n rows
         (λ (r : ℕ) (i : ℕ). get_or src.now (from + r * step + i) nan) }
 {
-    let mut r = 0;
-    while r < rows {
+    for r in 0..rows {
         copy_run(dst, at + r * stride, src, from + r * step, n);
-        r += 1;
     }
 }
 
@@ -62,11 +60,9 @@ fn store_planes(
     let left = l.left + rect.x;
     let rows = rect.rows;
     let cols = rect.cols;
-    let mut c = 0;
-    while c < n {
+    for c in 0..n {
         let at = (c * height + top) * stride + left;
         store_rows(dst, at, stride, src, from + c * plane, step, rows, cols);
-        c += 1;
     }
 }
 

@@ -48,10 +48,8 @@ fn block_slopes(
     ensures { slopes.new ≡ fill slopes.old at block
         (λ (i : ℕ). slope ⊗ multiplier_of scale edge row i) }
 {
-    let mut i = 0;
-    while i < BLOCK {
+    for i in 0..BLOCK {
         slopes[at + i] = slope * multiplier(scale, edge, row, i);
-        i += 1;
     }
 }
 
@@ -70,11 +68,9 @@ fn row_slopes(
     ensures { slopes.new ≡ fill slopes.old at (blocks * block)
         (slope_at sigmas.now first scale edge row) }
 {
-    let mut b = 0;
-    while b < blocks {
+    for b in 0..blocks {
         let s = slope(sigmas[first + b]);
         block_slopes(slopes, at + b * BLOCK, s, scale, edge, row);
-        b += 1;
     }
 }
 

@@ -62,8 +62,7 @@ fn restore(dst: &mut [f32], src: &[f32], pass: Pass, sigmas: &[f32], first: usiz
         src.now first rect (blocks_along rect.cols) dst.old dst.new }
 {
     let blocks = blocks_of(rect.cols);
-    let mut b = 0;
-    while b < blocks {
+    for b in 0..blocks {
         let i = b * BLOCK;
         let block = Rect {
             x: rect.x + i,
@@ -72,7 +71,6 @@ fn restore(dst: &mut [f32], src: &[f32], pass: Pass, sigmas: &[f32], first: usiz
             cols: min(rect.cols - i, BLOCK),
         };
         restore_block(dst, src, pass, sigmas[first + b], block);
-        b += 1;
     }
 }
 
@@ -82,12 +80,10 @@ fn all_copied(sigmas: &[f32], first: usize, blocks: usize, limit: f32) -> bool
     ensures { result ≡ true → (b : ℕ) → b < blocks
         → copied_of (get_or sigmas.now (first + b) nan) limit ≡ true }
 {
-    let mut b = 0;
-    while b < blocks {
+    for b in 0..blocks {
         if !copied(sigmas[first + b], limit) {
             return false;
         }
-        b += 1;
     }
     true
 }

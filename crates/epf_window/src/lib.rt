@@ -52,8 +52,7 @@ fn load_plane(
         (part_sample src.now region part) }
 {
     let rows = part.rows;
-    let mut i = 0;
-    while i < rows {
+    for i in 0..rows {
         let k = mirrored(part.y + (part.top + i), ABOVE, region.height);
         load_row(
             win,
@@ -64,7 +63,6 @@ fn load_plane(
             region.width,
             part.cols,
         );
-        i += 1;
     }
 }
 
@@ -75,8 +73,7 @@ fn load_planes(win: &mut [f32; WINDOWS], src: &[f32], l: Layout, n: usize, part:
         part.rows part.cols win.old }
 {
     let stride = l.image.width;
-    let mut c = 0;
-    while c < n {
+    for c in 0..n {
         let at = (c * WINDOW_ROWS + part.top) * STRIDE;
         let region = PlaneRegion {
             start: (c * l.image.height + l.top) * stride + l.left,
@@ -85,7 +82,6 @@ fn load_planes(win: &mut [f32; WINDOWS], src: &[f32], l: Layout, n: usize, part:
             height: l.height,
         };
         load_plane(win, at, src, region, part);
-        c += 1;
     }
 }
 

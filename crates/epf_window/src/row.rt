@@ -41,11 +41,9 @@ fn copy_mirrored(
     requires { (at + n ≤ windows_length) × (row + w ≤ length src.now) × (0 < w) × (x ≤ 65536) }
     ensures { win.new ≡ fill win.old at n (row_sample src.now row x w) }
 {
-    let mut j = 0;
-    while j < n {
+    for j in 0..n {
         let k = mirrored(x + j, LEFT, w);
         win[at + j] = src[row + k];
-        j += 1;
     }
 }
 

@@ -1,5 +1,5 @@
 -- `epf_distances::add_single` meets its contract. The invariant: i of n are added. Assumes nothing.
-use Prim.Native.Nat.{ℕ, ◌+◌, ◌-◌}
+use Prim.Native.Nat.{ℕ, ◌+◌}
 use lib.ListN.{get_or}
 use lib.Ieee.{nan}
 use Rattle.planes.specs.Samples.{◌⊕◌, ◌⊗◌}
@@ -9,6 +9,3 @@ use Rattle.epf_distances.proofs.add_single.Given as goal
 
 abbrev pub invariant-loop-i : goal.invariant-loop-i
 invariant-loop-i l = Written l.initial.fields l.at l.n (λ (j : ℕ). get_or l.initial.fields (l.at + j) nan ⊕ l.scale ⊗ nearby 2 (apart_by l.win l.c l.k) (l.from + j)) l.fields l.i
-
-abbrev pub decreases-loop-i : goal.decreases-loop-i
-decreases-loop-i l = l.n - l.i

@@ -1,6 +1,6 @@
 -- `epf_distances::fill_fields` meets its contract. The invariant: h fields are written. Assumes nothing.
 use mathlib.Core.Path.{◌≡◌}
-use Prim.Native.Nat.{◌-◌, ◌≤◌}
+use Prim.Native.Nat.{◌≤◌}
 use lib.ListN.{length}
 use Rattle.epf_step.specs.Steps.{scaled}
 use Rattle.epf_distances.specs.Fields.{fields_fill}
@@ -8,6 +8,3 @@ use Rattle.epf_distances.proofs.fill_fields.Given as goal
 
 abbrev pub invariant-loop-h : goal.invariant-loop-h
 invariant-loop-h l = (l.h ≤ l.count) × (length l.d ≡ 896) × (l.fields ≡ fields_fill l.step (scaled l.planes l.scales) l.win l.rows l.initial.fields l.h)
-
-abbrev pub decreases-loop-h : goal.decreases-loop-h
-decreases-loop-h l = l.count - l.h

@@ -1,6 +1,6 @@
 -- `epf_interior::row` meets its contract. The invariant: i samples of each plane are written. Assumes nothing.
 use mathlib.Core.Path.{◌≡◌}
-use Prim.Native.Nat.{◌-◌, ◌≤◌}
+use Prim.Native.Nat.{◌≤◌}
 use lib.ListN.{length}
 use Rattle.epf_rects.specs.Three.{three_fill}
 use Rattle.epf_interior.specs.Inside.{lane_in}
@@ -8,6 +8,3 @@ use Rattle.epf_interior.proofs.row.Given as goal
 
 abbrev pub invariant-loop-i : goal.invariant-loop-i
 invariant-loop-i l = (l.i ≤ l.n) × (length l.dst ≡ length l.initial.dst) × (l.dst ≡ three_fill l.initial.dst l.at l.plane l.i (lane_in l.src l.stride l.plane l.scales l.slopes l.first l.corner))
-
-abbrev pub decreases-loop-i : goal.decreases-loop-i
-decreases-loop-i l = l.n - l.i

@@ -1,5 +1,5 @@
 -- `epf_slopes::block_slopes` meets its contract. The invariant: i columns of eight are written. Assumes nothing.
-use Prim.Native.Nat.{ℕ, ◌-◌}
+use Prim.Native.Nat.{ℕ}
 use Rattle.planes.specs.Samples.{◌⊗◌}
 use Rattle.planes.proofs.Loop.{Written}
 use Rattle.epf_step.specs.Steps.{multiplier}
@@ -7,6 +7,3 @@ use Rattle.epf_slopes.proofs.block_slopes.Given as goal
 
 abbrev pub invariant-loop-i : goal.invariant-loop-i
 invariant-loop-i l = Written l.initial.slopes l.at 8 (λ (j : ℕ). l.slope ⊗ multiplier l.scale l.edge l.row j) l.slopes l.i
-
-abbrev pub decreases-loop-i : goal.decreases-loop-i
-decreases-loop-i l = 8 - l.i

@@ -45,12 +45,6 @@ overflow_add-start-in-loop-c c =
     let room : PlaneRoom c.args.l c.loop-c.c c.args.rect (length c.args.dst.now) = plane-room c.args.l c.args.n c.loop-c.c c.args.rect (length c.args.dst.now) c.requires.0 c.loop-c-test.true in
     omega (arith, room, c.requires.0.across, c.requires.0.layout)
 
-pub overflow_add-c : goal.overflow_add-c
-overflow_add-c c = omega (arith, c.loop-c-test.true)
-
-pub loop-c-smaller : goal.loop-c-smaller
-loop-c-smaller c = omega (arith, c.loop-c-test.true)
-
 pub returns : goal.returns
 returns c = planes-end _ _ _ _ _ _ _ _ _ _ _ c.loop-c.invariant.2 c.loop-c.invariant.0 c.loop-c-test.false
 

@@ -52,11 +52,5 @@ three_row-requires c =
     let room : ThreeRoom c.args.l c.args.rect c.loop-r.r (length c.args.dst.now) = three-room c.args.l c.args.rect c.loop-r.r (length c.args.dst.now) c.requires.0 c.loop-r-test.true in
     (record { first-le = first_small _ _ c.first_slope-first.ensures; row_lt = omega (arith, c.loop-r-test.true, c.requires.1); lanes-le = c.requires.2 }, room.cols-le, omega (arith, room.end-le, c.loop-r.invariant.1))
 
-pub overflow_add-r : goal.overflow_add-r
-overflow_add-r c = omega (arith, c.loop-r-test.true)
-
-pub loop-r-smaller : goal.loop-r-smaller
-loop-r-smaller c = omega (arith, c.loop-r-test.true)
-
 pub returns : goal.returns
 returns c = let z : c.loop-r.r ≡ c.args.rect.rows = omega (arith, c.loop-r.invariant.0, c.loop-r-test.false) in rw z at c.loop-r.invariant.2

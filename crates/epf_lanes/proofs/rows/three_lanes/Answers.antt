@@ -1,0 +1,27 @@
+use mathlib.Core.Path.{refl}
+use Prim.Native.Nat.{◌-◌}
+use native.Mathlib.Omega.{arith}
+use lib.ListN.{length-set}
+use Rattle.epf_rects.proofs.Three.{three-none, three-turn, three-end}
+use Rattle.epf_lanes.proofs.Lanes.{lane-mixed}
+use Rattle.epf_lanes.proofs.rows.three_lanes.Goals as goal
+
+pub loop-i-preserved : goal.loop-i-preserved
+loop-i-preserved g c = (
+  omega arith,
+  simp length-set c.loop-i.invariant.1,
+  three-turn _ _ _ c.args.plane c.loop-i.i _ _ _ _ (omega arith) c.loop-i.invariant.2
+      (lane-mixed g.row.STEP c.args.fields.now c.args.slopes.now c.args.win.now c.args.first 0 c.loop-i.i c.args.r _ _ (omega arith) _ c.weights-w.ensures.0 c.mix-a.ensures) (lane-mixed g.row.STEP c.args.fields.now c.args.slopes.now c.args.win.now c.args.first 1 c.loop-i.i c.args.r _ _ (omega arith) _ c.weights-w.ensures.0 c.mix-b.ensures) (lane-mixed g.row.STEP c.args.fields.now c.args.slopes.now c.args.win.now c.args.first 2 c.loop-i.i c.args.r _ _ (omega arith) _ c.weights-w.ensures.0 c.mix-c.ensures),
+)
+
+pub loop-i-init : goal.loop-i-init
+loop-i-init g c = (omega arith, refl, three-none _ _ _ _)
+
+pub bounds-dst-at-in-loop-i : goal.bounds-dst-at-in-loop-i
+bounds-dst-at-in-loop-i g c = simp length-set (omega arith)
+
+pub bounds-dst-at-in-loop-i-2 : goal.bounds-dst-at-in-loop-i-2
+bounds-dst-at-in-loop-i-2 g c = simp length-set (omega arith)
+
+pub returns : goal.returns
+returns g c = three-end _ _ _ _ _ _ _ c.loop-i.invariant.2 c.loop-i.invariant.0 c.loop-i-test.false

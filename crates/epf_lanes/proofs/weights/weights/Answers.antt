@@ -1,0 +1,27 @@
+-- `epf_lanes::weights::weights` meets its contract. Assumes nothing.
+use mathlib.Core.Path.{refl}
+use native.Mathlib.Omega.{arith}
+use Rattle.epf_lanes.proofs.Lanes.{twelve, four-at-least, four-in, four-weighed, twelve-weighed}
+use Rattle.epf_lanes.proofs.weights.weights.Goals as goal
+
+pub four-u-requires : goal.four-u-requires
+four-u-requires g c = omega (arith, four-at-least g.row.STEP)
+
+pub four-v-requires : goal.four-v-requires
+four-v-requires g c = omega (arith, twelve g.row.STEP c.if-this-ne0.false)
+
+pub four-w-requires : goal.four-w-requires
+four-w-requires g c = omega (arith, twelve g.row.STEP c.if-this-ne0.false)
+
+pub returns-then-this-ne0 : goal.returns-then-this-ne0
+returns-then-this-ne0 g c =
+    four-weighed g.row.STEP c.args.fields.now c.args.slope c.args.r c.args.i c.if-this-ne0.true _ _
+    (four-in g.row.STEP c.args.fields.now c.args.slope c.args.r c.args.i _ 0 _ refl c.four-u.ensures) c.summed-cross.ensures
+
+pub returns : goal.returns
+returns g c =
+    twelve-weighed g.row.STEP c.args.fields.now c.args.slope c.args.r c.args.i c.if-this-ne0.false _ _ _ _ _ _
+    (four-in g.row.STEP c.args.fields.now c.args.slope c.args.r c.args.i _ 0 _ refl c.four-u.ensures)
+    (four-in g.row.STEP c.args.fields.now c.args.slope c.args.r c.args.i _ 4 _ refl c.four-v.ensures)
+    (four-in g.row.STEP c.args.fields.now c.args.slope c.args.r c.args.i _ 8 _ refl c.four-w.ensures)
+    c.summed-cross.ensures c.summed.ensures c.summed-sum.ensures
