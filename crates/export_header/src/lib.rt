@@ -3,16 +3,130 @@
 #![tactic(auto)]
 
 ghost use Rattle.std.specs.Prelude.{◌≡◌};
-ghost use Rattle.header_epf.specs.EdgeFilter.{epf_at, epf_answer};
+ghost use Rattle.header_bits.specs.Reader.{parsed};
+ghost use Rattle.header_epf.specs.EdgeFilter.{epf_at};
 ghost use Rattle.header_epf.specs.declared.Encoding.TheVariants.{VarDct, Modular};
-ghost use Rattle.header_gabor.specs.Gabor.{gabor_at, gabor_answer};
-ghost use Rattle.header_half.specs.Half.{f16, half_answer};
-ghost use Rattle.header.specs.Restoration.{restoration_at, restoration_answer};
+ghost use Rattle.header_gabor.specs.Gabor.{gabor_at};
+ghost use Rattle.header_half.specs.Half.{f16};
+ghost use Rattle.header.specs.Restoration.{restoration_at};
+ghost use Rattle.export_header.specs.Answers.{half_answer, gabor_answer, epf_answer, restoration_answer};
 
-use header::{RestorationAnswer, RestorationFilter};
-use header_epf::{EdgePreservingFilter, Encoding, EpfAnswer};
-use header_gabor::{Gabor, GaborAnswer};
-use header_half::HalfAnswer;
+use header::RestorationFilter;
+use header_epf::{EdgePreservingFilter, Encoding};
+use header_gabor::Gabor;
+use refusals::{ACCEPTED, Refusal};
+
+// A half-precision reading as a struct.
+#[repr(C)]
+#[derive(Clone, Copy)]
+pub struct HalfAnswer {
+    pub number: u32,
+    pub value: f32,
+    pub next: usize,
+}
+
+impl From<Result<(f32, usize), Refusal>> for HalfAnswer {
+    ghost from_gives = { λ reading answer. answer ≡ half_answer (parsed reading) };
+
+    fn from(reading: Result<(f32, usize), Refusal>) -> HalfAnswer {
+        match reading {
+            Ok((value, next)) => HalfAnswer {
+                number: ACCEPTED,
+                value,
+                next,
+            },
+            Err(refusal) => HalfAnswer {
+                number: u32::from(refusal),
+                value: 0.0,
+                next: 0,
+            },
+        }
+    }
+}
+
+// A Gabor-like filter's bundle, and the next bit position.
+#[repr(C)]
+#[derive(Clone, Copy)]
+pub struct GaborAnswer {
+    pub number: u32,
+    pub gabor: Gabor,
+    pub next: usize,
+}
+
+impl From<Result<(Gabor, usize), Refusal>> for GaborAnswer {
+    ghost from_gives = { λ reading answer. answer ≡ gabor_answer (parsed reading) };
+
+    fn from(reading: Result<(Gabor, usize), Refusal>) -> GaborAnswer {
+        match reading {
+            Ok((gabor, next)) => GaborAnswer {
+                number: ACCEPTED,
+                gabor,
+                next,
+            },
+            Err(refusal) => GaborAnswer {
+                number: u32::from(refusal),
+                gabor: Gabor::default(),
+                next: 0,
+            },
+        }
+    }
+}
+
+// An edge-preserving filter's bundle, and the next bit position.
+#[repr(C)]
+#[derive(Clone, Copy)]
+pub struct EpfAnswer {
+    pub number: u32,
+    pub epf: EdgePreservingFilter,
+    pub next: usize,
+}
+
+impl From<Result<(EdgePreservingFilter, usize), Refusal>> for EpfAnswer {
+    ghost from_gives = { λ reading answer. answer ≡ epf_answer (parsed reading) };
+
+    fn from(reading: Result<(EdgePreservingFilter, usize), Refusal>) -> EpfAnswer {
+        match reading {
+            Ok((epf, next)) => EpfAnswer {
+                number: ACCEPTED,
+                epf,
+                next,
+            },
+            Err(refusal) => EpfAnswer {
+                number: u32::from(refusal),
+                epf: EdgePreservingFilter::default(),
+                next: 0,
+            },
+        }
+    }
+}
+
+// Both bundles, and the next bit position.
+#[repr(C)]
+#[derive(Clone, Copy)]
+pub struct RestorationAnswer {
+    pub number: u32,
+    pub filter: RestorationFilter,
+    pub next: usize,
+}
+
+impl From<Result<(RestorationFilter, usize), Refusal>> for RestorationAnswer {
+    ghost from_gives = { λ reading answer. answer ≡ restoration_answer (parsed reading) };
+
+    fn from(reading: Result<(RestorationFilter, usize), Refusal>) -> RestorationAnswer {
+        match reading {
+            Ok((filter, next)) => RestorationAnswer {
+                number: ACCEPTED,
+                filter,
+                next,
+            },
+            Err(refusal) => RestorationAnswer {
+                number: u32::from(refusal),
+                filter: RestorationFilter::default(),
+                next: 0,
+            },
+        }
+    }
+}
 
 // Reads 16 bits from bit position `at` on as an IEEE 754 half-precision number. The conversion to `float` is exact,
 // subnormals and -0 included. Bit p of the header is bit p mod 8 of byte p / 8, counted from the least significant
@@ -23,7 +137,7 @@ use header_half::HalfAnswer;
 pub extern "C" fn restoration_read_half(bytes: &[u8], at: usize) -> HalfAnswer
     ensures { result ≡ half_answer (f16 bytes.now at) }
 {
-    header_half::read_half(bytes, at)
+    HalfAnswer::from(header_half::read_half(bytes, at))
 }
 
 // Reads the Gabor-like filter's header bundle from bit position `at` on. It has an enabled bit; if that is set, a
@@ -36,7 +150,7 @@ pub extern "C" fn restoration_read_half(bytes: &[u8], at: usize) -> HalfAnswer
 pub extern "C" fn restoration_read_gabor(bytes: &[u8], at: usize) -> GaborAnswer
     ensures { result ≡ gabor_answer (gabor_at bytes.now at) }
 {
-    Gabor::parse(bytes, at)
+    GaborAnswer::from(Gabor::parse(bytes, at))
 }
 
 // Reads the edge-preserving filter's header bundle of a VarDCT frame from bit position `at` on. It has 2 bits of
@@ -50,7 +164,7 @@ pub extern "C" fn restoration_read_gabor(bytes: &[u8], at: usize) -> GaborAnswer
 pub extern "C" fn restoration_read_epf_vardct(bytes: &[u8], at: usize) -> EpfAnswer
     ensures { result ≡ epf_answer (epf_at VarDct bytes.now at) }
 {
-    EdgePreservingFilter::parse(bytes, at, Encoding::VarDct)
+    EpfAnswer::from(EdgePreservingFilter::parse(bytes, at, Encoding::VarDct))
 }
 
 // Reads the edge-preserving filter's header bundle of a Modular frame from bit position `at` on. It has 2 bits of
@@ -64,7 +178,7 @@ pub extern "C" fn restoration_read_epf_vardct(bytes: &[u8], at: usize) -> EpfAns
 pub extern "C" fn restoration_read_epf_modular(bytes: &[u8], at: usize) -> EpfAnswer
     ensures { result ≡ epf_answer (epf_at Modular bytes.now at) }
 {
-    EdgePreservingFilter::parse(bytes, at, Encoding::Modular)
+    EpfAnswer::from(EdgePreservingFilter::parse(bytes, at, Encoding::Modular))
 }
 
 // Reads both header bundles of a VarDCT frame from bit position `at` on: the Gabor-like filter's, then the
@@ -76,7 +190,7 @@ pub extern "C" fn restoration_read_epf_modular(bytes: &[u8], at: usize) -> EpfAn
 pub extern "C" fn restoration_read_filters_vardct(bytes: &[u8], at: usize) -> RestorationAnswer
     ensures { result ≡ restoration_answer (restoration_at VarDct bytes.now at) }
 {
-    RestorationFilter::parse(bytes, at, Encoding::VarDct)
+    RestorationAnswer::from(RestorationFilter::parse(bytes, at, Encoding::VarDct))
 }
 
 // Reads both header bundles of a Modular frame from bit position `at` on: the Gabor-like filter's, then the
@@ -88,5 +202,5 @@ pub extern "C" fn restoration_read_filters_vardct(bytes: &[u8], at: usize) -> Re
 pub extern "C" fn restoration_read_filters_modular(bytes: &[u8], at: usize) -> RestorationAnswer
     ensures { result ≡ restoration_answer (restoration_at Modular bytes.now at) }
 {
-    RestorationFilter::parse(bytes, at, Encoding::Modular)
+    RestorationAnswer::from(RestorationFilter::parse(bytes, at, Encoding::Modular))
 }

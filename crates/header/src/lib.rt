@@ -3,63 +3,45 @@
 #![tactic(auto)]
 
 ghost use Rattle.std.specs.Prelude.{◌≡◌};
-ghost use Rattle.header_bits.specs.Outcome.{refused};
-ghost use Rattle.header.specs.Restoration.{restoration_at, restoration_answer};
+ghost use Rattle.header_bits.specs.Reader.{Reads, parsed};
+ghost use Rattle.header.specs.Restoration.{restoration_at};
 
+use header_bits::BitReader;
 use header_epf::{EdgePreservingFilter, Encoding};
 use header_gabor::Gabor;
+use refusals::Refusal;
 
 // Both bundles of a frame header.
 #[repr(C)]
-#[derive(Clone, Copy)]
+#[derive(Clone, Copy, Default)]
 pub struct RestorationFilter {
     pub gabor: Gabor,
     pub epf: EdgePreservingFilter,
 }
 
-// Both bundles, and the next bit position.
-#[repr(C)]
-#[derive(Clone, Copy)]
-pub struct RestorationAnswer {
-    pub number: u32,
-    pub filter: RestorationFilter,
-    pub next: usize,
-}
-
-fn restoration_refused(number: u32) -> RestorationAnswer
-    ensures { result ≡ restoration_answer (refused number) }
-{
-    let gabor = Gabor::off();
-    let epf = EdgePreservingFilter::off();
-    let filter = RestorationFilter { gabor, epf };
-    RestorationAnswer {
-        number,
-        filter,
-        next: 0,
-    }
-}
-
 impl RestorationFilter {
     // Reads the Gabor bundle and then the EPF bundle, or refuses with 7, 1, 2 or 3.
-    pub fn parse(bytes: &[u8], at: usize, encoding: Encoding) -> RestorationAnswer
-        ensures { result ≡ restoration_answer (restoration_at encoding bytes.now at) }
+    #[tactic(auto, using(crate::proofs::Steps::restoration_steps))]
+    pub fn read(reader: &mut BitReader, encoding: Encoding) -> Result<RestorationFilter, Refusal>
+        ensures { Reads reader.old (restoration_at encoding) result reader.new }
     {
-        let first = Gabor::parse(bytes, at);
-        if first.number != refusals::ACCEPTED {
-            return restoration_refused(first.number);
-        }
-        let after = first.next;
-        let second = EdgePreservingFilter::parse(bytes, after, encoding);
-        if second.number != refusals::ACCEPTED {
-            return restoration_refused(second.number);
-        }
-        let gabor = first.gabor;
-        let epf = second.epf;
-        let filter = RestorationFilter { gabor, epf };
-        RestorationAnswer {
-            number: refusals::ACCEPTED,
-            filter,
-            next: second.next,
-        }
+        let mut ahead = *reader;
+        let gabor = Gabor::read(&mut ahead)?;
+        let epf = EdgePreservingFilter::read(&mut ahead, encoding)?;
+        *reader = ahead;
+        Ok(RestorationFilter { gabor, epf })
+    }
+
+    // Reads both bundles from a bit position on, and answers the next position too.
+    pub fn parse(
+        bytes: &[u8],
+        at: usize,
+        encoding: Encoding,
+    ) -> Result<(RestorationFilter, usize), Refusal>
+        ensures { parsed result ≡ restoration_at encoding bytes.now at }
+    {
+        let mut reader = BitReader::new(bytes, at);
+        let filter = RestorationFilter::read(&mut reader, encoding)?;
+        Ok((filter, reader.at))
     }
 }

@@ -32,9 +32,9 @@ checked_value false k v a q r e = absurd (none e)
     none : accepted v q ≡ refused k → ⊥
     none e = let z : ◌≡◌ {A = ℕ} 0 1 = cc in omega arith
 
-pub u-below : (s : List ℕ) (p n v q : ℕ) → accepted v q ≡ u n s p → v < 2 ^ n
+pub u_below : (s : List ℕ) (p n v q : ℕ) → accepted v q ≡ u n s p → v < 2 ^ n
 unfolding u
-u-below s p n v q e =
+u_below s p n v q e =
     let k = first_of (field_checks s p n) in
     let h : v ≡ field s p n = checked_value (eqb k 0) k v (field s p n) q (p + n) e in
     omega (arith, field_below s p n)

@@ -1,10 +1,8 @@
 -- Bits of a header, and bit fields (Specification 5.1, 5.2).
-use Rattle.std.specs.Prelude.{ℕ, zero, suc, ◌+◌, ◌*◌, ◌/◌, ◌%◌, ◌^◌, List, [], ◌∷◌, ltb, length, get_or}
+use Rattle.std.specs.Prelude.{ℕ, zero, suc, ◌+◌, ◌*◌, ◌/◌, ◌%◌, ◌^◌, Bool, not, List, [], ◌∷◌, eqb, ltb, length, get_or}
 use Rattle.refusals.specs.Numbers.{bits_run_out, wrong_length}
 use Rattle.refusals.specs.Checks.{Check, always, first_of}
-use Rattle.header_bits.specs.Outcome.{Outcome, accepted, refused, checked}
-use Rattle.header_bits.specs.declared.Bits.{Bits}
-use Rattle.header_bits.specs.declared.Bits.TheVariants.{Value, Refused}
+use Rattle.header_bits.specs.Outcome.{Outcome, accepted, checked, and_then}
 
 -- bit p is bit p mod 8 of byte p / 8, counted from the least significant bit
 abbrev pub bit : List ℕ → ℕ → ℕ
@@ -23,7 +21,9 @@ field_checks s p n = always wrong_length (ltb 65536 (length s)) ∷ always bits_
 unfoldable pub u : ℕ → List ℕ → ℕ → Outcome ℕ
 u n s p = checked (first_of (field_checks s p n)) (field s p n) (p + n)
 
--- the outcome for each case of the code's enum (Specification 1.5)
-abbrev pub bits_outcome : Bits → Outcome ℕ
-bits_outcome (Value v next) = accepted v next
-bits_outcome (Refused n) = refused n
+-- a Bool() field
+abbrev pub yes : ℕ → Bool
+yes b = not (eqb b 0)
+
+unfoldable pub flag : List ℕ → ℕ → Outcome Bool
+flag s p = and_then (u 1 s p) (λ b q. accepted (yes b) q)

@@ -2,83 +2,89 @@
 #![tactic(auto)]
 
 ghost use Rattle.std.specs.Prelude.{◌≡◌, ◌+◌, ◌*◌, ◌<◌, ◌≤◌, length};
-ghost use Rattle.header_bits.specs.Bits.{bit, field, u, bits_outcome};
+ghost use Rattle.header_bits.specs.Bits.{bit, field, u, flag};
+ghost use Rattle.header_bits.specs.Reader.{width_of, Reads};
+
+use refusals::Refusal;
 
 // The longest header slice, in bytes.
 const MAX_BYTES: usize = 65536;
 
-// A bit field: its value and the next bit position, or the number of a refusal.
+// A header's bytes, and the bit that is read next.
 #[derive(Clone, Copy)]
-pub enum Bits {
-    Value(u32, usize),
-    Refused(u32),
+pub struct BitReader<'a> {
+    pub bytes: &'a [u8],
+    pub at: usize,
 }
 
-fn bit_at(bytes: &[u8], at: usize) -> u32
-    requires { at < length bytes.now * 8 }
-    ensures { result ≡ bit bytes.now at }
-{
-    let i = at / 8;
-    let byte = bytes[i] as u32;
-    (byte >> (at % 8)) % 2
+// How many bits a field has.
+#[derive(Clone, Copy, Debug, PartialEq, Eq)]
+pub enum Width {
+    U1 = 1,
+    U2 = 2,
+    U16 = 16,
+    U32 = 32,
 }
 
-// Reads the field from its last bit, the most significant, to its first.
-fn field_at(bytes: &[u8], at: usize, width: usize) -> u32
-    requires { (length bytes.now ≤ 65536) × (at + width ≤ length bytes.now * 8) × (width ≤ 32) }
-    ensures { result ≡ field bytes.now at width }
-{
-    let mut value = 0;
-    let mut left = width;
-    while left > 0 {
-        left -= 1;
-        value = value * 2 + bit_at(bytes, at + left);
+impl Width {
+    fn bits(self) -> usize
+        ensures { (result ≡ width_of self) × (0 < result) × (result ≤ 32) }
+    {
+        self as usize
     }
-    value
 }
 
-fn read_bits(bytes: &[u8], at: usize, width: usize) -> Bits
-    requires { width ≤ 32 }
-    ensures { bits_outcome result ≡ u width bytes.now at }
-{
-    if bytes.len() > MAX_BYTES {
-        return Bits::Refused(refusals::WRONG_LENGTH);
+impl BitReader<'_> {
+    // A reader of these bytes from a bit on.
+    pub fn new(bytes: &[u8], at: usize) -> BitReader<'_>
+        ensures { (result.bytes.now ≡ bytes.now) × (result.at ≡ at) }
+    {
+        BitReader { bytes, at }
     }
-    let end = bytes.len() * 8;
-    if end < at {
-        return Bits::Refused(refusals::BITS_RUN_OUT);
+
+    fn bit(&self, at: usize) -> u32
+        requires { at < length self.now.bytes.now * 8 }
+        ensures { result ≡ bit self.now.bytes.now at }
+    {
+        let byte = self.bytes[at / 8] as u32;
+        (byte >> (at % 8)) % 2
     }
-    if end - at < width {
-        return Bits::Refused(refusals::BITS_RUN_OUT);
+
+    // The field's bits from the last, the most significant, to the first.
+    fn field(&self, width: usize) -> u32
+        requires { (length self.now.bytes.now ≤ 65536) × (self.now.at + width ≤ length self.now.bytes.now * 8) × (width ≤ 32) }
+        ensures { result ≡ field self.now.bytes.now self.now.at width }
+    {
+        let mut value = 0;
+        for i in (0..width).rev() {
+            value = value * 2 + self.bit(self.at + i);
+        }
+        value
     }
-    let value = field_at(bytes, at, width);
-    Bits::Value(value, at + width)
-}
 
-// One bit and the next position, or refusal 7 or 1.
-pub fn read_u1(bytes: &[u8], at: usize) -> Bits
-    ensures { bits_outcome result ≡ u 1 bytes.now at }
-{
-    read_bits(bytes, at, 1)
-}
+    // Reads a field, or refuses with 7 or 1.
+    pub fn read(&mut self, width: Width) -> Result<u32, Refusal>
+        ensures { Reads self.old (u (width_of width)) result self.new }
+    {
+        let width = width.bits();
+        if self.bytes.len() > MAX_BYTES {
+            return Err(Refusal::WrongLength);
+        }
+        let left = (self.bytes.len() * 8).saturating_sub(self.at);
+        if left < width {
+            return Err(Refusal::BitsRunOut);
+        }
+        let value = self.field(width);
+        self.at += width;
+        Ok(value)
+    }
 
-// Two bits and the next position, or refusal 7 or 1.
-pub fn read_u2(bytes: &[u8], at: usize) -> Bits
-    ensures { bits_outcome result ≡ u 2 bytes.now at }
-{
-    read_bits(bytes, at, 2)
-}
-
-// 16 bits and the next position, or refusal 7 or 1.
-pub fn read_u16(bytes: &[u8], at: usize) -> Bits
-    ensures { bits_outcome result ≡ u 16 bytes.now at }
-{
-    read_bits(bytes, at, 16)
-}
-
-// 32 bits and the next position, or refusal 7 or 1.
-pub fn read_u32(bytes: &[u8], at: usize) -> Bits
-    ensures { bits_outcome result ≡ u 32 bytes.now at }
-{
-    read_bits(bytes, at, 32)
+    // Reads a Bool() field, or refuses with 7 or 1.
+    #[tactic(auto, unfolding(crate::specs::Bits::flag))]
+    pub fn read_bool(&mut self) -> Result<bool, Refusal>
+        ensures { Reads self.old flag result self.new }
+    {
+        let bit = self.read(Width::U1)?;
+        Ok(bit != 0)
+    }
 }

@@ -2,14 +2,14 @@
 use Rattle.std.specs.Prelude.{ℕ, Bool, true, false, cond, ◌&&◌, List, [], ◌∷◌, Float}
 use Rattle.std.specs.Float.Ieee.{of_bits}
 use Rattle.std.specs.Float.{binary32}
-use Rattle.header_bits.specs.Outcome.{Outcome, number, value, next}
-use Rattle.header_fields.specs.Fields.{Fields, bits, half, halves, bundle, read, yes, none}
+use Rattle.header_bits.specs.Outcome.{Outcome}
+use Rattle.header_bits.specs.Bits.{yes}
+use Rattle.header_fields.specs.Fields.{Fields, bits, half, halves, bundle, read, none}
 use Rattle.header_epf_sigma.specs.declared.EpfSigma.{EpfSigma}
 use Rattle.header_epf_sigma.specs.Settings.{quant_mul_default, pass0_sigma_scale_default, pass2_sigma_scale_default, border_sad_mul_default, epf_sigma}
 use Rattle.header_epf.specs.declared.Encoding.{Encoding}
 use Rattle.header_epf.specs.declared.Encoding.TheVariants.{VarDct, Modular}
 use Rattle.header_epf.specs.declared.EdgePreservingFilter.{EdgePreservingFilter}
-use Rattle.header_epf.specs.declared.EpfAnswer.{EpfAnswer}
 
 abbrev pub var_dct : Encoding → Bool
 var_dct VarDct = true
@@ -79,7 +79,3 @@ epf_fields e =
 
 abbrev pub epf_at : Encoding → List ℕ → ℕ → Outcome EdgePreservingFilter
 epf_at e = read (epf_fields e)
-
--- number, fields and next position; a refusal has 0 in all fields
-abbrev pub epf_answer : Outcome EdgePreservingFilter → EpfAnswer
-epf_answer o = record { number = number o; epf = value epf_off o; next = next o }

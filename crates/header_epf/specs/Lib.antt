@@ -1,2 +1,1 @@
 pub mod EdgeFilter
-pub mod Pieces

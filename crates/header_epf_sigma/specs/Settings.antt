@@ -2,11 +2,9 @@
 use Rattle.std.specs.Prelude.{Bool, true, ◌&&◌, Float}
 use Rattle.std.specs.Float.Ieee.{of_bits}
 use Rattle.std.specs.Float.{binary32}
-use Rattle.header_bits.specs.Outcome.{Outcome, accepted, refused}
-use Rattle.header_fields.specs.Fields.{Fields, bits, half, bundle, yes}
+use Rattle.header_bits.specs.Bits.{yes}
+use Rattle.header_fields.specs.Fields.{Fields, bits, half, bundle}
 use Rattle.header_epf_sigma.specs.declared.EpfSigma.{EpfSigma}
-use Rattle.header_epf_sigma.specs.declared.Sigma.{Sigma}
-use Rattle.header_epf_sigma.specs.declared.Sigma.TheVariants as sigma
 
 -- 0.46, 0.9, 6.5, 2/3
 abbrev pub quant_mul_default : Float
@@ -23,10 +21,6 @@ border_sad_mul_default = of_bits binary32 0x3f2a_aaab
 
 abbrev pub epf_sigma : Float → Float → Float → Float → EpfSigma
 epf_sigma q a b m = record { quant_mul = q; pass0_sigma_scale = a; pass2_sigma_scale = b; border_sad_mul = m }
-
-abbrev pub sigma_outcome : Sigma → Outcome EpfSigma
-sigma_outcome (sigma.Value v next) = accepted v next
-sigma_outcome (sigma.Refused n) = refused n
 
 unfoldable pub custom_sigma_fields : Bool → Bool → Fields EpfSigma
 custom_sigma_fields var-dct custom =

@@ -13,15 +13,15 @@ use Rattle.header_half.specs.Half.{f16}
 use Rattle.header_fields.specs.Fields.{f16s}
 
 module _ (s : List ℕ) (p : ℕ) where
-  pub halves-none : (l : List Float) → f16s 0 s p ≡ accepted (take 0 l) p
+  pub halves_none : (l : List Float) → f16s 0 s p ≡ accepted (take 0 l) p
   unfolding f16s
-  halves-none l = refl
+  halves_none l = refl
 
   -- one iteration of the loop
-  pub halves-more : (l : List Float) (i q r : ℕ) (v : Float) → i < length l → f16s i s p ≡ accepted (take i l) q → f16 s q ≡ accepted v r
+  pub halves_more : (l : List Float) (i q r : ℕ) (v : Float) → i < length l → f16s i s p ≡ accepted (take i l) q → accepted v r ≡ f16 s q
       → f16s (i + 1) s p ≡ accepted (take (i + 1) (set l i v)) r
   unfolding f16s
-  halves-more l i q r v h e f = rw (add-one, e, f, take-suc-set l i v)
+  halves_more l i q r v h e f = rw (add-one, e, ← f, take-suc-set l i v)
 
   -- a refusal ends the sequence
   stays : (k i n : ℕ) → f16s i s p ≡ refused n → f16s (k + i) s p ≡ refused n
@@ -29,14 +29,14 @@ module _ (s : List ℕ) (p : ℕ) where
   stays zero i n e = rw (zero-add i) e
   stays (suc k) i n e = rw (suc-add k i, stays k i n e)
 
-  pub halves-stop : (m i q n : ℕ) (vs : List Float) → i < m → f16s i s p ≡ accepted vs q → f16 s q ≡ refused n → refused n ≡ f16s m s p
+  pub halves_stop : (m i q n : ℕ) (vs : List Float) → i < m → f16s i s p ≡ accepted vs q → refused n ≡ f16 s q → refused n ≡ f16s m s p
   unfolding f16s
-  halves-stop m i q n vs h e f =
-      let g : f16s (suc i) s p ≡ refused n = rw (e, f) in
+  halves_stop m i q n vs h e f =
+      let g : f16s (suc i) s p ≡ refused n = rw (e, ← f) in
       let k : m - suc i + suc i ≡ m = omega arith in
       sym (stays (m - suc i) (suc i) n g) ∙ ap (λ (j : ℕ). f16s j s p) k
 
-  pub halves-all : (l : List Float) (m i q : ℕ) → length l ≡ m → i ≤ m → m ≤ i → f16s i s p ≡ accepted (take i l) q → accepted l q ≡ f16s m s p
-  halves-all l m i q h a b e =
+  pub halves_all : (l : List Float) (m i q : ℕ) → length l ≡ m → i ≤ m → m ≤ i → f16s i s p ≡ accepted (take i l) q → accepted l q ≡ f16s m s p
+  halves_all l m i q h a b e =
       let k : i ≡ m = omega arith in
       ap (λ (vs : List Float). accepted vs q) (sym (take_all i l (omega arith))) ∙ sym e ∙ ap (λ (j : ℕ). f16s j s p) k

@@ -1,3 +1,2 @@
-pub mod Answers
-mod Halves
-mod Cases
+pub mod Halves
+pub mod Steps

@@ -1,5 +1,5 @@
 -- A bundle of the header, described like the tables of ISO/IEC 18181-1, and the reader of such a table.
-use Rattle.std.specs.Prelude.{ℕ, zero, suc, Bool, not, cond, List, [], ◌∷◌, ◌++◌, eqb, length, Float}
+use Rattle.std.specs.Prelude.{ℕ, zero, suc, Bool, cond, List, [], ◌∷◌, ◌++◌, length, Float}
 use Rattle.std.specs.Float.Ieee.{of_bits}
 use Rattle.std.specs.Float.{binary32}
 use Rattle.header_bits.specs.Outcome.{Outcome, accepted, refused, and_then}
@@ -39,10 +39,6 @@ read (half c d k) s p = and_then (if_there c (f16 s p) d p) (λ v q. read (k v) 
 read (halves c d k) s p = and_then (if_there c (f16s (length d) s p) d p) (λ v q. read (k v) s q)
 read (refuse c n t) s p = cond c (refused n) (read t s p)
 read (bundle a) s p = accepted a p
-
--- a Bool() field
-abbrev pub yes : ℕ → Bool
-yes b = not (eqb b 0)
 
 -- 0.0, the value of all fields of a filter that is off or of a refusal
 abbrev pub none : Float

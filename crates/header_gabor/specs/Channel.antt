@@ -4,10 +4,7 @@ use Rattle.std.specs.Float.Ieee.{add, mul, lt, of_bits}
 use Rattle.std.specs.Float.{binary32}
 use Rattle.refusals.specs.Numbers.{kernel_near_zero}
 use Rattle.rounding.specs.Magnitude.{magnitude}
-use Rattle.header_bits.specs.Outcome.{Outcome, accepted, refused}
 use Rattle.header_fields.specs.Fields.{Fields, half, refuse, bundle}
-use Rattle.header_gabor.specs.declared.channel.Channel.{Channel}
-use Rattle.header_gabor.specs.declared.channel.Channel.TheVariants.{Weights, Refused}
 
 -- 0.115169525 and 0.061248592
 abbrev pub side_default : Float
@@ -30,8 +27,3 @@ channel_fields custom =
     half custom corner_default λ w1.
     refuse (custom && near_zero w0 w1) kernel_near_zero
     (bundle (w0 ∷ w1 ∷ []))
-
--- the outcome for each case of the code's enum (Specification 1.5)
-abbrev pub channel_outcome : Channel → Outcome (List Float)
-channel_outcome (Weights w0 w1 next) = accepted (w0 ∷ w1 ∷ []) next
-channel_outcome (Refused n) = refused n

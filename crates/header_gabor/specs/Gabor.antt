@@ -1,10 +1,10 @@
 -- The Gabor bundle (Specification 5.4, 5.8; ISO/IEC 18181-1, restoration filter, the fields `gab` to `gab_b_weight2`).
 use Rattle.std.specs.Prelude.{ℕ, Bool, true, false, cond, List, [], ◌∷◌, Float}
-use Rattle.header_bits.specs.Outcome.{Outcome, number, value, next}
-use Rattle.header_fields.specs.Fields.{Fields, bits, bundle, nested, read, yes, none}
+use Rattle.header_bits.specs.Outcome.{Outcome}
+use Rattle.header_bits.specs.Bits.{yes}
+use Rattle.header_fields.specs.Fields.{Fields, bits, bundle, nested, read, none}
 use Rattle.header_gabor.specs.Channel.{channel_fields}
 use Rattle.header_gabor.specs.declared.Gabor.{Gabor}
-use Rattle.header_gabor.specs.declared.GaborAnswer.{GaborAnswer}
 
 abbrev pub gabor_off : Gabor
 gabor_off = record { enabled = false; weights = (none ∷ none ∷ []) ∷ (none ∷ none ∷ []) ∷ (none ∷ none ∷ []) ∷ [] }
@@ -33,7 +33,3 @@ gabor_fields =
 
 abbrev pub gabor_at : List ℕ → ℕ → Outcome Gabor
 gabor_at = read gabor_fields
-
--- number, fields and next position; a refusal has 0 in all fields
-abbrev pub gabor_answer : Outcome Gabor → GaborAnswer
-gabor_answer o = record { number = number o; gabor = value gabor_off o; next = next o }

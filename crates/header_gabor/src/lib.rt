@@ -4,12 +4,13 @@
 pub mod channel;
 
 ghost use Rattle.std.specs.Prelude.{◌≡◌, true};
-ghost use Rattle.header_bits.specs.Outcome.{accepted, refused};
+ghost use Rattle.header_bits.specs.Reader.{Reads, parsed};
 ghost use Rattle.header_fields.specs.Fields.{read};
-ghost use Rattle.header_gabor.specs.Gabor.{channels_fields, weight_fields, gabor_off, gabor_at, gabor_answer};
+ghost use Rattle.header_gabor.specs.Gabor.{channels_fields, weight_fields, gabor_off, gabor_at};
 
-use channel::{Channel, read_channel};
-use header_bits::Bits;
+use channel::read_channel;
+use header_bits::BitReader;
+use refusals::Refusal;
 
 // Two weights for each of the channels X, Y and B: of the side neighbours and of the diagonal ones.
 #[repr(C)]
@@ -19,109 +20,77 @@ pub struct Gabor {
     pub weights: [[f32; 2]; 3],
 }
 
-// A Gabor-like filter's bundle, and the next bit position.
-#[repr(C)]
-#[derive(Clone, Copy)]
-pub struct GaborAnswer {
-    pub number: u32,
-    pub gabor: Gabor,
-    pub next: usize,
-}
-
 // The default weights of every channel.
 const SIDE: f32 = 0.115169525;
 
 const CORNER: f32 = 0.061248592;
 
-pub fn gabor_of(enabled: bool, weights: [[f32; 2]; 3]) -> Gabor
-    ensures { result ≡ record { enabled = enabled; weights = weights } }
-{
-    Gabor { enabled, weights }
-}
+// A filter that is off: zeros in all fields (Specification 5.8).
+impl Default for Gabor {
+    ghost is_default = { λ gabor. gabor ≡ gabor_off };
 
-pub fn weights(gabor: Gabor) -> [[f32; 2]; 3]
-    ensures { result ≡ gabor.weights }
-{
-    gabor.weights
-}
-
-fn gabor_refused(number: u32) -> GaborAnswer
-    ensures { result ≡ gabor_answer (refused number) }
-{
-    let gabor = Gabor::off();
-    GaborAnswer {
-        number,
-        gabor,
-        next: 0,
-    }
-}
-
-fn gabor_accepted(enabled: bool, weights: [[f32; 2]; 3], next: usize) -> GaborAnswer
-    ensures { result ≡ gabor_answer (accepted (record { enabled = enabled; weights = weights }) next) }
-{
-    let gabor = gabor_of(enabled, weights);
-    GaborAnswer {
-        number: refusals::ACCEPTED,
-        gabor,
-        next,
-    }
-}
-
-fn custom_weights(bytes: &[u8], at: usize) -> GaborAnswer
-    ensures { result ≡ gabor_answer (read (channels_fields true) bytes.now at) }
-{
-    match read_channel(bytes, at) {
-        Channel::Weights(x0, x1, at) => match read_channel(bytes, at) {
-            Channel::Weights(y0, y1, at) => match read_channel(bytes, at) {
-                Channel::Weights(b0, b1, next) => gabor_accepted(
-                    true,
-                    [[x0, x1], [y0, y1], [b0, b1]],
-                    next,
-                ),
-                Channel::Refused(number) => gabor_refused(number),
-            },
-            Channel::Refused(number) => gabor_refused(number),
-        },
-        Channel::Refused(number) => gabor_refused(number),
-    }
-}
-
-fn gabor_on(bytes: &[u8], at: usize) -> GaborAnswer
-    ensures { result ≡ gabor_answer (read weight_fields bytes.now at) }
-{
-    match header_bits::read_u1(bytes, at) {
-        Bits::Value(custom, next) => {
-            if custom == 0 {
-                gabor_accepted(true, [[SIDE, CORNER], [SIDE, CORNER], [SIDE, CORNER]], next)
-            } else {
-                custom_weights(bytes, next)
-            }
+    fn default() -> Gabor {
+        Gabor {
+            enabled: false,
+            weights: [[0.0; 2]; 3],
         }
-        Bits::Refused(number) => gabor_refused(number),
     }
+}
+
+#[tactic(auto, using(crate::proofs::Steps::channels_steps))]
+fn read_channels(reader: &mut BitReader) -> Result<Gabor, Refusal>
+    ensures { Reads reader.old (read (channels_fields true)) result reader.new }
+{
+    let mut ahead = *reader;
+    let x = read_channel(&mut ahead)?;
+    let y = read_channel(&mut ahead)?;
+    let b = read_channel(&mut ahead)?;
+    *reader = ahead;
+    Ok(Gabor {
+        enabled: true,
+        weights: [x, y, b],
+    })
+}
+
+#[tactic(auto, using(crate::proofs::Steps::weight_steps, crate::proofs::Steps::channels_default))]
+fn read_weights(reader: &mut BitReader) -> Result<Gabor, Refusal>
+    ensures { Reads reader.old (read weight_fields) result reader.new }
+{
+    let mut ahead = *reader;
+    let gabor = if ahead.read_bool()? {
+        read_channels(&mut ahead)?
+    } else {
+        Gabor {
+            enabled: true,
+            weights: [[SIDE, CORNER]; 3],
+        }
+    };
+    *reader = ahead;
+    Ok(gabor)
 }
 
 impl Gabor {
-    // A filter that is off: zeros in all fields (Specification 5.8).
-    pub fn off() -> Gabor
-        ensures { result ≡ gabor_off }
+    // Reads the Gabor bundle (Specification 5.4), or refuses with 7, 1, 2 or 3.
+    #[tactic(auto, using(crate::proofs::Steps::gabor_steps))]
+    pub fn read(reader: &mut BitReader) -> Result<Gabor, Refusal>
+        ensures { Reads reader.old gabor_at result reader.new }
     {
-        gabor_of(false, [[0.0; 2]; 3])
+        let mut ahead = *reader;
+        let gabor = if ahead.read_bool()? {
+            read_weights(&mut ahead)?
+        } else {
+            Gabor::default()
+        };
+        *reader = ahead;
+        Ok(gabor)
     }
 
-    // Reads the Gabor bundle (Specification 5.4), or refuses with 7, 1, 2 or 3.
-    pub fn parse(bytes: &[u8], at: usize) -> GaborAnswer
-        ensures { result ≡ gabor_answer (gabor_at bytes.now at) }
+    // Reads the Gabor bundle from a bit position on, and answers the next position too.
+    pub fn parse(bytes: &[u8], at: usize) -> Result<(Gabor, usize), Refusal>
+        ensures { parsed result ≡ gabor_at bytes.now at }
     {
-        match header_bits::read_u1(bytes, at) {
-            Bits::Value(enabled, next) => {
-                if enabled == 0 {
-                    gabor_accepted(false, [[0.0; 2]; 3], next)
-                } else {
-                    gabor_on(bytes, next)
-                }
-            }
-            Bits::Refused(number) => gabor_refused(number),
-        }
+        let mut reader = BitReader::new(bytes, at);
+        let gabor = Gabor::read(&mut reader)?;
+        Ok((gabor, reader.at))
     }
 }

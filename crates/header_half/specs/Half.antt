@@ -1,15 +1,10 @@
 -- Reading a half-precision number (Specification 5.2, 5.3).
 use Rattle.std.specs.Prelude.{ℕ, List, [], ◌∷◌, eqb, Float}
-use Rattle.std.specs.Float.Ieee.{of_bits}
-use Rattle.std.specs.Float.{binary32}
 use Rattle.refusals.specs.Numbers.{half_not_finite}
 use Rattle.refusals.specs.Checks.{Check, always, first_of}
-use Rattle.header_bits.specs.Outcome.{Outcome, accepted, refused, checked, and_then, number, value, next}
+use Rattle.header_bits.specs.Outcome.{Outcome, checked, and_then}
 use Rattle.header_bits.specs.Bits.{u}
 use Rattle.header_half.specs.Value.{exponent_of, half_of}
-use Rattle.header_half.specs.declared.Half.{Half}
-use Rattle.header_half.specs.declared.Half.TheVariants.{Value, Refused}
-use Rattle.header_half.specs.declared.HalfAnswer.{HalfAnswer}
 
 -- exponent field 31: an infinity or a NaN
 abbrev pub half_checks : ℕ → List Check
@@ -22,12 +17,3 @@ finite h next = checked (first_of (half_checks h)) (half_of h) next
 -- F16() of ISO/IEC 18181-1, read from bit p
 unfoldable pub f16 : List ℕ → ℕ → Outcome Float
 f16 s p = and_then (u 16 s p) finite
-
--- the outcome for each case of the code's enum (Specification 1.5)
-abbrev pub half_outcome : Half → Outcome Float
-half_outcome (Value v next) = accepted v next
-half_outcome (Refused n) = refused n
-
--- number, value and next position as a struct; a refusal has +0.0 and 0
-abbrev pub half_answer : Outcome Float → HalfAnswer
-half_answer o = record { number = number o; value = value (of_bits binary32 0) o; next = next o }

@@ -5,25 +5,13 @@ ghost use Rattle.std.specs.Prelude.{◌≡◌, ◌<◌, leb};
 ghost use Rattle.std.specs.Float.{binary32};
 ghost use Rattle.std.specs.Float.Ieee.{of_fields};
 ghost use Rattle.header_half.specs.Value.{exponent_of, half_of};
-ghost use Rattle.header_half.specs.Half.{f16, finite, half_outcome, half_answer};
+ghost use Rattle.header_half.specs.Half.{f16, half_checks};
+ghost use Rattle.header_bits.specs.Reader.{Reads, parsed};
+ghost use Rattle.refusals.specs.Checks.{first_of};
+ghost use Rattle.refusals.specs.Refusals.{IsOutcome};
 
-use header_bits::Bits;
-
-// A half-precision number: its value and the next bit position, or the number of a refusal.
-#[derive(Clone, Copy)]
-pub enum Half {
-    Value(f32, usize),
-    Refused(u32),
-}
-
-// A half-precision reading as a struct.
-#[repr(C)]
-#[derive(Clone, Copy)]
-pub struct HalfAnswer {
-    pub number: u32,
-    pub value: f32,
-    pub next: usize,
-}
+use header_bits::{BitReader, Width};
+use refusals::Refusal;
 
 // The binary32 number with this sign, exponent field and fraction.
 fn of_fields(sign: u32, exponent: u32, digits: u32) -> f32
@@ -53,48 +41,33 @@ fn widen(half: u32) -> f32
     of_fields(sign, 113 - up, (moved - 1024) * 8192)
 }
 
-fn finite_half(half: u32, next: usize) -> Half
+fn finite_half(half: u32) -> Result<f32, Refusal>
     requires { half < 65536 }
-    ensures { half_outcome result ≡ finite half next }
+    ensures { IsOutcome result (first_of (half_checks half)) (half_of half) }
 {
     if half / 1024 % 32 == 31 {
-        return Half::Refused(refusals::HALF_NOT_FINITE);
+        return Err(Refusal::HalfNotFinite);
     }
-    let value = widen(half);
-    Half::Value(value, next)
+    Ok(widen(half))
 }
 
-// Reads a half-precision number as an enum, or refuses with 7, 1 or 2.
-pub fn read_f16_as_f32(bytes: &[u8], at: usize) -> Half
-    ensures { half_outcome result ≡ f16 bytes.now at }
+// Reads a half-precision number, or refuses with 7, 1 or 2.
+#[tactic(auto, using(header_bits::proofs::Checked::u_below, header_bits::proofs::Readings::checked_is), unfolding(crate::specs::Half::f16))]
+pub fn read_f16_as_f32(reader: &mut BitReader) -> Result<f32, Refusal>
+    ensures { Reads reader.old f16 result reader.new }
 {
-    match header_bits::read_u16(bytes, at) {
-        Bits::Value(half, next) => finite_half(half, next),
-        Bits::Refused(number) => Half::Refused(number),
-    }
+    let mut ahead = *reader;
+    let half = ahead.read(Width::U16)?;
+    let value = finite_half(half)?;
+    *reader = ahead;
+    Ok(value)
 }
 
-// A reading as a struct; a refusal has zeros.
-pub fn half_answer(reading: Half) -> HalfAnswer
-    ensures { result ≡ half_answer (half_outcome reading) }
+// Reads a half-precision number from a bit position on, or refuses with 7, 1 or 2. Answers the next position too.
+pub fn read_half(bytes: &[u8], at: usize) -> Result<(f32, usize), Refusal>
+    ensures { parsed result ≡ f16 bytes.now at }
 {
-    match reading {
-        Half::Value(value, next) => HalfAnswer {
-            number: refusals::ACCEPTED,
-            value,
-            next,
-        },
-        Half::Refused(number) => HalfAnswer {
-            number,
-            value: 0.0,
-            next: 0,
-        },
-    }
-}
-
-// Reads a half-precision number as a struct, or refuses with 7, 1 or 2.
-pub fn read_half(bytes: &[u8], at: usize) -> HalfAnswer
-    ensures { result ≡ half_answer (f16 bytes.now at) }
-{
-    half_answer(read_f16_as_f32(bytes, at))
+    let mut reader = BitReader::new(bytes, at);
+    let value = read_f16_as_f32(&mut reader)?;
+    Ok((value, reader.at))
 }

@@ -7,6 +7,7 @@ use header::RestorationFilter;
 use header_epf::{EdgePreservingFilter, Encoding};
 use header_epf_sigma::EpfSigma;
 use header_gabor::Gabor;
+use refusals::{ACCEPTED, Refusal};
 
 // Every header of the list is shorter.
 const MOST_BYTES: usize = 64;
@@ -19,12 +20,20 @@ pub enum Reader {
     Filters,
 }
 
+// The number, value and next bit position of a reading; a refusal has its number and zeros.
+fn numbered<T: Default>(reading: Result<(T, usize), Refusal>) -> (u32, T, usize) {
+    match reading {
+        Ok((value, next)) => (ACCEPTED, value, next),
+        Err(refusal) => (u32::from(refusal), T::default(), 0),
+    }
+}
+
 fn half(bytes: &[u8], n: &[i64]) -> bool {
-    let a = header_half::read_half(bytes, usize_at(n, 0));
+    let (number, value, next) = numbered(header_half::read_half(bytes, usize_at(n, 0)));
     has_form(n, b"zufz")
-        && u32_at(n, 1) == a.number
-        && has_float(n, 2, a.value)
-        && usize_at(n, 3) == a.next
+        && u32_at(n, 1) == number
+        && has_float(n, 2, value)
+        && usize_at(n, 3) == next
 }
 
 fn has_channel(n: &[i64], i: usize, w: [f32; 2]) -> bool
@@ -36,20 +45,19 @@ fn has_channel(n: &[i64], i: usize, w: [f32; 2]) -> bool
 fn has_gabor(n: &[i64], i: usize, gabor: Gabor) -> bool
     requires { i < 16 }
 {
-    let enabled = gabor.enabled;
-    let w = header_gabor::weights(gabor);
-    bool_at(n, i) == enabled
-        && has_channel(n, i + 1, w[0])
-        && has_channel(n, i + 3, w[1])
-        && has_channel(n, i + 5, w[2])
+    let [x, y, b] = gabor.weights;
+    bool_at(n, i) == gabor.enabled
+        && has_channel(n, i + 1, x)
+        && has_channel(n, i + 3, y)
+        && has_channel(n, i + 5, b)
 }
 
 fn gabor(bytes: &[u8], n: &[i64]) -> bool {
-    let a = Gabor::parse(bytes, usize_at(n, 0));
+    let (number, gabor, next) = numbered(Gabor::parse(bytes, usize_at(n, 0)));
     has_form(n, b"zubffffffz")
-        && u32_at(n, 1) == a.number
-        && usize_at(n, 9) == a.next
-        && has_gabor(n, 2, a.gabor)
+        && u32_at(n, 1) == number
+        && usize_at(n, 9) == next
+        && has_gabor(n, 2, gabor)
 }
 
 fn encoding_at(n: &[i64], i: usize) -> Encoding {
@@ -95,20 +103,22 @@ fn has_epf(n: &[i64], i: usize, epf: EdgePreservingFilter) -> bool
 }
 
 fn edge_filter(bytes: &[u8], n: &[i64]) -> bool {
-    let a = EdgePreservingFilter::parse(bytes, usize_at(n, 0), encoding_at(n, 1));
+    let reading = EdgePreservingFilter::parse(bytes, usize_at(n, 0), encoding_at(n, 1));
+    let (number, epf, next) = numbered(reading);
     has_form(n, b"zbubuffffffffffffffffz")
-        && u32_at(n, 2) == a.number
-        && usize_at(n, 21) == a.next
-        && has_epf(n, 3, a.epf)
+        && u32_at(n, 2) == number
+        && usize_at(n, 21) == next
+        && has_epf(n, 3, epf)
 }
 
 fn filters(bytes: &[u8], n: &[i64]) -> bool {
-    let a = RestorationFilter::parse(bytes, usize_at(n, 0), encoding_at(n, 1));
+    let reading = RestorationFilter::parse(bytes, usize_at(n, 0), encoding_at(n, 1));
+    let (number, filter, next) = numbered(reading);
     has_form(n, b"zbubffffffbuffffffffffffffffz")
-        && u32_at(n, 2) == a.number
-        && usize_at(n, 28) == a.next
-        && has_gabor(n, 3, a.filter.gabor)
-        && has_epf(n, 10, a.filter.epf)
+        && u32_at(n, 2) == number
+        && usize_at(n, 28) == next
+        && has_gabor(n, 3, filter.gabor)
+        && has_epf(n, 10, filter.epf)
 }
 
 impl Reader {
