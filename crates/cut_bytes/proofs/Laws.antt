@@ -4,8 +4,8 @@ use mathlib.Core.List.{List, [], ◌∷◌, ◌++◌, append-nil, append_assoc}
 use Prim.Native.Nat.{ℕ, zero, suc, ◌+◌, ◌*◌, ◌/◌, ◌%◌, ◌^◌, ◌≤◌, ◌<◌}
 use native.Mathlib.Nat.{suc-add, add-suc, pow-zero, pow-suc}
 use native.Mathlib.Omega.{arith}
-use borrow.Author.Tests.{le-leb, lt-leb}
-use lib.ListN.{length, get_or, set, take, drop, drop_of_length-le, get_or-append, get_or-eq_default}
+use borrow.Author.Tests.{le-leb}
+use lib.ListN.{length, get_or, set, take, drop, drop_of_length-le}
 use lib.Seq.{sets, sets-eq, get_or-append-add, drop-drop}
 use borrow.Rule.Slice.PartMut.{put_mid}
 use Rattle.cut_bytes.specs.Bytes.{bytes_of, number_at, stored}
@@ -39,26 +39,14 @@ bytes-four x =
     let f : x / 65536 / 256 ≡ x / 16777216 = omega arith in
     rw (e, f)
 
--- bytes past the end count as 0
-pub number-outside : (s : List ℕ) (at n : ℕ) → length s ≤ at → number_at s at n ≡ 0
-unfolding number_at
-number-outside s at zero h = refl
-number-outside s at (suc n) h = rw (get_or-eq_default s 0 h, number-outside s (at + 1) n (omega arith))
-
 -- ---- stores
 
 pub stored-inside : (s : List ℕ) (at : ℕ) (xs : List ℕ) → at + length xs ≤ length s → stored s at xs ≡ sets s at xs
 stored-inside s at xs h = rw (le-leb (at + length xs) (length s) h)
 
-pub stored-outside : (s : List ℕ) (at : ℕ) (xs : List ℕ) → length s < at + length xs → stored s at xs ≡ s
-stored-outside s at xs h = rw (lt-leb (at + length xs) (length s) h)
-
 -- the same for n bytes of a number
 pub bytes_inside : (s : List ℕ) (at n x : ℕ) → at + n ≤ length s → stored s at (bytes_of n x) ≡ sets s at (bytes_of n x)
 bytes_inside s at n x h = stored-inside s at (bytes_of n x) (omega (arith, length-bytes n x))
-
-pub bytes-outside : (s : List ℕ) (at n x : ℕ) → length s < at + n → stored s at (bytes_of n x) ≡ s
-bytes-outside s at n x h = stored-outside s at (bytes_of n x) (omega (arith, length-bytes n x))
 
 pub sets-sets : (l : List ℕ) (i : ℕ) (xs ys : List ℕ) → sets (sets l i xs) (i + length xs) ys ≡ sets l i (xs ++ ys)
 sets-sets l i [] ys = ap (λ (k : ℕ). sets l k ys) (omega arith)
@@ -84,11 +72,6 @@ number-after xs ys i (suc n) =
     let e : length xs + i + 1 ≡ length xs + (i + 1) = omega arith in
     rw (e, get_or-append-add xs ys i 0, number-after xs ys (i + 1) n)
 
-pub number-before : (xs ys : List ℕ) (i n : ℕ) → i + n ≤ length xs → number_at (xs ++ ys) i n ≡ number_at xs i n
-unfolding number_at
-number-before xs ys i zero l = refl
-number-before xs ys i (suc n) l = rw (get_or-append xs ys 0 i (omega arith), number-before xs ys (i + 1) n (omega arith))
-
 number-first : (n v : ℕ) (ys : List ℕ) → v < 256 ^ n → number_at (bytes_of n v ++ ys) 0 n ≡ v
 unfolding number_at bytes_of
 number-first zero v ys l = omega (arith, rw pow-zero at l)
@@ -102,10 +85,6 @@ pub number-bytes : (xs : List ℕ) (n v : ℕ) (ys : List ℕ) → v < 256 ^ n �
 number-bytes xs n v ys l =
     let e : length xs ≡ length xs + 0 = omega arith in
     ap (λ (k : ℕ). number_at (xs ++ (bytes_of n v ++ ys)) k n) e ∙ number-after xs (bytes_of n v ++ ys) 0 n ∙ number-first n v ys l
-
--- the same, where the place is known by an equation
-pub number-bytes-at : (xs : List ℕ) (n v : ℕ) (ys : List ℕ) (at : ℕ) → length xs ≡ at → v < 256 ^ n → number_at (xs ++ (bytes_of n v ++ ys)) at n ≡ v
-number-bytes-at xs n v ys at e l = subst (λ (k : ℕ). number_at (xs ++ (bytes_of n v ++ ys)) k n ≡ v) e (number-bytes xs n v ys l)
 
 -- a number in n bytes is below 256 ^ n
 pub number_small : (s : List ℕ) → ((i : ℕ) → get_or s i 0 < 256) → (at n : ℕ) → number_at s at n < 256 ^ n

@@ -1,5 +1,5 @@
 -- Laws of cut files: where bodies start, the checks of one entry after another, and what holds in a file that is accepted. Assumes nothing.
-use mathlib.Core.Path.{◌≡◌, refl, subst}
+use mathlib.Core.Path.{◌≡◌, refl, ◌∙◌, subst}
 use mathlib.Core.Bool.{Bool, true, false, true≢false, cond, not, ◌&&◌, ◌||◌}
 use mathlib.Core.List.{List}
 use mathlib.Core.Logic.{⊎_elim}
@@ -12,7 +12,7 @@ use lib.Dec.{T, eqb, leb, ltb, leb→le, eqb→eq}
 use lib.Ieee.Fits.{and_l, and_r}
 use lib.ListN.{length}
 use Rattle.refusals.specs.Checks.{first_of}
-use Rattle.refusals.proofs.Tables.{numbered, of-true, NoneApplies, zero-none}
+use Rattle.refusals.proofs.Tables.{is_true, numbered, of-true, NoneApplies, zero-none}
 use Rattle.refusals.proofs.Rows.{or_else}
 use Rattle.region.specs.declared.Region.{Region}
 use Rattle.region.specs.Measures.{bounds_fit, area_fits, picture_fits}
@@ -33,23 +33,22 @@ area-le r t =
 pub samples-counted : (r : Region) → picture_fits r ≡ true → cond (picture_fits r) (sample_count r) 0 ≡ sample_count r
 samples-counted r e = rw e
 
+-- a count of the samples of a rectangle within the limits
+pub record Sampled (r : Region) (n : ℕ) : Type 0 where
+  pub are : n ≡ sample_count r
+  pub le : n ≤ 50331648
+
+pub sampled : (r : Region) (n : ℕ) → T (picture_fits r) → n ≡ cond (picture_fits r) (sample_count r) 0 → Sampled r n
+sampled r n t e =
+    let are : n ≡ sample_count r = e ∙ samples-counted r (is_true (picture_fits r) t) in
+    record { are = are; le = omega (arith, are, area-le r t) }
+
 -- ---- where bodies start
 
 -- the next body starts where this one ends
 pub body-next : (rectangles : ℕ → Region) (n i : ℕ) → body_at rectangles n (i + 1) ≡ body_at rectangles n i + 4 * sample_count (rectangles i)
 unfolding body_at
 body-next rectangles n i = rw (add-one i)
-
-pub body-low : (rectangles : ℕ → Region) (n i : ℕ) → entry_at n ≤ body_at rectangles n i
-unfolding body_at
-body-low rectangles n zero = omega arith
-body-low rectangles n (suc i) = omega (arith, body-low rectangles n i)
-
-pub body-high : (rectangles : ℕ → Region) (n i : ℕ) → ((j : ℕ) → j < i → T (picture_fits (rectangles j))) → body_at rectangles n i ≤ entry_at n + i * 201326592
-unfolding body_at
-body-high rectangles n zero fit = omega arith
-body-high rectangles n (suc i) fit =
-    omega (arith, body-high rectangles n i (λ j h. fit j (omega arith)), area-le (rectangles i) (fit i (omega arith)))
 
 pub body-grows : (rectangles : ℕ → Region) (n i j : ℕ) → i ≤ j → body_at rectangles n i ≤ body_at rectangles n j
 unfolding body_at

@@ -3,13 +3,14 @@
 
 ghost use Rattle.std.specs.Prelude.{◌≡◌, ◌+◌, ◌*◌, ◌≤◌, ◌<◌, length, cond};
 ghost use Rattle.refusals.specs.Checks.{first_of};
+ghost use Rattle.refusals.specs.Refusals.{number_of};
 ghost use Rattle.region.specs.Measures.{picture_fits};
 ghost use Rattle.cut_file.specs.File.{entry_at, sample_count, body_at};
 ghost use Rattle.cut_file.specs.Read.{count_in, region_in, has_marker, bad_count, entry_checks, file_checks};
 ghost use Rattle.cut_file.specs.Entry.{entry_number};
 
 use cut_bytes::{i32_at, u16_at, u32_at};
-use refusals::{ACCEPTED, BAD_ENTRY, NOT_A_CUT_FILE, WRONG_END, WRONG_LENGTH};
+use refusals::Refusal;
 use region::Region;
 use region_placement::picture_fits;
 
@@ -53,27 +54,18 @@ pub fn sample_count(r: Region) -> usize
     3 * (r.height as usize * r.width as usize)
 }
 
+// Whether a file can't have n rectangles: it has 1 to 64.
 pub fn bad_count(n: u32) -> bool
     ensures { result ≡ bad_count n }
 {
-    if n == 0 {
-        return true;
-    }
-    MAX_RECTANGLES < n
+    n == 0 || MAX_RECTANGLES < n
 }
 
 fn has_marker(file: &[u8]) -> bool
     requires { 4 ≤ length file.now }
     ensures { result ≡ has_marker file.now }
 {
-    let mut i = 0;
-    while i < MARKER_LENGTH {
-        if file[i] != MARKER[i] {
-            return false;
-        }
-        i += 1;
-    }
-    true
+    file.starts_with(&MARKER)
 }
 
 // The region of entry i.
@@ -89,63 +81,59 @@ pub fn region_in(file: &[u8], i: u32) -> Region
     }
 }
 
-// The number of entry i, whose body has to start at byte `end`.
-fn check_entry(file: &[u8], i: u32, end: usize) -> u32
+// Refuses entry i, whose body has to start at byte `end`.
+fn check_entry(file: &[u8], i: u32, end: usize) -> Result<(), Refusal>
     requires { (i < 64) × (end ≡ body_at (region_in file.now) (count_in file.now) i) }
-    ensures { result ≡ entry_number file.now i }
+    ensures { number_of result ≡ entry_number file.now i }
 {
     if file.len() < entry_at(i + 1) {
-        return WRONG_END;
+        return Err(Refusal::WrongEnd);
     }
     if !picture_fits(region_in(file, i)) {
-        return BAD_ENTRY;
+        return Err(Refusal::BadEntry);
     }
     if u32_at(file, entry_at(i)) as usize != end {
-        return BAD_ENTRY;
+        return Err(Refusal::BadEntry);
     }
-    ACCEPTED
+    Ok(())
 }
 
-// The number of the entries and of the file's end.
-fn check_entries(file: &[u8], count: u32) -> u32
+// Refuses a wrong entry, or a file that doesn't end where its last body does.
+fn check_entries(file: &[u8], count: u32) -> Result<(), Refusal>
     requires { (count ≤ 64) × (count ≡ count_in file.now) }
-    ensures { result ≡ first_of (entry_checks file.now 0 count) }
+    ensures { number_of result ≡ first_of (entry_checks file.now 0 count) }
 {
-    let mut i = 0;
     let mut end = entry_at(count);
-    while i < count {
-        let number = check_entry(file, i, end);
-        if number != ACCEPTED {
-            return number;
-        }
+    for i in 0..count {
+        check_entry(file, i, end)?;
         end += 4 * sample_count(region_in(file, i));
-        i += 1;
     }
     if file.len() != end {
-        return WRONG_END;
+        return Err(Refusal::WrongEnd);
     }
-    ACCEPTED
+    Ok(())
 }
 
-// The number of a file (Specification 16.5).
-pub fn check_file(file: &[u8]) -> u32
-    ensures { result ≡ first_of (file_checks file.now) }
+#[tactic(auto, unfolding(crate::specs::Read::file_checks))]
+// Refuses a file for the first of its faults (Specification 16.5).
+pub fn check_file(file: &[u8]) -> Result<(), Refusal>
+    ensures { number_of result ≡ first_of (file_checks file.now) }
 {
     if MAX_FILE < file.len() {
-        return WRONG_LENGTH;
+        return Err(Refusal::WrongLength);
     }
     if file.len() < MARKER_LENGTH {
-        return WRONG_END;
+        return Err(Refusal::WrongEnd);
     }
     if !has_marker(file) {
-        return NOT_A_CUT_FILE;
+        return Err(Refusal::NotACutFile);
     }
     if file.len() < TABLE_START {
-        return WRONG_END;
+        return Err(Refusal::WrongEnd);
     }
     let count = u16_at(file, MARKER_LENGTH);
     if bad_count(count) {
-        return NOT_A_CUT_FILE;
+        return Err(Refusal::NotACutFile);
     }
     check_entries(file, count)
 }

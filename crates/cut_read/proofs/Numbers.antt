@@ -1,5 +1,5 @@
 -- The number that reading a cut file answers, and the outcomes that belong to it. Assumes nothing.
-use mathlib.Core.Path.{◌≡◌, refl, sym, ◌∙◌}
+use mathlib.Core.Path.{◌≡◌, sym, ◌∙◌}
 use mathlib.Core.Bool.{not}
 use mathlib.Core.List.{List, [], ◌∷◌, ◌++◌}
 use Prim.Native.Nat.{ℕ, ◌≤◌, ◌<◌}
@@ -8,14 +8,18 @@ use lib.Dec.{T, eqb, leb, ltb}
 use lib.Ieee.Fits.{and_l, and_r, and_i}
 use lib.ListN.{length}
 use Rattle.refusals.specs.Numbers.{wrong_length, out_of_range}
+use Rattle.std.specs.Prelude.{Result, Ok, Err}
 use Rattle.refusals.specs.Checks.{Check, always, first_of}
+use Rattle.refusals.specs.Refusals.{number, IsOutcome}
+use Rattle.refusals.specs.declared.Refusal.{Refusal}
+use Rattle.refusals.proofs.Outcomes.{number-nonzero}
+use Rattle.region.specs.declared.Region.{Region}
 use Rattle.refusals.proofs.Tables.{numbered, zero-none}
 use Rattle.refusals.proofs.Rows.{joined-none, joined-passed, joined-refused}
-use Rattle.region.specs.Regions.{zero_region}
 use Rattle.cut_file.specs.File.{sample_count}
 use Rattle.cut_file.specs.Read.{count_in, region_in, samples_in, file_checks, region_checks, read_checks}
 use Rattle.cut_file.proofs.Laws.{file-numbered}
-use Rattle.cut_read.specs.Outcome.{count_outcome, cut_answer, region_outcome, read_outcome, ReadOutcome}
+use Rattle.cut_read.specs.Outcome.{count_answer_of, cut_answer_of, count_outcome, cut_answer, region_outcome, read_outcome, ReadOutcome}
 
 -- ---- numbers
 
@@ -77,39 +81,34 @@ module _ (s : List ℕ) (k : ℕ) where
 
 -- ---- outcomes
 
-module _ (s : List ℕ) where
-  pub count-refused : (first_of (file_checks s) ≡ 0 → ⊥) → count_outcome s ≡ record { number = first_of (file_checks s); count = 0 }
-  unfolding count_outcome
-  count-refused h = rw (ne_eqb (first_of (file_checks s)) 0 h)
+module _ (s : List ℕ) (k : ℕ) (slice : List ℕ) where
+  pub read-refused : (n : ℕ) → first_of (read_checks s k (length slice)) ≡ n → (n ≡ 0 → ⊥)
+      → ◌≡◌ {A = ReadOutcome} (read_outcome s k slice) (record { answer = cut_answer n s k; samples = slice })
+  unfolding read_outcome
+  read-refused n e h = rw (e, ne_eqb n 0 h)
 
-  pub count-accepted : first_of (file_checks s) ≡ 0 → count_outcome s ≡ record { number = 0; count = count_in s }
-  unfolding count_outcome
-  count-accepted e = rw e
+  pub read-accepted : first_of (read_checks s k (length slice)) ≡ 0
+      → ◌≡◌ {A = ReadOutcome} (read_outcome s k slice) (record { answer = cut_answer 0 s k; samples = samples_in s k })
+  unfolding read_outcome
+  read-accepted e = rw e
 
-  module _ (k : ℕ) where
-    pub answer-refused : (n : ℕ) → (n ≡ 0 → ⊥) → cut_answer n s k ≡ record { number = n; region = zero_region }
-    unfolding cut_answer
-    answer-refused n h = rw (ne_eqb n 0 h)
+-- ---- the answers at the C boundary
 
-    pub answer-accepted : cut_answer 0 s k ≡ record { number = 0; region = region_in s k }
-    unfolding cut_answer
-    answer-accepted = refl
+pub count-answer : (s : List ℕ) (r : Result ℕ Refusal) → IsOutcome r (first_of (file_checks s)) (count_in s) → count_answer_of r ≡ count_outcome s
+unfolding count_outcome
+count-answer s (Ok n) (e, v) = rw (sym e) (λ j. record { number = 0; count = v j })
+count-answer s (Err x) (e, v) = rw (sym e, ne_eqb (number x) 0 (number-nonzero x))
 
-    pub region-outcome : (n : ℕ) → first_of (region_checks s k) ≡ n → region_outcome s k ≡ cut_answer n s k
-    unfolding region_outcome
-    region-outcome n e = rw e
+cut-answer : (s : List ℕ) (k n : ℕ) (r : Result Region Refusal) → IsOutcome r n (region_in s k) → cut_answer_of r ≡ cut_answer n s k
+unfolding cut_answer
+cut-answer s k n (Ok q) (e, v) = rw (sym e) (λ j. record { number = 0; region = v j })
+cut-answer s k n (Err x) (e, v) = rw (sym e, ne_eqb (number x) 0 (number-nonzero x))
 
-    pub region-number : (region_outcome s k).number ≡ first_of (region_checks s k)
-    unfolding region_outcome cut_answer
-    region-number = refl
+pub region-answer : (s : List ℕ) (k : ℕ) (r : Result Region Refusal) → IsOutcome r (first_of (region_checks s k)) (region_in s k) → cut_answer_of r ≡ region_outcome s k
+unfolding region_outcome
+region-answer s k r h = cut-answer s k (first_of (region_checks s k)) r h
 
-    module _ (slice : List ℕ) where
-      pub read-refused : (n : ℕ) → first_of (read_checks s k (length slice)) ≡ n → (n ≡ 0 → ⊥)
-          → ◌≡◌ {A = ReadOutcome} (read_outcome s k slice) (record { answer = cut_answer n s k; samples = slice })
-      unfolding read_outcome
-      read-refused n e h = rw (e, ne_eqb n 0 h)
-
-      pub read-accepted : first_of (read_checks s k (length slice)) ≡ 0
-          → ◌≡◌ {A = ReadOutcome} (read_outcome s k slice) (record { answer = cut_answer 0 s k; samples = samples_in s k })
-      unfolding read_outcome
-      read-accepted e = rw e
+pub read-answer : (s : List ℕ) (k : ℕ) (slice : List ℕ) (r : Result Region Refusal) (xs : List ℕ) → IsOutcome r (first_of (read_checks s k (length slice))) (region_in s k)
+    → xs ≡ (read_outcome s k slice).samples → ◌≡◌ {A = ReadOutcome} (record { answer = cut_answer_of r; samples = xs }) (read_outcome s k slice)
+unfolding read_outcome
+read-answer s k slice r xs h e = λ j. record { answer = cut-answer s k (first_of (read_checks s k (length slice))) r h j; samples = e j }

@@ -1,33 +1,46 @@
--- The samples of a body, one more at a time. Assumes nothing.
-use mathlib.Core.Path.{◌≡◌, refl, sym, ap, ◌∙◌}
-use mathlib.Core.List.{List, [], ◌∷◌, ◌++◌, append-nil}
-use Prim.Native.Nat.{ℕ, zero, suc, ◌+◌, ◌*◌, ◌<◌}
-use native.Mathlib.Numerals.{add-one}
+-- The samples of a body, as the bytes of a part of the file. Assumes nothing.
+use mathlib.Core.Path.{◌≡◌, sym, ◌∙◌}
+use mathlib.Core.List.{List}
+use Prim.Native.Nat.{ℕ, zero, suc, ◌+◌, ◌*◌, ◌≤◌, ◌<◌}
 use native.Mathlib.Omega.{arith}
-use lib.ListN.{length, get_or, drop, set}
-use lib.Seq.{drop-cons, drop-length, append_snoc, set_at}
+use lib.ListN.{length, get_or, take, drop}
+use Rattle.std.proofs.lemmas.List.{get_or-drop, get_or-take}
+use Rattle.std.proofs.lemmas.Grind.{same_number_lists}
+use Rattle.byteorder.specs.Endian.{IsRead, little_number}
 use Rattle.cut_bytes.specs.Bytes.{number_at}
+use Rattle.cut_bytes.proofs.Laws.{four_bytes}
 use Rattle.cut_file.specs.Read.{samples_at}
+use Rattle.cut_file.proofs.FileLaws.{length-read}
 
-pub length-samples : (s : List ℕ) (at n : ℕ) → length (samples_at s at n) ≡ n
+sample-at : (s : List ℕ) (at n k : ℕ) → k < n → get_or (samples_at s at n) k 0 ≡ number_at s (at + 4 * k) 4
 unfolding samples_at
-length-samples s at zero = refl
-length-samples s at (suc n) = ap suc (length-samples s (at + 4) n)
+sample-at s at zero k h = absurd (omega arith)
+sample-at s at (suc n) zero h = let z : at + 4 * 0 ≡ at = omega arith in rw z
+sample-at s at (suc n) (suc k) h =
+    let z : at + 4 + 4 * k ≡ at + 4 * suc k = omega arith in
+    sample-at s (at + 4) n k (omega arith) ∙ rw z
 
-pub samples-snoc : (s : List ℕ) (at n : ℕ) → samples_at s at (suc n) ≡ samples_at s at n ++ (number_at s (at + 4 * n) 4 ∷ [])
-unfolding samples_at
-samples-snoc s at zero = let z : at + 4 * 0 ≡ at = omega arith in rw z
-samples-snoc s at (suc n) =
-    let z : at + 4 + 4 * n ≡ at + 4 * suc n = omega arith in
-    ap (λ (l : List ℕ). number_at s at 4 ∷ l) (samples-snoc s (at + 4) n ∙ rw z)
+-- byte i of number k in the m bytes from `at`
+byte-at : (s : List ℕ) (at m k i : ℕ) → 4 * k + i < m → get_or (drop (4 * k) (take m (drop at s))) i 0 ≡ get_or s (at + 4 * k + i) 0
+byte-at s at m k i h =
+    let z : at + (4 * k + i) ≡ at + 4 * k + i = omega arith in
+    get_or-drop (4 * k) (take m (drop at s)) i 0 ∙ get_or-take m (drop at s) (4 * k + i) 0 h ∙ get_or-drop at s (4 * k + i) 0 ∙ rw z
 
--- the first i samples of a slice are read
-pub read_more : (s : List ℕ) (at i : ℕ) (slice : List ℕ) (v : ℕ) → i < length slice → v ≡ number_at s (at + 4 * i) 4
-    → set (samples_at s at i ++ drop i slice) i v ≡ samples_at s at (i + 1) ++ drop (i + 1) slice
-read_more s at i slice v h e =
-    rw (add-one i, drop-cons slice i 0 h, samples-snoc s at i, e)
-    (set_at (samples_at s at i) (get_or slice i 0) (drop (suc i) slice) (number_at s (at + 4 * i) 4) i (length-samples s at i)
-    ∙ sym (append_snoc (samples_at s at i) (number_at s (at + 4 * i) 4) (drop (suc i) slice)))
+-- number k of the m bytes from `at`
+word-at : (s : List ℕ) (at m k : ℕ) → 4 * k + 4 ≤ m → little_number 4 (drop (4 * k) (take m (drop at s))) ≡ number_at s (at + 4 * k) 4
+word-at s at m k h =
+    let z : at + 4 * k + 0 ≡ at + 4 * k = omega arith in
+    omega (
+      arith,
+      four_bytes s (at + 4 * k),
+      rw z at (byte-at s at m k 0 (omega arith)),
+      byte-at s at m k 1 (omega arith),
+      byte-at s at m k 2 (omega arith),
+      byte-at s at m k 3 (omega arith),
+    )
 
-pub read_all : (s : List ℕ) (at : ℕ) (slice : List ℕ) → samples_at s at (length slice) ++ drop (length slice) slice ≡ samples_at s at (length slice)
-read_all s at slice = rw (drop-length slice) (append-nil (samples_at s at (length slice)))
+-- a slice read from its bytes
+pub read_all : (s : List ℕ) (at m n : ℕ) (xs : List ℕ) → m ≡ 4 * n → length xs ≡ n → IsRead little_number 4 (take m (drop at s)) xs → xs ≡ samples_at s at n
+read_all s at m n xs e l r =
+    same_number_lists xs (samples_at s at n) (l ∙ sym (length-read s at n))
+    (λ k h. r k h ∙ word-at s at m k (omega arith) ∙ sym (sample-at s at n k (omega arith)))

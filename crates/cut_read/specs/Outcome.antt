@@ -1,10 +1,23 @@
 -- What reading a cut file answers and leaves, for all files and slices (Specification 16). Definitions only.
-use Rattle.std.specs.Prelude.{cond, List, ℕ, eqb, length}
+use Rattle.std.specs.Prelude.{cond, List, ℕ, eqb, length, Result, Ok, Err}
 use Rattle.refusals.specs.Checks.{first_of}
+use Rattle.refusals.specs.Refusals.{number}
+use Rattle.refusals.specs.declared.Refusal.{Refusal}
+use Rattle.region.specs.declared.Region.{Region}
 use Rattle.region.specs.Regions.{zero_region}
 use Rattle.cut_file.specs.Read.{count_in, region_in, samples_in, file_checks, region_checks, read_checks}
 use Rattle.cut_read.specs.declared.CountAnswer.{CountAnswer}
 use Rattle.cut_read.specs.declared.CutAnswer.{CutAnswer}
+
+-- the answer at the C boundary: a count, or 0 beside the number of a refusal
+abbrev pub count_answer_of : Result ℕ Refusal → CountAnswer
+count_answer_of (Ok n) = record { number = 0; count = n }
+count_answer_of (Err e) = record { number = number e; count = 0 }
+
+-- a region, or zeros beside the number of a refusal
+abbrev pub cut_answer_of : Result Region Refusal → CutAnswer
+cut_answer_of (Ok r) = record { number = 0; region = r }
+cut_answer_of (Err e) = record { number = number e; region = zero_region }
 
 -- the number of rectangles
 unfoldable pub count_outcome : List ℕ → CountAnswer

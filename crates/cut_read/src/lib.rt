@@ -1,15 +1,16 @@
 // Reading a cut file: how many rectangles it has, the region of one, and its samples (Specification 16).
 #![tactic(auto)]
 
-ghost use Rattle.std.specs.Prelude.{◌≡◌, ◌+◌, ◌*◌, ◌≤◌, length};
-ghost use Rattle.region.specs.Regions.{zero_region};
-ghost use Rattle.cut_bytes.specs.Bytes.{number_at};
-ghost use Rattle.cut_file.specs.Read.{samples_at};
-ghost use Rattle.cut_read.specs.Outcome.{count_outcome, region_outcome, ReadOutcome, read_outcome};
+ghost use Rattle.std.specs.Prelude.{◌≡◌, length};
+ghost use Rattle.refusals.specs.Checks.{first_of};
+ghost use Rattle.refusals.specs.Refusals.{IsOutcome};
+ghost use Rattle.cut_file.specs.Read.{count_in, region_in, file_checks, region_checks, read_checks};
+ghost use Rattle.cut_read.specs.Outcome.{count_answer_of, cut_answer_of, read_outcome};
 
+use byteorder::{ByteOrder, LittleEndian};
 use cut_bytes::{u16_at, u32_at};
 use cut_file::{MARKER_LENGTH, check_file, entry_at, region_in, sample_count};
-use refusals::{ACCEPTED, OUT_OF_RANGE, WRONG_LENGTH};
+use refusals::{ACCEPTED, Refusal};
 use region::Region;
 
 // How many rectangles a file has; 0 in a refused call.
@@ -28,88 +29,75 @@ pub struct CutAnswer {
     pub region: Region,
 }
 
-// Zeros beside a refusal.
-fn refused(number: u32) -> CutAnswer
-    ensures { result ≡ record { number = number; region = zero_region } }
-{
-    CutAnswer {
-        number,
-        region: Region {
-            left: 0,
-            top: 0,
-            width: 0,
-            height: 0,
-        },
+// The answers at the C boundary stand here, since the theorem of `cut_round` speaks of them.
+impl From<Result<u32, Refusal>> for CountAnswer {
+    ghost from_gives = { λ counted answer. answer ≡ count_answer_of counted };
+
+    fn from(counted: Result<u32, Refusal>) -> CountAnswer {
+        match counted {
+            Ok(count) => CountAnswer {
+                number: ACCEPTED,
+                count,
+            },
+            Err(refusal) => CountAnswer {
+                number: u32::from(refusal),
+                count: 0,
+            },
+        }
+    }
+}
+
+impl From<Result<Region, Refusal>> for CutAnswer {
+    ghost from_gives = { λ found answer. answer ≡ cut_answer_of found };
+
+    fn from(found: Result<Region, Refusal>) -> CutAnswer {
+        match found {
+            Ok(region) => CutAnswer {
+                number: ACCEPTED,
+                region,
+            },
+            Err(refusal) => CutAnswer {
+                number: u32::from(refusal),
+                region: Region {
+                    left: 0,
+                    top: 0,
+                    width: 0,
+                    height: 0,
+                },
+            },
+        }
     }
 }
 
 // The number of rectangles in a file.
-pub fn cut_count(file: &[u8]) -> CountAnswer
-    ensures { result ≡ count_outcome file.now }
+pub fn cut_count(file: &[u8]) -> Result<u32, Refusal>
+    ensures { IsOutcome result (first_of (file_checks file.now)) (count_in file.now) }
 {
-    let number = check_file(file);
-    if number != ACCEPTED {
-        return CountAnswer { number, count: 0 };
-    }
-    CountAnswer {
-        number: ACCEPTED,
-        count: u16_at(file, MARKER_LENGTH),
-    }
+    check_file(file)?;
+    Ok(u16_at(file, MARKER_LENGTH))
 }
 
 // The region of rectangle k, counted from 0.
-pub fn cut_region(file: &[u8], k: u32) -> CutAnswer
-    ensures { result ≡ region_outcome file.now k }
+pub fn cut_region(file: &[u8], k: u32) -> Result<Region, Refusal>
+    ensures { IsOutcome result (first_of (region_checks file.now k)) (region_in file.now k) }
 {
-    let counted = cut_count(file);
-    if counted.number != ACCEPTED {
-        return refused(counted.number);
+    let count = cut_count(file)?;
+    if count <= k {
+        return Err(Refusal::OutOfRange);
     }
-    if counted.count <= k {
-        return refused(OUT_OF_RANGE);
-    }
-    CutAnswer {
-        number: ACCEPTED,
-        region: region_in(file, k),
-    }
-}
-
-// The number in four bytes that are there: no test stands in the loop over samples.
-fn word_at(bytes: &[u8], at: usize) -> u32
-    requires { at + 4 ≤ length bytes.now }
-    ensures { result ≡ number_at bytes.now at 4 }
-{
-    bytes[at] as u32
-        + 256 * (bytes[at + 1] as u32)
-        + 65_536 * (bytes[at + 2] as u32)
-        + 16_777_216 * (bytes[at + 3] as u32)
-}
-
-// All of `samples`, from byte `at` on.
-fn read_samples(file: &[u8], at: usize, samples: &mut [u32])
-    requires { (at + 4 * length samples.old ≤ length file.now) × (length file.now ≤ 16777216) }
-    ensures { samples.new ≡ samples_at file.now at (length samples.old) }
-{
-    let mut i = 0;
-    while i < samples.len() {
-        samples[i] = word_at(file, at + 4 * i);
-        i += 1;
-    }
+    Ok(region_in(file, k))
 }
 
 // The region of rectangle k and its samples, as bit patterns, plane after plane.
-pub fn read_cut(file: &[u8], k: u32, samples: &mut [u32]) -> CutAnswer
-    ensures { ◌≡◌ {A = ReadOutcome} (record { answer = result; samples = samples.new })
-        (read_outcome file.now k samples.old) }
+pub fn read_cut(file: &[u8], k: u32, samples: &mut [u32]) -> Result<Region, Refusal>
+    ensures answer { IsOutcome result (first_of (read_checks file.now k (length samples.old))) (region_in file.now k) }
+    ensures stored { samples.new ≡ (read_outcome file.now k samples.old).samples }
 {
-    let found = cut_region(file, k);
-    if found.number != ACCEPTED {
-        return found;
-    }
-    if samples.len() != sample_count(found.region) {
-        return refused(WRONG_LENGTH);
+    let region = cut_region(file, k)?;
+    if samples.len() != sample_count(region) {
+        return Err(Refusal::WrongLength);
     }
     let at = u32_at(file, entry_at(k)) as usize;
-    read_samples(file, at, samples);
-    found
+    LittleEndian::read_u32_into(&file[at..at + 4 * samples.len()], samples);
+    Ok(region)
 }

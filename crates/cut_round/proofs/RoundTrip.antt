@@ -2,13 +2,11 @@
 use mathlib.Core.Path.{◌≡◌, refl, sym, ap, ◌∙◌}
 use mathlib.Core.Bool.{Bool, true, false, cond, not}
 use mathlib.Core.List.{List, [], ◌∷◌, ◌++◌, append_assoc}
-use mathlib.Core.Logic.{⊎_elim}
 use Prim.Native.Nat.{ℕ, zero, suc, ◌+◌, ◌*◌, ◌≤◌, ◌<◌}
-use native.Mathlib.Nat.{eq-or-lt_of_le}
 use native.Mathlib.Omega.{arith}
 use borrow.Author.Tests.{ltb-true, ltb-false, le-ltb, lt-leb, eq-eqb, ne_eqb}
 use lib.Dec.{T, eqb, leb, ltb, eqb→eq}
-use lib.Ieee.Fits.{and_l, and_r, and_i}
+use lib.Ieee.Fits.{and_i}
 use lib.ListN.{length, get_or, drop, get_or-eq_default}
 use lib.Seq.{get_or-take, get_or-drop}
 use Rattle.refusals.specs.Numbers.{wrong_length, out_of_range}
@@ -29,6 +27,7 @@ use Rattle.cut_file.proofs.Contents.{file-again}
 use Rattle.cut_read.specs.declared.CountAnswer.{CountAnswer}
 use Rattle.cut_read.specs.Outcome.{ReadOutcome, count_outcome, cut_answer, read_outcome}
 use Rattle.cut_write.specs.Outcome.{WriteOutcome, write_outcome}
+use Rattle.cut_write.proofs.Tables.{each_fits}
 use Rattle.cut_round.specs.RoundTrip.{EachBelow, samples_of, read_back, RoundTrip, WrittenRead, WrittenCount, SamplesKept, all_samples_in, OneFile, WrittenAgain}
 
 -- ---- bounds of elements, past the end too
@@ -42,15 +41,6 @@ each-any m s p h i = go (ltb i (length s)) refl
 
 -- ---- what writing accepts
 
-all_fit : (rs : ℕ → Region) (n : ℕ) → T (rectangles_fit rs n) → (i : ℕ) → i < n → T (picture_fits (rs i))
-unfolding rectangles_fit
-all_fit rs zero t i h = absurd (omega arith)
-all_fit rs (suc n) t i h =
-    ⊎_elim
-    (λ (e : suc i ≡ suc n). let e' : i ≡ n = omega arith in rw e' (and_r (rectangles_fit rs n) (picture_fits (rs n)) t))
-    (λ (l : suc i < suc n). all_fit rs n (and_l (rectangles_fit rs n) (picture_fits (rs n)) t) i (omega arith))
-    (eq-or-lt_of_le h)
-
 accepted : (t : CutTable) (samples : List ℕ) (len : ℕ) → first_of (write_checks t (length samples) len) ≡ 0 → WriteAccepted (rectangle t) t.count samples
 unfolding write_checks table_checks
 accepted t samples len z =
@@ -59,7 +49,7 @@ accepted t samples len z =
     record {
       count-pos = c.0;
       count-le = c.1;
-      fit = all_fit (rectangle t) t.count (met (rectangles_fit (rectangle t) t.count) p.1.0);
+      fit = λ i h. each_fits (rectangle t) t.count i (met (rectangles_fit (rectangle t) t.count) p.1.0) h;
       all = eqb→eq (length samples) (samples_before (rectangle t) t.count) (met (eqb (length samples) (samples_before (rectangle t) t.count)) p.1.1.1.0);
       short = ltb-false 16777216 (file_length (rectangle t) t.count) p.1.1.0;
     }

@@ -1,51 +1,36 @@
 -- Stores of the parts of a cut file. Assumes nothing.
 use mathlib.Core.Path.{◌≡◌, refl, sym, ap, ◌∙◌}
-use mathlib.Core.List.{List, [], ◌∷◌, ◌++◌, append_assoc, append-nil}
-use Prim.Native.Nat.{ℕ, zero, suc, ◌+◌, ◌-◌, ◌*◌, ◌≤◌, ◌<◌}
+use mathlib.Core.List.{List, [], ◌∷◌, ◌++◌, append_assoc}
+use Prim.Native.Nat.{ℕ, suc, ◌+◌, ◌*◌, ◌≤◌}
 use native.Mathlib.Numerals.{add-one}
 use native.Mathlib.Omega.{arith}
-use lib.ListN.{length, get_or, take, length-append}
-use lib.Seq.{sets, length-sets, take-suc, length-take-le}
+use lib.ListN.{length, length-append}
+use lib.Seq.{sets, length-sets}
+use borrow.Rule.Slice.PartMut.{put_mid}
+use Rattle.std.specs.List.{flat_map}
+use Rattle.byteorder.specs.Endian.{little_bytes}
 use Rattle.region.specs.declared.Region.{Region}
 use Rattle.cut_bytes.specs.Bytes.{bytes_of, stored, unsigned}
-use Rattle.cut_bytes.proofs.Laws.{length-bytes, bytes_inside, sets_then, sets-whole}
-use Rattle.cut_file.specs.File.{marker, sample_count, entry_at, body_at, entry_bytes, table_bytes, sample_bytes, file_of}
-use Rattle.cut_file.specs.Write.{samples_before}
+use Rattle.cut_bytes.proofs.Laws.{length-bytes, bytes-four, stored-inside, bytes_inside, sets_then, sets-whole, part-stored}
+use Rattle.cut_file.specs.File.{marker, entry_at, body_at, entry_bytes, table_bytes, sample_bytes, file_of}
+use Rattle.cut_file.proofs.FileLaws.{length-samples, length-table, length-file}
 
 -- ---- samples
 
-pub length-samples : (xs : List ℕ) → length (sample_bytes xs) ≡ 4 * length xs
+flat-samples : (xs : List ℕ) → flat_map (little_bytes 4) xs ≡ sample_bytes xs
 unfolding sample_bytes
-length-samples [] = refl
-length-samples (x ∷ xs) = length-append (bytes_of 4 x) (sample_bytes xs) ∙ omega (arith, length-bytes 4 x, length-samples xs)
+flat-samples [] = refl
+flat-samples (x ∷ xs) = rw (bytes-four, flat-samples xs)
 
-pub samples-append : (xs ys : List ℕ) → sample_bytes (xs ++ ys) ≡ sample_bytes xs ++ sample_bytes ys
-unfolding sample_bytes
-samples-append [] ys = refl
-samples-append (x ∷ xs) ys = rw (samples-append xs ys, append_assoc)
-
-one-sample : (x : ℕ) → sample_bytes (x ∷ []) ≡ bytes_of 4 x
-unfolding sample_bytes
-one-sample x = append-nil (bytes_of 4 x)
-
-samples-more : (xs : List ℕ) (j : ℕ) → j < length xs → sample_bytes (take (j + 1) xs) ≡ sample_bytes (take j xs) ++ bytes_of 4 (get_or xs j 0)
-samples-more xs j l =
-    ap (λ (k : ℕ). sample_bytes (take k xs)) (add-one j)
-    ∙ ap sample_bytes (take-suc xs j 0 l)
-    ∙ samples-append (take j xs) (get_or xs j 0 ∷ [])
-    ∙ ap (λ (r : List ℕ). sample_bytes (take j xs) ++ r) (one-sample (get_or xs j 0))
-
-pub samples-stored : (l : List ℕ) (at : ℕ) (xs : List ℕ) (j : ℕ) → j < length xs
-    → sets (sets l at (sample_bytes (take j xs))) (at + 4 * j) (bytes_of 4 (get_or xs j 0)) ≡ sets l at (sample_bytes (take (j + 1) xs))
-samples-stored l at xs j h =
-    sets_then l at (sample_bytes (take j xs)) (bytes_of 4 (get_or xs j 0)) (at + 4 * j)
-    (omega (arith, length-samples (take j xs), length-take-le j xs (omega arith)))
-    ∙ ap (sets l at) (sym (samples-more xs j h))
+-- the samples are written to the last part of a file
+pub samples-put : (l ys xs : List ℕ) (at k : ℕ) → ys ≡ flat_map (little_bytes 4) xs → k ≡ 4 * length xs → at + 4 * length xs ≤ length l
+    → put_mid at k l ys ≡ sets l at (sample_bytes xs)
+samples-put l ys xs at k e m h =
+    let s : List ℕ = sample_bytes xs in
+    let is : ys ≡ s = e ∙ flat-samples xs in
+    rw is (part-stored l at k s (omega (arith, length-samples xs)) (omega (arith, length-samples xs)) ∙ stored-inside l at s (omega (arith, length-samples xs)))
 
 -- ---- entries
-
-pub length-entry : (offset : ℕ) (r : Region) → length (entry_bytes offset r) ≡ 16
-length-entry offset r = simp (length-append, length-bytes)
 
 pub entry-stored : (l : List ℕ) (at offset : ℕ) (r : Region)
     → sets
@@ -95,34 +80,11 @@ entry-parts l at offset r f g h i j x y room a b c d e k m =
     rw (w, v, u, d, q, b, p) (entry-stored l at offset r)
 
 module _ (rs : ℕ → Region) (n : ℕ) where
-  pub body_more : (i : ℕ) → body_at rs n (i + 1) ≡ body_at rs n i + 4 * sample_count (rs i)
-  unfolding body_at
-  body_more i = rw (add-one i)
-
-  pub body-samples : (i : ℕ) → body_at rs n i ≡ entry_at n + 4 * samples_before rs i
-  unfolding body_at samples_before
-  body-samples zero = omega arith
-  body-samples (suc i) = omega (arith, body-samples i)
-
-  pub body-rises : (i d : ℕ) → body_at rs n i ≤ body_at rs n (i + d)
-  unfolding body_at
-  body-rises i zero = let e : i + 0 ≡ i = omega arith in rw e (omega arith)
-  body-rises i (suc d) = let e : i + suc d ≡ suc (i + d) = omega arith in rw e (omega (arith, body-rises i d))
-
-  pub body_below : (i k : ℕ) → i ≤ k → body_at rs n i ≤ body_at rs n k
-  body_below i k l = let e : i + (k - i) ≡ k = omega arith in rw e at (body-rises i (k - i))
-
-  pub length-table : (k : ℕ) → length (table_bytes rs n k) ≡ 16 * k
-  unfolding table_bytes
-  length-table zero = refl
-  length-table (suc k) =
-      length-append (table_bytes rs n k) (entry_bytes (body_at rs n k) (rs k)) ∙ omega (arith, length-table k, length-entry (body_at rs n k) (rs k))
-
   pub table-stored : (l : List ℕ) (k : ℕ)
       → sets (sets l 6 (table_bytes rs n k)) (entry_at k) (entry_bytes (body_at rs n k) (rs k)) ≡ sets l 6 (table_bytes rs n (k + 1))
   unfolding table_bytes
   table-stored l k =
-      sets_then l 6 (table_bytes rs n k) (entry_bytes (body_at rs n k) (rs k)) (entry_at k) (omega (arith, length-table k)) ∙ rw (add-one k)
+      sets_then l 6 (table_bytes rs n k) (entry_bytes (body_at rs n k) (rs k)) (entry_at k) (omega (arith, length-table rs n k)) ∙ rw (add-one k)
 
   -- the same, part by part
   pub table-parts : (l f g : List ℕ) (k at end : ℕ)
@@ -133,10 +95,7 @@ module _ (rs : ℕ → Region) (n : ℕ) where
       → g ≡ sets l 6 (table_bytes rs n (k + 1))
   table-parts l f g k at end a b c d = rw (d, a, b, c) (table-stored l k)
 
-  -- the whole file
-  pub length-file : (s : List ℕ) → length (file_of rs n s) ≡ entry_at n + 4 * length s
-  unfolding file_of
-  length-file s = simp (length-append, length-bytes) (omega (arith, length-table n, length-samples s))
+  -- ---- the whole file
 
   pub file-stored : (l s : List ℕ) → length l ≡ entry_at n + 4 * length s
       → sets (sets (sets (sets l 0 marker) 4 (bytes_of 2 n)) 6 (table_bytes rs n n)) (entry_at n) (sample_bytes s) ≡ file_of rs n s
@@ -146,13 +105,13 @@ module _ (rs : ℕ → Region) (n : ℕ) where
       let b : List ℕ = table_bytes rs n n in
       let c : List ℕ = sample_bytes s in
       let six : length (marker ++ a) ≡ 6 = ap (λ (k : ℕ). suc (suc (suc (suc k)))) (length-bytes 2 n) in
-      let table : length ((marker ++ a) ++ b) ≡ entry_at n = length-append (marker ++ a) b ∙ omega (arith, six, length-table n) in
+      let table : length ((marker ++ a) ++ b) ≡ entry_at n = length-append (marker ++ a) b ∙ omega (arith, six, length-table rs n n) in
       rw (
         sets_then l 0 marker a 4 (omega arith),
         sets_then l 0 (marker ++ a) b 6 (omega (arith, six)),
         sets_then l 0 ((marker ++ a) ++ b) c (entry_at n) (omega (arith, table)),
       )
-      (let q : ((marker ++ a) ++ b) ++ c ≡ file_of rs n s = simp append_assoc in ap (sets l 0) q ∙ sets-whole l (file_of rs n s) (length-file s ∙ sym e))
+      (let q : ((marker ++ a) ++ b) ++ c ≡ file_of rs n s = simp append_assoc in ap (sets l 0) q ∙ sets-whole l (file_of rs n s) (length-file rs n s ∙ sym e))
 
   -- the same, part by part
   pub file-parts : (l s f g h k : List ℕ) (at : ℕ)

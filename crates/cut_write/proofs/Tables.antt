@@ -1,44 +1,29 @@
 -- Laws of the checks of a table. Assumes nothing.
 use mathlib.Core.Path.{◌≡◌, refl, sym, ◌∙◌}
-use mathlib.Core.Bool.{Bool, true, false, true≢false, cond, not, ◌||◌}
+use mathlib.Core.Bool.{Bool, true, false, cond, not}
 use mathlib.Core.List.{List}
-use Prim.Native.Nat.{ℕ, zero, suc, ◌+◌, ◌*◌, ◌≤◌, ◌<◌}
-use native.Mathlib.Nat.{mul_comm}
+use Prim.Native.Nat.{ℕ, zero, suc, ◌+◌, ◌≤◌, ◌<◌}
 use native.Mathlib.Omega.{arith}
 use borrow.Author.Tests.{ltb-true, ltb-false, lt-ltb, le-ltb, eq-eqb, ne_eqb}
 use lib.Dec.{T, ltb, eqb}
 use lib.ListN.{length}
 use lib.Ieee.Fits.{and_l, and_r, and_i}
+use Rattle.std.specs.Prelude.{Result, Ok, Err}
 use Rattle.refusals.specs.Checks.{first_of}
+use Rattle.refusals.specs.Refusals.{number, IsOutcome}
+use Rattle.refusals.specs.declared.Refusal.{Refusal}
+use Rattle.refusals.proofs.Outcomes.{number-nonzero}
 use Rattle.refusals.proofs.Tables.{is_true, of-true, met, numbered, zero-none}
 use Rattle.refusals.proofs.Rows.{joined-passed, joined-refused}
 use Rattle.region.specs.declared.Region.{Region}
 use Rattle.region.specs.Measures.{picture_fits}
-use Rattle.region.proofs.Laws.{picture-area}
 use Rattle.cut_file.specs.declared.CutTable.{CutTable}
-use Rattle.cut_file.specs.File.{max_file, sample_count, file_length, file_of}
+use Rattle.cut_file.specs.File.{max_file, file_length, file_of}
 use Rattle.cut_file.specs.Read.{bad_count}
 use Rattle.cut_file.specs.Write.{rectangle, rectangles_fit, samples_before, table_checks, write_checks}
-use Rattle.cut_file.proofs.Laws.{samples-counted}
+use Rattle.cut_file.proofs.Laws.{count-range}
 use Rattle.cut_write.specs.Fits.{TableFits}
-use Rattle.cut_write.specs.Outcome.{length_outcome, WriteOutcome, write_outcome}
-use Rattle.cut_write.specs.declared.LengthAnswer.{LengthAnswer}
-
--- ---- a rectangle within the limits
-
-module _ (r : Region) (t : T (picture_fits r)) where
-  pub area_small : r.height * r.width ≤ 16777216
-  area_small = omega (arith, picture-area r t, mul_comm r.height r.width)
-
--- a count of its samples
-pub record Sampled (r : Region) (n : ℕ) : Type 0 where
-  pub are : n ≡ sample_count r
-  pub le : n ≤ 50331648
-
-pub sampled : (r : Region) (n : ℕ) → T (picture_fits r) → n ≡ cond (picture_fits r) (sample_count r) 0 → Sampled r n
-sampled r n t e =
-    let are : n ≡ sample_count r = e ∙ samples-counted r (is_true (picture_fits r) t) in
-    record { are = are; le = omega (arith, are, area_small r t) }
+use Rattle.cut_write.specs.Outcome.{length_answer_of, length_outcome, WriteOutcome, write_outcome}
 
 -- ---- all rectangles within the limits
 
@@ -70,13 +55,6 @@ module _ (rs : ℕ → Region) where
 
 -- ---- the number of a table
 
-or_right : (a b : Bool) → (a || b) ≡ false → b ≡ false
-or_right true b e = absurd (true≢false e)
-or_right false b e = e
-
-pub count-few : (n : ℕ) → bad_count n ≡ false → n ≤ 64
-count-few n e = ltb-false 64 n (or_right (eqb n 0) (ltb 64 n) e)
-
 module _ (t : CutTable) where
   pub count-refused : bad_count t.count ≡ true → first_of (table_checks t) ≡ 12
   unfolding table_checks
@@ -104,29 +82,18 @@ module _ (t : CutTable) where
       let n = zero-none (table_checks t) numbers z in
       let l : file_length (rectangle t) t.count ≤ max_file = ltb-false max_file (file_length (rectangle t) t.count) n.1.1.0 in
       record {
-        count-le = count-few t.count n.0;
+        count-le = (count-range t.count n.0).1;
         rectangles-fit = is_true (rectangles_fit (rectangle t) t.count) (met (rectangles_fit (rectangle t) t.count) n.1.0);
         length-is = e;
         length-le = omega (arith, l, e);
       }
 
-  -- ---- the length that a table needs
+  -- ---- the answer at the C boundary
 
-  pub length-refused : (n : ℕ) → first_of (table_checks t) ≡ n → (n ≡ 0 → ⊥) → ◌≡◌ {A = LengthAnswer} (record { number = n; length = 0 }) (length_outcome t)
+  pub length-answer : (r : Result ℕ Refusal) → IsOutcome r (first_of (table_checks t)) (file_length (rectangle t) t.count) → length_answer_of r ≡ length_outcome t
   unfolding length_outcome
-  length-refused n p h = rw (p, ne_eqb n 0 h)
-
-  pub length-accepted : (end : ℕ) → end ≡ file_length (rectangle t) t.count → first_of (table_checks t) ≡ 0 → ◌≡◌ {A = LengthAnswer} (record { number = 0; length = end }) (length_outcome t)
-  unfolding length_outcome
-  length-accepted end e p = rw (p, e)
-
-  pub outcome-number : (length_outcome t).number ≡ first_of (table_checks t)
-  unfolding length_outcome
-  outcome-number = refl
-
-  pub outcome-length : first_of (table_checks t) ≡ 0 → (length_outcome t).length ≡ file_length (rectangle t) t.count
-  unfolding length_outcome
-  outcome-length p = rw p
+  length-answer (Ok n) (e, v) = rw (sym e) (λ j. record { number = 0; length = v j })
+  length-answer (Err x) (e, v) = rw (sym e, ne_eqb (number x) 0 (number-nonzero x))
 
 -- ---- the number of a call that writes
 

@@ -1,17 +1,19 @@
 // Writing a cut file: the length that a table needs, and the file (Specification 16).
 #![tactic(auto)]
 
-ghost use Rattle.std.specs.Prelude.{◌≡◌, ◌+◌, ◌*◌, ◌≤◌, length};
+ghost use Rattle.std.specs.Prelude.{◌≡◌, ◌+◌, ◌≤◌, length};
 ghost use Rattle.std.proofs.lemmas.List.Edits.{sets};
-ghost use Rattle.cut_bytes.specs.Bytes.{bytes_of};
-ghost use Rattle.cut_file.specs.File.{marker, entry_bytes, table_bytes, sample_bytes};
-ghost use Rattle.cut_file.specs.Write.{rectangle};
+ghost use Rattle.refusals.specs.Checks.{first_of};
+ghost use Rattle.refusals.specs.Refusals.{number_of, IsOutcome};
+ghost use Rattle.cut_file.specs.File.{marker, entry_bytes, file_length, table_bytes};
+ghost use Rattle.cut_file.specs.Write.{rectangle, table_checks};
 ghost use Rattle.cut_write.specs.Fits.{TableFits};
-ghost use Rattle.cut_write.specs.Outcome.{length_outcome, WriteOutcome, write_outcome};
+ghost use Rattle.cut_write.specs.Outcome.{length_answer_of, WriteOutcome, write_outcome};
 
+use byteorder::{ByteOrder, LittleEndian};
 use cut_bytes::{bits_of, put_u16, put_u32};
 use cut_file::{CutTable, MARKER, MARKER_LENGTH, MAX_FILE, bad_count, entry_at, sample_count};
-use refusals::{ACCEPTED, NOT_A_CUT_FILE, OUT_OF_LIMITS, WRONG_LENGTH};
+use refusals::{ACCEPTED, Refusal};
 use region::Region;
 use region_placement::picture_fits;
 
@@ -23,37 +25,42 @@ pub struct LengthAnswer {
     pub length: usize,
 }
 
-fn refused(number: u32) -> LengthAnswer
-    ensures { result ≡ record { number = number; length = 0 } }
-{
-    LengthAnswer { number, length: 0 }
+// The answer at the C boundary stands here, since the theorem of `cut_round` speaks of it.
+impl From<Result<usize, Refusal>> for LengthAnswer {
+    ghost from_gives = { λ needed answer. answer ≡ length_answer_of needed };
+
+    fn from(needed: Result<usize, Refusal>) -> LengthAnswer {
+        match needed {
+            Ok(length) => LengthAnswer {
+                number: ACCEPTED,
+                length,
+            },
+            Err(refusal) => LengthAnswer {
+                number: u32::from(refusal),
+                length: 0,
+            },
+        }
+    }
 }
 
 // The length of the file that a table needs.
-pub fn cut_length(table: CutTable) -> LengthAnswer
-    ensures { result ≡ length_outcome table }
+pub fn cut_length(table: CutTable) -> Result<usize, Refusal>
+    ensures { IsOutcome result (first_of (table_checks table)) (file_length (rectangle table) table.count) }
 {
     if bad_count(table.count) {
-        return refused(NOT_A_CUT_FILE);
+        return Err(Refusal::NotACutFile);
     }
-    let count = table.count;
-    let mut end = entry_at(count);
-    let mut i = 0;
-    while i < count {
-        let r = table.regions[i as usize];
-        if !picture_fits(r) {
-            return refused(OUT_OF_LIMITS);
+    let mut end = entry_at(table.count);
+    for r in &table.regions[..table.count as usize] {
+        if !picture_fits(*r) {
+            return Err(Refusal::OutOfLimits);
         }
-        end += 4 * sample_count(r);
-        i += 1;
+        end += 4 * sample_count(*r);
     }
     if MAX_FILE < end {
-        return refused(WRONG_LENGTH);
+        return Err(Refusal::WrongLength);
     }
-    LengthAnswer {
-        number: ACCEPTED,
-        length: end,
-    }
+    Ok(end)
 }
 
 fn put_entry(file: &mut [u8], at: usize, offset: u32, r: Region)
@@ -67,42 +74,17 @@ fn put_entry(file: &mut [u8], at: usize, offset: u32, r: Region)
     put_u16(file, at + 14, r.height);
 }
 
-// Four bytes that are there: no test stands in the loop over samples.
-fn put_word(bytes: &mut [u8], at: usize, x: u32)
-    requires { at + 4 ≤ length bytes.old }
-    ensures { bytes.new ≡ sets bytes.old at (bytes_of 4 x) }
-{
-    bytes[at] = (x % 256) as u8;
-    bytes[at + 1] = (x / 256 % 256) as u8;
-    bytes[at + 2] = (x / 65_536 % 256) as u8;
-    bytes[at + 3] = (x / 16_777_216 % 256) as u8;
-}
-
-fn put_samples(file: &mut [u8], at: usize, samples: &[u32])
-    requires { at + 4 * length samples.now ≤ length file.old }
-    ensures { file.new ≡ sets file.old at (sample_bytes samples.now) }
-{
-    let mut i = 0;
-    while i < samples.len() {
-        put_word(file, at + 4 * i, samples[i]);
-        i += 1;
-    }
-}
-
 // The entries, each with the offset of its body.
 fn put_table(file: &mut [u8], table: CutTable)
     requires { TableFits table (length file.old) }
     ensures { file.new ≡ sets file.old 6
         (table_bytes (rectangle table) table.count table.count) }
 {
-    let count = table.count;
-    let mut end = entry_at(count);
-    let mut i = 0;
-    while i < count {
+    let mut end = entry_at(table.count);
+    for i in 0..table.count {
         let r = table.regions[i as usize];
         put_entry(file, entry_at(i), end as u32, r);
         end += 4 * sample_count(r);
-        i += 1;
     }
 }
 
@@ -110,32 +92,26 @@ fn put_marker(file: &mut [u8])
     requires { 4 ≤ length file.old }
     ensures { file.new ≡ sets file.old 0 marker }
 {
-    file[0] = MARKER[0];
-    file[1] = MARKER[1];
-    file[2] = MARKER[2];
-    file[3] = MARKER[3];
+    file[..MARKER_LENGTH].copy_from_slice(&MARKER);
 }
 
 // Writes the file of the table's rectangles and their samples: bit patterns, rectangle after rectangle, each plane
 // after plane.
-pub fn write_cut(table: CutTable, samples: &[u32], file: &mut [u8]) -> u32
-    ensures { ◌≡◌ {A = WriteOutcome} (record { number = result; file = file.new })
+pub fn write_cut(table: CutTable, samples: &[u32], file: &mut [u8]) -> Result<(), Refusal>
+    ensures { ◌≡◌ {A = WriteOutcome} (record { number = number_of result; file = file.new })
         (write_outcome table samples.now file.old) }
 {
-    let needed = cut_length(table);
-    if needed.number != ACCEPTED {
-        return needed.number;
-    }
-    if file.len() != needed.length {
-        return WRONG_LENGTH;
+    let needed = cut_length(table)?;
+    if file.len() != needed {
+        return Err(Refusal::WrongLength);
     }
     let bodies = entry_at(table.count);
-    if samples.len() != (needed.length - bodies) / 4 {
-        return WRONG_LENGTH;
+    if samples.len() != (needed - bodies) / 4 {
+        return Err(Refusal::WrongLength);
     }
     put_marker(file);
     put_u16(file, MARKER_LENGTH, table.count);
     put_table(file, table);
-    put_samples(file, bodies, samples);
-    ACCEPTED
+    LittleEndian::write_u32_into(samples, &mut file[bodies..]);
+    Ok(())
 }

@@ -8,6 +8,7 @@ ghost use Rattle.cut_write.specs.Outcome.{length_outcome, WriteOutcome, write_ou
 use cut_file::CutTable;
 use cut_read::{CountAnswer, CutAnswer};
 use cut_write::LengthAnswer;
+use refusals::number_of;
 
 // Returns the number of rectangles in a cut file, after checking all of the file but its samples.
 // Numbers, the first that applies in this order: 7 if the file is longer than 16,777,216 bytes; 14 if it ends before
@@ -20,7 +21,7 @@ use cut_write::LengthAnswer;
 pub extern "C" fn restoration_cut_count(file: &[u8]) -> CountAnswer
     ensures { result ≡ count_outcome file.now }
 {
-    cut_read::cut_count(file)
+    CountAnswer::from(cut_read::cut_count(file))
 }
 
 // Returns the region of rectangle `k`, counted from 0, of a cut file.
@@ -30,7 +31,7 @@ pub extern "C" fn restoration_cut_count(file: &[u8]) -> CountAnswer
 pub extern "C" fn restoration_cut_region(file: &[u8], k: u32) -> CutAnswer
     ensures { result ≡ region_outcome file.now k }
 {
-    cut_read::cut_region(file, k)
+    CutAnswer::from(cut_read::cut_region(file, k))
 }
 
 // Returns the region of rectangle `k`, counted from 0, of a cut file, and stores its samples: the bits of 3 x width x
@@ -42,7 +43,7 @@ pub extern "C" fn restoration_read_cut(file: &[u8], k: u32, samples: &mut [u32])
     ensures { ◌≡◌ {A = ReadOutcome} (record { answer = result; samples = samples.new })
         (read_outcome file.now k samples.old) }
 {
-    cut_read::read_cut(file, k, samples)
+    CutAnswer::from(cut_read::read_cut(file, k, samples))
 }
 
 // Returns the length, in bytes, of the cut file with the first `count` regions of a table.
@@ -53,7 +54,7 @@ pub extern "C" fn restoration_read_cut(file: &[u8], k: u32, samples: &mut [u32])
 pub extern "C" fn restoration_cut_length(table: CutTable) -> LengthAnswer
     ensures { result ≡ length_outcome table }
 {
-    cut_write::cut_length(table)
+    LengthAnswer::from(cut_write::cut_length(table))
 }
 
 // Writes the cut file with the first `count` regions of a table and their samples: the bits of binary32 numbers,
@@ -65,5 +66,5 @@ pub extern "C" fn restoration_write_cut(table: CutTable, samples: &[u32], file: 
     ensures { ◌≡◌ {A = WriteOutcome} (record { number = result; file = file.new })
         (write_outcome table samples.now file.old) }
 {
-    cut_write::write_cut(table, samples, file)
+    number_of(cut_write::write_cut(table, samples, file))
 }

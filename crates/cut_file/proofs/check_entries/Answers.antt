@@ -1,19 +1,21 @@
 use mathlib.Core.Path.{◌≡◌, sym, ap, ◌∙◌}
 use mathlib.Core.Bool.{cond}
 use mathlib.Core.List.{List}
-use Prim.Native.Nat.{ℕ, suc, ◌+◌, ◌-◌, ◌*◌, ◌≤◌, ◌<◌}
+use Prim.Native.Nat.{ℕ, suc, ◌+◌, ◌-◌, ◌≤◌, ◌<◌}
 use native.Mathlib.Omega.{arith}
 use borrow.Author.Tests.{eq-eqb, ne_eqb}
 use lib.ListN.{length}
+use borrow.Author.Rules.{rules}
+use Rattle.refusals.specs.Refusals.{number, number_of}
+use Rattle.refusals.proofs.Outcomes.{number-nonzero}
 use Rattle.refusals.specs.Numbers.{accepted, wrong_end}
 use Rattle.refusals.specs.Checks.{first_of}
-use Rattle.refusals.proofs.Tables.{is_true}
 use Rattle.region.specs.declared.Region.{Region}
 use Rattle.region.specs.Measures.{picture_fits}
 use Rattle.cut_file.specs.File.{sample_count, body_at}
 use Rattle.cut_file.specs.Read.{count_in, region_in, entry_checks}
 use Rattle.cut_file.specs.Entry.{entry_number}
-use Rattle.cut_file.proofs.Laws.{EntryAccepted, entry-accepted, entries-first, area-le, samples-counted, body-next}
+use Rattle.cut_file.proofs.Laws.{Sampled, sampled, entry-accepted, entries-first, body-next}
 use Rattle.cut_file.proofs.check_entries.Invariants.{Checked}
 use Rattle.cut_file.proofs.check_entries.Goals as goal
 
@@ -42,19 +44,8 @@ unfolding entry_checks
 right_end s count i h n = rw (at-end s count i h, eq-eqb (length s) (body_at (region_in s) (count_in s) i) n)
 
 -- after the check of entry i, which has the number 0: its samples
-record Counted (s : List ℕ) (i n : ℕ) : Type 0 where
-  are : n ≡ sample_count (region_in s i)
-  le : n ≤ 50331648
-
-counted : (s : List ℕ) (i n : ℕ) (r : Region) → entry_number s i ≡ 0 → r ≡ region_in s i → n ≡ cond (picture_fits r) (sample_count r) 0 → Counted s i n
-counted s i n r e q m =
-    let good : EntryAccepted s i = entry-accepted s i e in
-    let area : (region_in s i).height * (region_in s i).width ≤ 16777216 = area-le (region_in s i) good.region-fits in
-    let are : n ≡ sample_count (region_in s i)
-    = m
-    ∙ ap (λ (q : Region). cond (picture_fits q) (sample_count q) 0) q
-    ∙ samples-counted (region_in s i) (is_true (picture_fits (region_in s i)) good.region-fits) in
-    record { are = are; le = omega (arith, are, area) }
+counted : (s : List ℕ) (i n : ℕ) (r : Region) → entry_number s i ≡ 0 → r ≡ region_in s i → n ≡ cond (picture_fits r) (sample_count r) 0 → Sampled (region_in s i) n
+counted s i n r e q m = sampled (region_in s i) n (entry-accepted s i e).region-fits (m ∙ ap (λ (q : Region). cond (picture_fits q) (sample_count q) 0) q)
 
 pub loop-i-init : goal.loop-i-init
 unfolding body_at
@@ -66,21 +57,23 @@ loop-i-init c =
       number_is = all_left c.args.file.now c.args.count;
     }
 
-pub check_entry-number-requires : goal.check_entry-number-requires
-check_entry-number-requires c = (omega (arith, c.requires.0), c.loop-i.invariant.end_is)
+pub check_entry-requires : goal.check_entry-requires
+check_entry-requires c = (omega (arith, c.requires.0), c.loop-i.invariant.end_is)
 
-pub returns-then-number-ne-ACCEPTED : goal.returns-then-number-ne-ACCEPTED
-returns-then-number-ne-ACCEPTED c =
+pub returns-in_err-check_entry : goal.returns-in_err-check_entry
+returns-in_err-check_entry c =
     let a = c.args in
-    let n = c.check_entry-number.ensures in
-    n ∙ sym (c.loop-i.invariant.number_is ∙ stopped a.file.now a.count c.loop-i.i c.loop-i-test.true (λ z. c.if-number-ne-ACCEPTED.true (n ∙ z)))
+    let e = c.in_err-check_entry.field-0.0 in
+    let n : number e ≡ entry_number a.file.now c.loop-i.i = c.in_err-check_entry.ensures in
+    let r : number_of c.from_residual.result ≡ number e = search rules in
+    r ∙ n ∙ sym (c.loop-i.invariant.number_is ∙ stopped a.file.now a.count c.loop-i.i c.loop-i-test.true (λ z. number-nonzero e (n ∙ z)))
 
 pub loop-i-preserved : goal.loop-i-preserved
 loop-i-preserved c =
     let file : List ℕ = c.args.file.now in
     let inv : Checked file c.args.count c.loop-i.i c.loop-i.end = c.loop-i.invariant in
-    let none : entry_number file c.loop-i.i ≡ 0 = sym c.check_entry-number.ensures ∙ c.if-number-ne-ACCEPTED.false in
-    let samples : Counted file c.loop-i.i c.sample_count.result = counted file c.loop-i.i c.sample_count.result c.region_in.result none c.region_in.ensures c.sample_count.ensures in
+    let none : entry_number file c.loop-i.i ≡ 0 = sym c.in_ok-check_entry.ensures in
+    let samples : Sampled (region_in file c.loop-i.i) c.sample_count.result = counted file c.loop-i.i c.sample_count.result c.region_in.result none c.region_in.ensures c.sample_count.ensures in
     record {
       i-le = omega arith;
       end_is = omega (arith, inv.end_is, samples.are, body-next (region_in file) (count_in file) c.loop-i.i);
@@ -102,12 +95,12 @@ returns c =
 
 pub overflow_mul-end : goal.overflow_mul-end
 overflow_mul-end c =
-    let none : entry_number c.args.file.now c.loop-i.i ≡ 0 = sym c.check_entry-number.ensures ∙ c.if-number-ne-ACCEPTED.false in
+    let none : entry_number c.args.file.now c.loop-i.i ≡ 0 = sym c.in_ok-check_entry.ensures in
     omega (arith, (counted c.args.file.now c.loop-i.i c.sample_count.result c.region_in.result none c.region_in.ensures c.sample_count.ensures).le)
 
 pub overflow_add-end : goal.overflow_add-end
 overflow_add-end c =
-    let none : entry_number c.args.file.now c.loop-i.i ≡ 0 = sym c.check_entry-number.ensures ∙ c.if-number-ne-ACCEPTED.false in
+    let none : entry_number c.args.file.now c.loop-i.i ≡ 0 = sym c.in_ok-check_entry.ensures in
     omega (
       arith,
       (counted c.args.file.now c.loop-i.i c.sample_count.result c.region_in.result none c.region_in.ensures c.sample_count.ensures).le,

@@ -15,6 +15,3 @@ pub record Checked (s : List ℕ) (count i end : ℕ) : Type 0 where
 
 abbrev pub invariant-loop-i : goal.invariant-loop-i
 invariant-loop-i l = Checked l.file l.count l.i l.end
-
-abbrev pub decreases-loop-i : goal.decreases-loop-i
-decreases-loop-i l = l.count - l.i

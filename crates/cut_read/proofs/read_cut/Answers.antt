@@ -1,105 +1,101 @@
 -- `cut_read::read_cut` meets its contract. Assumes nothing.
-use mathlib.Core.Path.{◌≡◌, sym, ap, ◌∙◌}
+use mathlib.Core.Path.{◌≡◌, refl, sym, ap, ◌∙◌}
 use mathlib.Core.Bool.{cond}
 use mathlib.Core.List.{List}
-use Prim.Native.Nat.{ℕ, ◌+◌, ◌*◌, ◌≤◌, ◌<◌}
+use Prim.Native.Nat.{ℕ, ◌+◌, ◌-◌, ◌*◌, ◌<◌}
 use native.Mathlib.Omega.{arith}
+use borrow.Author.Rules.{rules}
 use lib.ListN.{length}
 use Rattle.refusals.specs.Numbers.{wrong_length}
 use Rattle.refusals.specs.Checks.{first_of}
+use Rattle.refusals.specs.Refusals.{number, number_of}
 use Rattle.refusals.proofs.Tables.{is_true}
+use Rattle.refusals.proofs.Outcomes.{number-nonzero}
+use Rattle.region.specs.declared.Region.{Region}
 use Rattle.region.specs.Measures.{picture_fits}
 use Rattle.cut_bytes.specs.Bytes.{number_at}
 use Rattle.cut_file.specs.File.{sample_count, entry_at, body_at}
-use Rattle.cut_file.specs.Read.{count_in, region_in, samples_at, samples_in, region_checks}
+use Rattle.cut_file.specs.Read.{count_in, region_in, samples_at, region_checks, read_checks}
 use Rattle.cut_file.proofs.Laws.{FileAccepted, file-accepted, samples-counted, body-inside}
-use Rattle.cut_read.specs.Outcome.{region_outcome, ReadOutcome}
-use Rattle.cut_read.specs.declared.CutAnswer.{CutAnswer}
-use Rattle.cut_read.proofs.Numbers.{accepted-file, accepted-rectangle, region-refused, length-unlike, length-alike, answer-refused, answer-accepted, region-outcome, region-number, read-refused, read-accepted}
+use Rattle.cut_read.specs.Outcome.{ReadOutcome, read_outcome}
+use Rattle.cut_read.proofs.Numbers.{accepted-file, accepted-rectangle, region-refused, length-unlike, length-alike, read-refused, read-accepted}
+use Rattle.cut_read.proofs.Samples.{read_all}
 use Rattle.cut_read.proofs.read_cut.Goals as goal
 
-number-is : (s : List ℕ) (k : ℕ) (a : CutAnswer) → a ≡ region_outcome s k → a.number ≡ first_of (region_checks s k)
-number-is s k a e = ap (λ (b : CutAnswer). b.number) e ∙ region-number s k
-
--- the answer of an accepted file with rectangle k, and the count of the rectangle's samples
-record Found (s : List ℕ) (k : ℕ) (a : CutAnswer) (n : ℕ) : Type 0 where
+-- an accepted file with rectangle k, the count of the rectangle's samples, and where they start
+record Found (s : List ℕ) (k : ℕ) (r : Region) (n at : ℕ) : Type 0 where
   number-good : first_of (region_checks s k) ≡ 0
-  answer-is : a ≡ record { number = 0; region = region_in s k }
-  k-less : k < count_in s
   file-has : FileAccepted s
+  k-less : k < count_in s
+  region-is : r ≡ region_in s k
   samples-are : n ≡ sample_count (region_in s k)
+  at-is : at ≡ body_at (region_in s) (count_in s) k
 
-found : (s : List ℕ) (k : ℕ) (a : CutAnswer) (n : ℕ) → a ≡ region_outcome s k → a.number ≡ 0 → n ≡ cond (picture_fits a.region) (sample_count a.region) 0 → Found s k a n
-found s k a n e z m =
-    let good : first_of (region_checks s k) ≡ 0 = sym (number-is s k a e) ∙ z in
-    let is : a ≡ record { number = 0; region = region_in s k } = e ∙ region-outcome s k 0 good ∙ answer-accepted s k in
+found : (s : List ℕ) (k : ℕ) (r : Region) (n place at : ℕ) → (0 ≡ first_of (region_checks s k)) × (r ≡ region_in s k)
+    → n ≡ cond (picture_fits r) (sample_count r) 0 → place ≡ entry_at k → at ≡ number_at s place 4 → Found s k r n at
+found s k r n place at f m p e =
+    let good : first_of (region_checks s k) ≡ 0 = sym f.0 in
     let less : k < count_in s = accepted-rectangle s k good in
     let has : FileAccepted s = file-accepted s (accepted-file s k good) in
-    let r = region_in s k in
     record {
       number-good = good;
-      answer-is = is;
-      k-less = less;
       file-has = has;
+      k-less = less;
+      region-is = f.1;
       samples-are =
           m
-          ∙ ap (λ (b : CutAnswer). cond (picture_fits b.region) (sample_count b.region) 0) is
-          ∙ samples-counted r (is_true (picture_fits r) (has.entry k less).region-fits);
+          ∙ ap (λ (q : Region). cond (picture_fits q) (sample_count q) 0) f.1
+          ∙ samples-counted (region_in s k) (is_true (picture_fits (region_in s k)) (has.entry k less).region-fits);
+      at-is = rw p at e ∙ (has.entry k less).offset-is;
     }
-
--- where the body starts, by the entry's offset
-body-is : (s : List ℕ) (k : ℕ) (a : CutAnswer) (n place at : ℕ) → Found s k a n → place ≡ entry_at k → at ≡ number_at s place 4 → at ≡ body_at (region_in s) (count_in s) k
-body-is s k a n place at f p e = rw p at e ∙ (f.file-has.entry k f.k-less).offset-is
 
 samples-same : (s : List ℕ) {at place n count : ℕ} → at ≡ place → n ≡ count → samples_at s at n ≡ samples_at s place count
 samples-same s p q = rw (p, q)
 
-outcome-same : {a b : CutAnswer} {x y : List ℕ} → a ≡ b → x ≡ y → ◌≡◌ {A = ReadOutcome} (record { answer = a; samples = x }) (record { answer = b; samples = y })
-outcome-same p q = rw (p, q)
+-- a refused call leaves the slice as it was
+kept : (s : List ℕ) (k n : ℕ) (slice : List ℕ) → first_of (read_checks s k (length slice)) ≡ n → (n ≡ 0 → ⊥) → slice ≡ (read_outcome s k slice).samples
+kept s k n slice e z = sym (ap (λ (o : ReadOutcome). o.samples) (read-refused s k slice n e z))
 
-pub returns-then-found-ne-ACCEPTED : goal.returns-then-found-ne-ACCEPTED
-returns-then-found-ne-ACCEPTED c =
+pub returns-in_err-region : goal.returns-in_err-region
+returns-in_err-region c =
     let s : List ℕ = c.args.file.now in
     let k : ℕ = c.args.k in
     let slice : List ℕ = c.args.samples.now in
-    let n = first_of (region_checks s k) in
-    let z : n ≡ 0 → ⊥ = λ e. c.if-found-ne-ACCEPTED.true (number-is s k c.cut_region-found.result c.cut_region-found.ensures ∙ e) in
-    cc (region-outcome s k n (λ i. n), read-refused s k slice n (region-refused s k (length slice) z) z)
+    let e = c.in_err-region.field-0.0 in
+    let n : number e ≡ first_of (region_checks s k) = c.in_err-region.ensures.0 in
+    let m = region-refused s k (length slice) (λ z. number-nonzero e (n ∙ z)) ∙ sym n in
+    let r : number_of c.from_residual.result ≡ number e = search rules in
+    record { answer = (r ∙ sym m, search rules); stored = kept s k (number e) slice m (number-nonzero e) }
 
 pub returns-then-samples-sample_count : goal.returns-then-samples-sample_count
 returns-then-samples-sample_count c =
     let s : List ℕ = c.args.file.now in
     let k : ℕ = c.args.k in
     let slice : List ℕ = c.args.samples.now in
-    let f : Found s k c.cut_region-found.result c.sample_count.result
-    = found s k c.cut_region-found.result c.sample_count.result c.cut_region-found.ensures c.if-found-ne-ACCEPTED.false c.sample_count.ensures in
-    let z : wrong_length ≡ 0 → ⊥ = λ p. omega arith in
-    let u = length-unlike s k (length slice) f.number-good (λ p. c.if-samples-sample_count.true (p ∙ sym f.samples-are)) in
-    cc (answer-refused s k wrong_length z, read-refused s k slice wrong_length u z)
+    let f = found s k c.in_ok-region.region c.sample_count.result _ _ c.in_ok-region.ensures c.sample_count.ensures refl refl in
+    let m = length-unlike s k (length slice) f.number-good (λ p. c.if-samples-sample_count.true (p ∙ sym f.samples-are)) in
+    record { answer = (sym m, tt); stored = kept s k wrong_length slice m (λ p. omega arith) }
 
-pub read_samples-requires : goal.read_samples-requires
-read_samples-requires c =
+pub slice_bounds-read_u32_into-end : goal.slice_bounds-read_u32_into-end
+slice_bounds-read_u32_into-end c =
     let s : List ℕ = c.args.file.now in
     let k : ℕ = c.args.k in
-    let lent : List ℕ = c.args.samples.now in
-    let f : Found s k c.cut_region-found.result c.sample_count.result
-    = found s k c.cut_region-found.result c.sample_count.result c.cut_region-found.ensures c.if-found-ne-ACCEPTED.false c.sample_count.ensures in
-    let at-is : c.u32_at-at.result ≡ body_at (region_in s) (count_in s) k
-    = body-is s k c.cut_region-found.result c.sample_count.result c.entry_at.result c.u32_at-at.result f c.entry_at.ensures c.u32_at-at.ensures in
-    let length-is : length lent ≡ sample_count (region_in s k) = c.if-samples-sample_count.false ∙ f.samples-are in
-    let body-fits : c.u32_at-at.result + 4 * length lent ≤ length s = omega (arith, at-is, length-is, body-inside s k f.file-has f.k-less) in
-    (body-fits, f.file-has.length-le)
+    let slice : List ℕ = c.args.samples.now in
+    let f = found s k c.in_ok-region.region c.sample_count.result c.entry_at.result c.u32_at-at.result c.in_ok-region.ensures c.sample_count.ensures c.entry_at.ensures c.u32_at-at.ensures in
+    let n : length slice ≡ sample_count (region_in s k) = c.if-samples-sample_count.false ∙ f.samples-are in
+    omega (arith, f.at-is, n, body-inside s k f.file-has f.k-less)
 
 pub returns : goal.returns
 returns c =
     let s : List ℕ = c.args.file.now in
     let k : ℕ = c.args.k in
-    let lent : List ℕ = c.args.samples.now in
-    let f : Found s k c.cut_region-found.result c.sample_count.result
-    = found s k c.cut_region-found.result c.sample_count.result c.cut_region-found.ensures c.if-found-ne-ACCEPTED.false c.sample_count.ensures in
-    let at-is : c.u32_at-at.result ≡ body_at (region_in s) (count_in s) k
-    = body-is s k c.cut_region-found.result c.sample_count.result c.entry_at.result c.u32_at-at.result f c.entry_at.ensures c.u32_at-at.ensures in
-    let length-is : length lent ≡ sample_count (region_in s k) = c.if-samples-sample_count.false ∙ f.samples-are in
-    let there : samples_at s c.u32_at-at.result (length lent) ≡ samples_in s k = samples-same s at-is length-is in
-    outcome-same (f.answer-is ∙ sym (answer-accepted s k)) (c.read_samples.ensures ∙ there)
-    ∙ sym (read-accepted s k lent (length-alike s k (length lent) f.number-good length-is))
+    let slice : List ℕ = c.args.samples.now in
+    let f = found s k c.in_ok-region.region c.sample_count.result c.entry_at.result c.u32_at-at.result c.in_ok-region.ensures c.sample_count.ensures c.entry_at.ensures c.u32_at-at.ensures in
+    let n : length slice ≡ sample_count (region_in s k) = c.if-samples-sample_count.false ∙ f.samples-are in
+    let part : c.u32_at-at.result + 4 * length slice - c.u32_at-at.result ≡ 4 * length slice = omega arith in
+    let read = read_all s c.u32_at-at.result _ (length slice) c.read_u32_into.new.dst part c.read_u32_into.auto.dst c.read_u32_into.ensures in
+    let m = length-alike s k (length slice) f.number-good n in
+    record {
+      answer = (sym m, f.region-is);
+      stored = read ∙ samples-same s f.at-is n ∙ sym (ap (λ (o : ReadOutcome). o.samples) (read-accepted s k slice m));
+    }

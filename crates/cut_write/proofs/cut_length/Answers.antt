@@ -1,17 +1,22 @@
 -- `cut_write::cut_length`: each return has the number of the first check that applies. Assumes nothing.
-use mathlib.Core.Path.{◌≡◌, sym, ap, ◌∙◌, subst}
-use mathlib.Core.Bool.{true, false}
+use mathlib.Core.Path.{◌≡◌, refl, sym, ap, ◌∙◌, subst}
+use mathlib.Core.Bool.{true, false, cond}
+use borrow.Author.Rules.{rules}
 use Prim.Native.Nat.{ℕ, ◌≤◌, ◌<◌}
 use native.Mathlib.Omega.{arith}
 use lib.Dec.{T}
+use lib.ListN.{length, get_or, take}
+use Rattle.std.proofs.lemmas.List.{length-take, get_or-take}
 use Rattle.refusals.proofs.Tables.{is_true, of-true}
+use Rattle.region.specs.declared.Region.{Region}
 use Rattle.region.specs.Measures.{picture_fits}
+use Rattle.region.specs.Regions.{zero_region}
 use Rattle.cut_file.specs.declared.CutTable.{CutTable}
-use Rattle.cut_file.specs.File.{body_at, file_length}
+use Rattle.cut_file.specs.File.{sample_count, body_at, file_length}
 use Rattle.cut_file.specs.Read.{bad_count}
 use Rattle.cut_file.specs.Write.{rectangle, rectangles_fit}
-use Rattle.cut_write.proofs.Bytes.{body_more}
-use Rattle.cut_write.proofs.Tables.{one-misfits, one_more, Sampled, sampled, count-few, count-refused, limits-refused, long-refused, table-accepted, length-refused, length-accepted}
+use Rattle.cut_file.proofs.Laws.{Sampled, sampled, count-range, body-next}
+use Rattle.cut_write.proofs.Tables.{one-misfits, one_more, count-refused, limits-refused, long-refused, table-accepted}
 use Rattle.cut_write.proofs.cut_length.Goals as goal
 
 -- after the loop every rectangle is within the limits, and `end` is the end of the file
@@ -26,65 +31,79 @@ ended t i end all e f =
       ends = e ∙ ap (body_at (rectangle t) t.count) all;
     }
 
-pub returns-then-bad_count : goal.returns-then-bad_count
-returns-then-bad_count c =
-    let t : CutTable = c.args.table in
-    c.refused.ensures ∙ length-refused t 12 (count-refused t (sym c.bad_count.ensures ∙ c.if-bad_count.true)) (λ e. omega arith)
+-- the loop goes over `count` rectangles
+all-taken : (t : CutTable) (i : ℕ) → bad_count t.count ≡ false → length t.regions ≡ 64 → i ≤ length (take t.count t.regions) → length (take t.count t.regions) ≤ i → i ≡ t.count
+all-taken t i e n l h = omega (arith, (count-range t.count e).1, length-take t.count t.regions)
 
-pub loop-i-init : goal.loop-i-init
+-- rectangle i of those that the loop goes over: its samples
+record Taken (t : CutTable) (i n : ℕ) : Type 0 where
+  below : i < t.count
+  fits : T (picture_fits (rectangle t i))
+  samples : Sampled (rectangle t i) n
+
+below-count : (t : CutTable) (i : ℕ) → i < length (take t.count t.regions) → i < t.count
+below-count t i l = omega (arith, length-take t.count t.regions)
+
+taken : (t : CutTable) (i n : ℕ) (r : Region) → i < length (take t.count t.regions) → r ≡ get_or (take t.count t.regions) i zero_region
+    → picture_fits r ≡ true → n ≡ cond (picture_fits r) (sample_count r) 0 → Taken t i n
+taken t i n r l e f m =
+    let below : i < t.count = below-count t i l in
+    let is : r ≡ rectangle t i = e ∙ get_or-take t.count t.regions i zero_region below in
+    let fits : T (picture_fits (rectangle t i)) = of-true (picture_fits (rectangle t i)) (ap picture_fits (sym is) ∙ f) in
+    record { below = below; fits = fits; samples = sampled (rectangle t i) n fits (m ∙ ap (λ (q : Region). cond (picture_fits q) (sample_count q) 0) is) }
+
+pub returns-then-bad_count : goal.returns-then-bad_count
+returns-then-bad_count c = (sym (count-refused c.args.table (sym c.bad_count.ensures ∙ c.if-bad_count.true)), tt)
+
+pub loop-r-init : goal.loop-r-init
 unfolding body_at rectangles_fit
-loop-i-init c =
-    let few : c.args.table.count ≤ 64 = count-few c.args.table.count (sym c.bad_count.ensures ∙ c.if-bad_count.false) in
-    (omega arith, c.entry_at-end.ensures, tt, omega (arith, c.entry_at-end.ensures, few))
+loop-r-init c =
+    let few : c.args.table.count ≤ 64 = (count-range c.args.table.count (sym c.bad_count.ensures ∙ c.if-bad_count.false)).1 in
+    (c.entry_at-end.ensures, tt, omega (arith, c.entry_at-end.ensures, few))
 
 pub returns-then-not-picture_fits : goal.returns-then-not-picture_fits
 returns-then-not-picture_fits c =
     let t : CutTable = c.args.table in
     let counted : bad_count t.count ≡ false = sym c.bad_count.ensures ∙ c.if-bad_count.false in
-    let below : c.loop-i.i < t.count = omega arith in
-    c.refused-then-not-picture_fits.ensures
-    ∙ length-refused t 4
-    (limits-refused t counted (one-misfits (rectangle t) t.count c.loop-i.i below (sym c.picture_fits.ensures ∙ c.if-not-picture_fits.true)))
-    (λ e. omega arith)
+    let below : c.loop-r.r-index < t.count = below-count t c.loop-r.r-index c.loop-r-test.true in
+    let misfit : picture_fits (rectangle t c.loop-r.r-index) ≡ false
+    = ap picture_fits (sym (get_or-take t.count t.regions c.loop-r.r-index zero_region below)) ∙ sym c.picture_fits.ensures ∙ c.if-not-picture_fits.true in
+    (sym (limits-refused t counted (one-misfits (rectangle t) t.count c.loop-r.r-index below misfit)), tt)
 
 pub overflow_mul-end : goal.overflow_mul-end
 overflow_mul-end c =
-    let t : CutTable = c.args.table in
-    let fits : picture_fits (rectangle t c.loop-i.i) ≡ true = sym c.picture_fits.ensures ∙ c.if-not-picture_fits.false in
-    let s : Sampled (rectangle t c.loop-i.i) c.sample_count.result = sampled (rectangle t c.loop-i.i) c.sample_count.result (of-true (picture_fits (rectangle t c.loop-i.i)) fits) c.sample_count.ensures in
-    omega (arith, s.le)
+    let k = taken c.args.table c.loop-r.r-index c.sample_count.result _ c.loop-r-test.true refl (sym c.picture_fits.ensures ∙ c.if-not-picture_fits.false) c.sample_count.ensures in
+    omega (arith, k.samples.le)
 
 pub overflow_add-end : goal.overflow_add-end
 overflow_add-end c =
     let t : CutTable = c.args.table in
-    let few : t.count ≤ 64 = count-few t.count (sym c.bad_count.ensures ∙ c.if-bad_count.false) in
-    let fits : picture_fits (rectangle t c.loop-i.i) ≡ true = sym c.picture_fits.ensures ∙ c.if-not-picture_fits.false in
-    let s : Sampled (rectangle t c.loop-i.i) c.sample_count.result = sampled (rectangle t c.loop-i.i) c.sample_count.result (of-true (picture_fits (rectangle t c.loop-i.i)) fits) c.sample_count.ensures in
-    omega (arith, s.le, few, c.loop-i.invariant.3)
+    let few : t.count ≤ 64 = (count-range t.count (sym c.bad_count.ensures ∙ c.if-bad_count.false)).1 in
+    let k = taken t c.loop-r.r-index c.sample_count.result _ c.loop-r-test.true refl (sym c.picture_fits.ensures ∙ c.if-not-picture_fits.false) c.sample_count.ensures in
+    omega (arith, k.samples.le, k.below, few, c.loop-r.invariant.2)
 
-pub loop-i-preserved : goal.loop-i-preserved
-loop-i-preserved c =
+pub loop-r-preserved : goal.loop-r-preserved
+loop-r-preserved c =
     let t : CutTable = c.args.table in
-    let fits : picture_fits (rectangle t c.loop-i.i) ≡ true = sym c.picture_fits.ensures ∙ c.if-not-picture_fits.false in
-    let s : Sampled (rectangle t c.loop-i.i) c.sample_count.result = sampled (rectangle t c.loop-i.i) c.sample_count.result (of-true (picture_fits (rectangle t c.loop-i.i)) fits) c.sample_count.ensures in
-    let v = c.loop-i.invariant in (
-      omega arith,
-      omega (arith, s.are, v.1, body_more (rectangle t) t.count c.loop-i.i),
-      one_more (rectangle t) c.loop-i.i v.2 fits,
-      omega (arith, s.le, v.3),
+    let k = taken t c.loop-r.r-index c.sample_count.result _ c.loop-r-test.true refl (sym c.picture_fits.ensures ∙ c.if-not-picture_fits.false) c.sample_count.ensures in
+    let v = c.loop-r.invariant in (
+      omega (arith, k.samples.are, v.0, body-next (rectangle t) t.count c.loop-r.r-index),
+      one_more (rectangle t) c.loop-r.r-index v.1 (is_true (picture_fits (rectangle t c.loop-r.r-index)) k.fits),
+      omega (arith, k.samples.le, v.2),
     )
 
 pub returns-then-end-gt-MAX_FILE : goal.returns-then-end-gt-MAX_FILE
 returns-then-end-gt-MAX_FILE c =
     let t : CutTable = c.args.table in
     let counted : bad_count t.count ≡ false = sym c.bad_count.ensures ∙ c.if-bad_count.false in
-    let d : Ended t c.loop-i.end = ended t c.loop-i.i c.loop-i.end (omega arith) c.loop-i.invariant.1 c.loop-i.invariant.2 in
-    c.refused-then-end-gt-MAX_FILE.ensures
-    ∙ length-refused t 7 (long-refused t counted d.all_fit (omega (arith, d.ends))) (λ e. omega arith)
+    let regions : length t.regions ≡ 64 = search rules in
+    let d : Ended t c.loop-r.end = ended t c.loop-r.r-index c.loop-r.end (all-taken t c.loop-r.r-index counted regions c.loop-r.auto.r-index-end c.loop-r-test.false) c.loop-r.invariant.0 c.loop-r.invariant.1 in
+    (sym (long-refused t counted d.all_fit (omega (arith, d.ends))), tt)
 
 pub returns : goal.returns
 returns c =
     let t : CutTable = c.args.table in
     let counted : bad_count t.count ≡ false = sym c.bad_count.ensures ∙ c.if-bad_count.false in
-    let d : Ended t c.loop-i.end = ended t c.loop-i.i c.loop-i.end (omega arith) c.loop-i.invariant.1 c.loop-i.invariant.2 in
-    length-accepted t c.loop-i.end d.ends (table-accepted t counted d.all_fit (omega (arith, d.ends)))
+    let regions : length t.regions ≡ 64 = search rules in
+    let d : Ended t c.loop-r.end = ended t c.loop-r.r-index c.loop-r.end (all-taken t c.loop-r.r-index counted regions c.loop-r.auto.r-index-end c.loop-r-test.false) c.loop-r.invariant.0 c.loop-r.invariant.1 in
+    (sym (table-accepted t counted d.all_fit (omega (arith, d.ends))), d.ends)

@@ -11,8 +11,10 @@ use Rattle.cut_file.specs.declared.CutTable.{CutTable}
 use Rattle.cut_file.specs.File.{sample_count, body_at, table_bytes}
 use Rattle.cut_file.specs.Write.{rectangle, rectangles_fit}
 use Rattle.cut_write.specs.Fits.{TableFits}
-use Rattle.cut_write.proofs.Bytes.{body_more, body_below, body-samples, table-parts}
-use Rattle.cut_write.proofs.Tables.{each_fits, Sampled, sampled}
+use Rattle.cut_file.proofs.Laws.{Sampled, sampled, body-next, body-grows}
+use Rattle.cut_file.proofs.FileLaws.{body-at}
+use Rattle.cut_write.proofs.Bytes.{table-parts}
+use Rattle.cut_write.proofs.Tables.{each_fits}
 use Rattle.cut_write.proofs.put_table.Goals as goal
 
 -- rectangle i of a table that fits: its samples
@@ -22,11 +24,11 @@ counted t len i n f l e =
 
 -- the bodies so far end in the file
 short : (t : CutTable) (len i end : ℕ) → TableFits t len → i ≤ t.count → end ≡ body_at (rectangle t) t.count i → end ≤ 16777216
-short t len i end f l e = omega (arith, e, body_below (rectangle t) t.count i t.count l, f.length-is, f.length-le)
+short t len i end f l e = omega (arith, e, body-grows (rectangle t) t.count i t.count l, f.length-is, f.length-le)
 
 -- entry i is in the file
 room : (t : CutTable) (len i : ℕ) → TableFits t len → i < t.count → 22 + 16 * i ≤ len
-room t len i f l = omega (arith, f.length-is, body-samples (rectangle t) t.count t.count)
+room t len i f l = omega (arith, f.length-is, body-at (rectangle t) t.count t.count)
 
 pub loop-i-init : goal.loop-i-init
 unfolding body_at table_bytes
@@ -61,7 +63,7 @@ loop-i-preserved c =
     = counted t (length c.args.file.now) c.loop-i.i c.sample_count.result c.requires (omega arith) c.sample_count.ensures in
     let v = c.loop-i.invariant in (
       omega arith,
-      omega (arith, s.are, v.1, body_more (rectangle t) t.count c.loop-i.i),
+      omega (arith, s.are, v.1, body-next (rectangle t) t.count c.loop-i.i),
       table-parts (rectangle t) t.count c.args.file.now _ _ c.loop-i.i _ _ v.2 c.entry_at.ensures v.1 c.put_entry.ensures,
     )
 
