@@ -19,7 +19,7 @@ use sigma_groups::blocks::Blocks;
 pub extern "C" fn restoration_group_sizes(f: Frame) -> FrameAnswer
     ensures { result ≡ frame_outcome f }
 {
-    frame::group_sizes(f)
+    FrameAnswer::from(frame::group_sizes(f))
 }
 
 // Splits a column or row of blocks into its column or row of groups, `group`, and its cell in that group, `inner`.
@@ -28,7 +28,7 @@ pub extern "C" fn restoration_group_sizes(f: Frame) -> FrameAnswer
 pub extern "C" fn restoration_split_block(block: u32, group_size_shift: u32) -> SplitAnswer
     ensures { result ≡ split_outcome block group_size_shift }
 {
-    frame::split_block(block, group_size_shift)
+    SplitAnswer::from(frame::split_block(block, group_size_shift))
 }
 
 // Fills `sigmas` with one sigma per block (8 x 8 samples) of a filter region, row of blocks by row of blocks, if the
@@ -64,5 +64,13 @@ pub extern "C" fn restoration_block_sigmas(
         (sigmas_outcome on frame blocks table.now grids.now sigma_for_modular
         sigmas.old) }
 {
-    sigma::block_sigmas(on, frame, blocks, table, grids, sigma_for_modular, sigmas)
+    refusals::number_of(sigma::block_sigmas(
+        on,
+        frame,
+        blocks,
+        table,
+        grids,
+        sigma_for_modular,
+        sigmas,
+    ))
 }

@@ -6,7 +6,7 @@ use Prim.Native.Nat.{ℕ, zero, suc, ◌+◌, ◌-◌, ◌*◌, ◌/◌, ◌^◌
 use native.Mathlib.Nat.{mod-lt, div-add-mod', div-lt_iff_lt-mul, le-div_iff_mul-le, div-div-eq-div-mul, lt-div-mul-add, suc-mul, mul-le-mul, le-mul_of_pos_right, one-le-pow}
 use native.Mathlib.Decide.{dec_le}
 use native.Mathlib.Omega.{arith}
-use borrow.Author.Tests.{ltb-false, le-ltb, eq-eqb, ne_eqb}
+use borrow.Author.Tests.{ltb-false, ne_eqb}
 use lib.Dec.{ltb}
 use lib.Pow.{pow_pos, pow-add, pow_mono}
 use lib.Count.{count_trailing_zeros}
@@ -15,7 +15,7 @@ use Rattle.refusals.specs.Checks.{always, first_of}
 use Rattle.frame.specs.declared.Frame.{Frame}
 use Rattle.frame.specs.declared.GroupSizes.{GroupSizes}
 use Rattle.frame.specs.Sizes.{divided_up, sample_side, group_dim_of, group_shift_of, groups_along, group_of, inner_of, width_of, height_of, sizes_of}
-use Rattle.frame.specs.Outcome.{frame_checks, frame_outcome, split_outcome, bad_side, bad_sides, bad_upsampling, bad_settings}
+use Rattle.frame.specs.Outcome.{frame_checks, bad_side, bad_sides, bad_upsampling, bad_settings}
 use Rattle.frame.specs.Sound.{Sound}
 
 -- ---- division rounded up: the smallest q with a ≤ q × b
@@ -146,16 +146,11 @@ fitting-sound f sides settings =
     }
 
 -- So does a frame to which no check applies.
+pub frame-fits : (f : Frame) → first_of (frame_checks f) ≡ 0 → (bad_sides f ≡ false) × (bad_settings f ≡ false)
+frame-fits f e = none (bad_sides f) (bad_settings f) e
+
 pub frame-sound : (f : Frame) → first_of (frame_checks f) ≡ 0 → Sound f
-frame-sound f e = let n = none (bad_sides f) (bad_settings f) e in fitting-sound f n.0 n.1
-
--- The answer for an accepted frame has its sizes.
-pub frame-sizes : (f : Frame) → first_of (frame_checks f) ≡ 0 → (frame_outcome f).sizes ≡ sizes_of f
-frame-sizes f e = rw (eq-eqb (first_of (frame_checks f)) 0 e)
-
--- A group size shift in range is accepted, with the block's group and inner cell.
-pub split-accepted : (block s : ℕ) → s ≤ 3 → split_outcome block s ≡ record { number = 0; group = group_of block s; inner = inner_of block s }
-split-accepted block s h = rw (le-ltb 3 s h)
+frame-sound f e = let n = frame-fits f e in fitting-sound f n.0 n.1
 
 -- the bounds of a frame's sizes
 pub record Bounded (g : GroupSizes) : Type 0 where

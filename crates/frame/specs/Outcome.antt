@@ -1,9 +1,12 @@
 -- The answers of `group_sizes` and `split_block` (Specification 7.3): their tables of checks, and the outcome for every input.
-use Rattle.std.specs.Prelude.{Bool, cond, not, ◌||◌, List, [], ◌∷◌, ℕ, ltb, eqb}
+use Rattle.std.specs.Prelude.{Bool, cond, not, ◌||◌, List, [], ◌∷◌, ℕ, ltb, eqb, Result, Ok, Err}
 use Rattle.refusals.specs.Numbers.{out_of_limits, out_of_range}
 use Rattle.refusals.specs.Checks.{Check, always, first_of}
+use Rattle.refusals.specs.declared.Refusal.{Refusal}
+use Rattle.refusals.specs.Refusals.{number}
 use Rattle.frame.specs.declared.Frame.{Frame}
 use Rattle.frame.specs.declared.GroupSizes.{GroupSizes}
+use Rattle.frame.specs.declared.Split.{Split}
 use Rattle.frame.specs.declared.FrameAnswer.{FrameAnswer}
 use Rattle.frame.specs.declared.SplitAnswer.{SplitAnswer}
 use Rattle.frame.specs.Sizes.{sizes_of, group_of, inner_of}
@@ -51,3 +54,12 @@ split_answered number group inner = record { number = number; group = cond (eqb 
 -- the group of a block, and its cell in that group
 abbrev pub split_outcome : ℕ → ℕ → SplitAnswer
 split_outcome block shift = split_answered (first_of (split_checks shift)) (group_of block shift) (inner_of block shift)
+
+-- ---- the answer for a result of `group_sizes` and `split_block`: 0 and the value, or the refusal's number and zeros
+abbrev pub frame_answer : Result GroupSizes Refusal → FrameAnswer
+frame_answer (Ok sizes) = record { number = 0; sizes = sizes }
+frame_answer (Err e) = record { number = number e; sizes = no_sizes }
+
+abbrev pub split_answer : Result Split Refusal → SplitAnswer
+split_answer (Ok split) = record { number = 0; group = split.group; inner = split.inner }
+split_answer (Err e) = record { number = number e; group = 0; inner = 0 }

@@ -3,6 +3,7 @@ use Rattle.std.specs.Prelude.{ℕ, ◌+◌, ◌-◌, ◌*◌, ◌/◌, ◌%◌, 
 use Rattle.std.specs.Int.Count.{count_trailing_zeros}
 use Rattle.frame.specs.declared.Frame.{Frame}
 use Rattle.frame.specs.declared.GroupSizes.{GroupSizes}
+use Rattle.frame.specs.declared.Split.{Split}
 
 -- a divided by b, rounded up
 abbrev pub divided_up : ℕ → ℕ → ℕ
@@ -34,6 +35,9 @@ group_of block shift = block / group_dim_of shift
 
 abbrev pub inner_of : ℕ → ℕ → ℕ
 inner_of block shift = block % group_dim_of shift
+
+abbrev pub split_of : ℕ → ℕ → Split
+split_of block shift = record { group = group_of block shift; inner = inner_of block shift }
 
 abbrev pub width_of : Frame → ℕ
 width_of f = sample_side f.width f.upsampling f.lf_level

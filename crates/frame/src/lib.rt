@@ -2,18 +2,21 @@
 // (Specification 7.1, 7.2).
 #![tactic(auto)]
 
-ghost use Rattle.std.specs.Prelude.{◌≡◌, ◌<◌, ◌≤◌};
+ghost use Rattle.std.specs.Prelude.{◌≡◌, false, ◌<◌, ◌≤◌, IfOk};
 ghost use Rattle.refusals.specs.Checks.{first_of};
-ghost use Rattle.frame.specs.Sizes.{divided_up, sample_side, group_dim_of, groups_along, sizes_of};
+ghost use Rattle.refusals.specs.Refusals.{number_of, IsOutcome};
+ghost use Rattle.frame.specs.Sizes.{divided_up, sample_side, groups_along, sizes_of, split_of};
 ghost use Rattle.frame.specs.Outcome.{bad_side, bad_sides, bad_upsampling, bad_settings};
-ghost use Rattle.frame.specs.Outcome.{frame_checks, frame_outcome, split_outcome, no_sizes};
+ghost use Rattle.frame.specs.Outcome.{frame_checks, split_checks, frame_answer, split_answer};
 ghost use Rattle.frame.specs.Sound.{Sound};
 
+pub mod group_shift;
+
+use group_shift::{GroupShift, MAX_GROUP_SIZE_SHIFT};
 use limits::{BLOCK_U32, MAX_SIDE_U32};
+use refusals::Refusal;
 
 const MAX_LF_LEVEL: u32 = 4;
-
-const MAX_GROUP_SIZE_SHIFT: u32 = 3;
 
 // The fields of a frame header that determine its sizes.
 #[repr(C)]
@@ -28,7 +31,7 @@ pub struct Frame {
 
 // Sample sides, and the LF groups that they are divided into.
 #[repr(C)]
-#[derive(Clone, Copy)]
+#[derive(Clone, Copy, Default)]
 pub struct GroupSizes {
     pub sample_width: u32,
     pub sample_height: u32,
@@ -45,6 +48,13 @@ pub struct GroupSizes {
 pub struct FrameAnswer {
     pub number: u32,
     pub sizes: GroupSizes,
+}
+
+// The group of a column or row of blocks, and the cell in that group.
+#[derive(Clone, Copy)]
+pub struct Split {
+    pub group: u32,
+    pub inner: u32,
 }
 
 // The group of a column or row of blocks, and the cell in it.
@@ -73,146 +83,153 @@ fn sample_side(side: u32, upsampling: u32, level: u32) -> u32
     div_ceil(div_ceil(side, upsampling), div)
 }
 
-fn group_dim(shift: u32) -> u32
-    requires { shift ≤ 3 }
-    ensures { result ≡ group_dim_of shift }
-{
-    128u32 << shift
-}
-
 // LF groups along a sample side.
-fn groups_along(side: u32, shift: u32) -> u32
-    requires { (side ≤ 16384) × (shift ≤ 3) }
-    ensures { result ≡ groups_along side shift }
+fn groups_along(side: u32, shift: GroupShift) -> u32
+    requires { side ≤ 16384 }
+    ensures groups { result ≡ groups_along side shift.value }
+    ensures range { result ≤ 16 }
 {
-    div_ceil(side, BLOCK_U32 * group_dim(shift))
+    div_ceil(side, BLOCK_U32 * shift.dim())
 }
 
 fn bad_side(side: u32) -> bool
     ensures { result ≡ bad_side side }
 {
-    if side < 1 {
-        return true;
-    }
-    MAX_SIDE_U32 < side
+    side < 1 || MAX_SIDE_U32 < side
 }
 
 fn bad_upsampling(upsampling: u32) -> bool
     ensures { result ≡ bad_upsampling upsampling }
 {
-    if upsampling == 1 {
-        return false;
-    }
-    if upsampling == 2 {
-        return false;
-    }
-    if upsampling == 4 {
-        return false;
-    }
-    upsampling != 8
+    !matches!(upsampling, 1 | 2 | 4 | 8)
 }
 
-fn bad_sides(f: Frame) -> bool
+// Whether a side of a frame is out of range.
+#[tactic(auto, unfolding(crate::specs::Outcome::bad_sides))]
+pub fn bad_sides(f: Frame) -> bool
     ensures { result ≡ bad_sides f }
 {
-    if bad_side(f.width) {
-        return true;
-    }
-    bad_side(f.height)
+    bad_side(f.width) || bad_side(f.height)
 }
 
+#[tactic(auto, unfolding(crate::specs::Outcome::bad_settings))]
 fn bad_settings(f: Frame) -> bool
     ensures { result ≡ bad_settings f }
 {
-    if bad_upsampling(f.upsampling) {
-        return true;
-    }
-    if MAX_LF_LEVEL < f.lf_level {
-        return true;
-    }
-    MAX_GROUP_SIZE_SHIFT < f.group_size_shift
+    bad_upsampling(f.upsampling)
+        || MAX_LF_LEVEL < f.lf_level
+        || MAX_GROUP_SIZE_SHIFT < f.group_size_shift
 }
 
-// The number that the frame is refused with, or 0.
-fn check(f: Frame) -> u32
-    ensures { result ≡ first_of (frame_checks f) }
+// Refuses a frame with a number out of range.
+fn check(f: Frame) -> Result<(), Refusal>
+    ensures { number_of result ≡ first_of (frame_checks f) }
 {
     if bad_sides(f) {
-        return refusals::OUT_OF_LIMITS;
+        return Err(Refusal::OutOfLimits);
     }
     if bad_settings(f) {
-        return refusals::OUT_OF_RANGE;
+        return Err(Refusal::OutOfRange);
     }
-    refusals::ACCEPTED
+    Ok(())
 }
 
-fn sizes(f: Frame) -> GroupSizes
-    requires { Sound f }
-    ensures { result ≡ sizes_of f }
-{
-    let shift = f.group_size_shift;
-    let sample_width = sample_side(f.width, f.upsampling, f.lf_level);
-    let sample_height = sample_side(f.height, f.upsampling, f.lf_level);
-    let dim = group_dim(shift);
-    let groups_per_row = groups_along(sample_width, shift);
-    let groups_per_column = groups_along(sample_height, shift);
-    GroupSizes {
-        sample_width,
-        sample_height,
-        group_dim: dim,
-        group_shift: u32::trailing_zeros(dim),
-        groups_per_row,
-        groups_per_column,
-        num_groups: groups_per_row * groups_per_column,
-    }
+// A frame whose numbers are in range.
+#[derive(Clone, Copy)]
+pub struct SoundFrame {
+    pub frame: Frame,
+    pub ghost sides: { bad_sides frame ≡ false },
+    pub ghost settings: { bad_settings frame ≡ false },
+    pub ghost sound: { Sound frame },
 }
 
-fn no_sizes() -> GroupSizes
-    ensures { result ≡ no_sizes }
-{
-    GroupSizes {
-        sample_width: 0,
-        sample_height: 0,
-        group_dim: 0,
-        group_shift: 0,
-        groups_per_row: 0,
-        groups_per_column: 0,
-        num_groups: 0,
+impl SoundFrame {
+    // The frame, or refusal 4 or 9.
+    pub fn new(frame: Frame) -> Result<SoundFrame, Refusal>
+        ensures { (number_of result ≡ first_of (frame_checks frame)) × IfOk result (λ f. f.frame ≡ frame) }
+    {
+        check(frame)?;
+        Ok(SoundFrame { frame })
+    }
+
+    pub fn shift(self) -> GroupShift
+        ensures { result.value ≡ self.frame.group_size_shift }
+    {
+        GroupShift {
+            value: self.frame.group_size_shift,
+        }
+    }
+
+    pub fn sizes(self) -> GroupSizes
+        ensures { result ≡ sizes_of self.frame }
+    {
+        let f = self.frame;
+        let shift = self.shift();
+        let sample_width = sample_side(f.width, f.upsampling, f.lf_level);
+        let sample_height = sample_side(f.height, f.upsampling, f.lf_level);
+        let dim = shift.dim();
+        let groups_per_row = groups_along(sample_width, shift);
+        let groups_per_column = groups_along(sample_height, shift);
+        GroupSizes {
+            sample_width,
+            sample_height,
+            group_dim: dim,
+            group_shift: u32::trailing_zeros(dim),
+            groups_per_row,
+            groups_per_column,
+            num_groups: groups_per_row * groups_per_column,
+        }
     }
 }
 
 // The sizes of a frame, or refusal 4 or 9.
-pub fn group_sizes(f: Frame) -> FrameAnswer
-    ensures { result ≡ frame_outcome f }
+pub fn group_sizes(f: Frame) -> Result<GroupSizes, Refusal>
+    ensures { IsOutcome result (first_of (frame_checks f)) (sizes_of f) }
 {
-    let number = check(f);
-    if number != refusals::ACCEPTED {
-        return FrameAnswer {
-            number,
-            sizes: no_sizes(),
-        };
-    }
-    FrameAnswer {
-        number,
-        sizes: sizes(f),
-    }
+    Ok(SoundFrame::new(f)?.sizes())
 }
 
 // The group of a column or row of blocks and its cell in that group, or refusal 9.
-pub fn split_block(block: u32, group_size_shift: u32) -> SplitAnswer
-    ensures { result ≡ split_outcome block group_size_shift }
+pub fn split_block(block: u32, group_size_shift: u32) -> Result<Split, Refusal>
+    ensures { IsOutcome result (first_of (split_checks group_size_shift)) (split_of block group_size_shift) }
 {
-    if MAX_GROUP_SIZE_SHIFT < group_size_shift {
-        return SplitAnswer {
-            number: refusals::OUT_OF_RANGE,
-            group: 0,
-            inner: 0,
-        };
+    let shift = GroupShift::new(group_size_shift).ok_or(Refusal::OutOfRange)?;
+    Ok(shift.split(block))
+}
+
+// The answers of C stand here and not in crate `export_frame`: crate `instances` speaks of them, and a crate depends on libraries alone.
+impl From<Result<GroupSizes, Refusal>> for FrameAnswer {
+    ghost from_gives = { λ r a. a ≡ frame_answer r };
+
+    fn from(answer: Result<GroupSizes, Refusal>) -> FrameAnswer {
+        match answer {
+            Ok(sizes) => FrameAnswer {
+                number: refusals::ACCEPTED,
+                sizes,
+            },
+            Err(refusal) => FrameAnswer {
+                number: u32::from(refusal),
+                sizes: GroupSizes::default(),
+            },
+        }
     }
-    let dim = group_dim(group_size_shift);
-    SplitAnswer {
-        number: refusals::ACCEPTED,
-        group: block >> u32::trailing_zeros(dim),
-        inner: block & (dim - 1),
+}
+
+impl From<Result<Split, Refusal>> for SplitAnswer {
+    ghost from_gives = { λ r a. a ≡ split_answer r };
+
+    fn from(answer: Result<Split, Refusal>) -> SplitAnswer {
+        match answer {
+            Ok(split) => SplitAnswer {
+                number: refusals::ACCEPTED,
+                group: split.group,
+                inner: split.inner,
+            },
+            Err(refusal) => SplitAnswer {
+                number: u32::from(refusal),
+                group: 0,
+                inner: 0,
+            },
+        }
     }
 }

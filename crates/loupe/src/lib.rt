@@ -48,7 +48,7 @@ fn one_block() -> Blocks
 fn groups_number(frame: Frame, table: &[u32], grids: &[f32]) -> u32
     ensures { result ≡ first_of (groups_checks frame table.now grids.now) }
 {
-    check(NO, frame, one_block(), table, grids, 0)
+    refusals::number_of(check(NO, frame, one_block(), table, grids, 0))
 }
 
 fn wanted_length(wanted: Region) -> usize

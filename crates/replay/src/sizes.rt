@@ -29,14 +29,21 @@ fn has_sizes(n: &[i64], s: GroupSizes) -> bool {
 }
 
 pub fn group_sizes(n: &[i64]) -> bool {
-    let a = frame::group_sizes(frame_at(n));
-    has_form(n, b"uuuuuuuuuuuuu") && u32_at(n, 5) == a.number && has_sizes(n, a.sizes)
+    let number = u32_at(n, 5);
+    has_form(n, b"uuuuuuuuuuuuu")
+        && match frame::group_sizes(frame_at(n)) {
+            Ok(sizes) => number == refusals::ACCEPTED && has_sizes(n, sizes),
+            Err(refusal) => number == u32::from(refusal) && has_sizes(n, GroupSizes::default()),
+        }
 }
 
 pub fn split_block(n: &[i64]) -> bool {
-    let a = frame::split_block(u32_at(n, 0), u32_at(n, 1));
+    let number = u32_at(n, 2);
+    let (group, inner) = (u32_at(n, 3), u32_at(n, 4));
     has_form(n, b"uuuuu")
-        && u32_at(n, 2) == a.number
-        && u32_at(n, 3) == a.group
-        && u32_at(n, 4) == a.inner
+        && match frame::split_block(u32_at(n, 0), u32_at(n, 1)) {
+            Ok(split) => number == refusals::ACCEPTED
+                && (group, inner) == (split.group, split.inner),
+            Err(refusal) => number == u32::from(refusal) && (group, inner) == (0, 0),
+        }
 }

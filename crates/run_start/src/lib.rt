@@ -119,7 +119,7 @@ fn groups_number(s: Setup, frame: Frame, table: &[u32], grids: &[f32], sigmas: u
         (epf_flag s) frame (blocks_of s) table.now grids.now (sigmas_asked s sigmas) }
 {
     let asked = sigmas_asked(s, sigmas);
-    check(epf_flag(s), frame, blocks_of(s), table, grids, asked)
+    refusals::number_of(check(epf_flag(s), frame, blocks_of(s), table, grids, asked))
 }
 
 // The lowest number of the checks of Specification 12.6.
@@ -244,9 +244,9 @@ pub fn start(
     }
     let modular = setup.settings.epf.sigma_for_modular;
     let on = epf_flag(setup);
-    let number = block_sigmas(on, frame, blocks_of(setup), table, grids, modular, sigmas);
+    let filled = block_sigmas(on, frame, blocks_of(setup), table, grids, modular, sigmas);
     RunAnswer {
-        number,
+        number: refusals::number_of(filled),
         run: started(setup),
     }
 }

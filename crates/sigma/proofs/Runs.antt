@@ -6,7 +6,7 @@ use Prim.Native.Nat.{ℕ, zero, suc, ◌+◌, ◌-◌, ◌*◌, ◌/◌, ◌%◌
 use native.Mathlib.Nat.{div-add-mod', zero-mul, suc-mul, mul_comm, mul-le-mul, mul-le-mul_right}
 use native.Mathlib.Decide.{dec_lt}
 use native.Mathlib.Omega.{arith}
-use borrow.Author.Tests.{lt-ltb, le-ltb, eq-eqb, ne_eqb}
+use borrow.Author.Tests.{lt-ltb, le-ltb, eqb-true}
 use lib.Arith.{digits_div, digits_mod}
 use lib.ListN.{length, get_or}
 use lib.Seq.{ext_get_or}
@@ -15,24 +15,22 @@ use Rattle.planes.specs.Sets.{tab}
 use Rattle.planes.proofs.SetLaws.{length-tab, get_d-tab}
 use Rattle.planes.specs.Fill.{fill}
 use Rattle.planes.proofs.Fill.{length-fill, fill-before, fill-at, fill-then}
-use Rattle.refusals.specs.Flags.{flag_set}
 use Rattle.frame.specs.declared.Frame.{Frame}
 use Rattle.frame.specs.declared.GroupSizes.{GroupSizes}
-use Rattle.frame.specs.declared.FrameAnswer.{FrameAnswer}
 use Rattle.frame.specs.Sizes.{group_dim_of, group_of, inner_of, sizes_of}
-use Rattle.frame.proofs.Laws.{frame-sound, frame-sizes}
-use Rattle.frame.specs.Outcome.{frame_outcome}
 use Rattle.sigma_groups.specs.declared.blocks.Blocks.{Blocks}
 use Rattle.sigma.specs.declared.Run.{Run}
 use Rattle.sigma.specs.declared.BlockRow.{BlockRow}
-use Rattle.sigma_grids.specs.Table.{presence, grid_width, grid_height, grid_start, bad_grid}
+use Rattle.sigma_grids.specs.Table.{presence, present, grid_width, grid_height, grid_start, bad_grid}
 use Rattle.sigma_groups.specs.Measures.{blocks_across, blocks_down}
+use Rattle.sigma_groups.specs.BlocksFit.{BlocksFit}
 use Rattle.sigma_groups.proofs.BlocksFit.{across-le}
+use Rattle.sigma_groups.specs.Fitting.{TableOf}
 use Rattle.sigma_groups.specs.Held.{group_at, not_held, some_not_held}
 use Rattle.sigma.specs.Sigma.{missing, sigma_in, frame_sigma, above_at, block_sigma, block_sigmas}
 use Rattle.sigma_groups.proofs.Laws.{entry_lt, entries-le, Held, held, Accepted}
 use Rattle.sigma_grids.proofs.Laws.{some-fewer, none_below, grid-sides, grid-has-block, cells-present, start-ends}
-use Rattle.sigma.specs.Runs.{above_in, Holds, RunFits, RunOf, GridsOf, row_sigma, RowFits, AllFits}
+use Rattle.sigma.specs.Runs.{above_in, Holds, RunFits, RunOf, GridsOf, row_sigma, RowFits}
 
 -- a run that fills the whole list
 fill-whole : (d : List Float) (n : ℕ) (f : ℕ → Float) → length d ≡ n → fill d 0 n f ≡ tab n f
@@ -66,16 +64,16 @@ module _ (t : List ℕ) (grids : List Float) (r : Run) where
   first_cell = grid_start t r.group + (r.row * grid_width t r.group + r.column)
 
   -- cells of a present grid are consecutive
-  pub run-present : presence t r.group ≡ 1 → (modular above : Float) (from i : ℕ) → from ≡ first_cell
+  pub run-present : present t r.group ≡ true → (modular above : Float) (from i : ℕ) → from ≡ first_cell
       → get_or grids (from + i) nan ≡ sigma_in t grids modular above r.group (r.column + i) r.row
   unfolding sigma_in
   run-present p modular above from i e =
       let z : from + i ≡ grid_start t r.group + (r.row * grid_width t r.group + (r.column + i)) = omega arith in
-      rw (eq-eqb (presence t r.group) 1 p, z)
+      rw (p, z)
 
-  pub run-missing : (presence t r.group ≡ 1 → ⊥) → (modular above : Float) (i : ℕ) → missing modular above ≡ sigma_in t grids modular above r.group (r.column + i) r.row
+  pub run-missing : present t r.group ≡ false → (modular above : Float) (i : ℕ) → missing modular above ≡ sigma_in t grids modular above r.group (r.column + i) r.row
   unfolding sigma_in
-  run-missing p modular above i = rw (ne_eqb (presence t r.group) 1 p)
+  run-missing p modular above i = rw p
 
   module _ (h : Holds t grids r) where
     pub row-le : r.row * grid_width t r.group ≤ 1048576
@@ -123,8 +121,9 @@ module _ (f : Frame) (sizes : GroupSizes) (t : List ℕ) (grids : List Float) (h
       below : group_at f bx by < groups
       below = omega (arith, here, h.table.entries)
 
-      present-holds : presence t r.group ≡ 1 → Holds t grids r
-      present-holds p =
+      present-holds : present t r.group ≡ true → Holds t grids r
+      present-holds is-present =
+          let p : presence t r.group ≡ 1 = eqb-true (presence t r.group) 1 is-present in
           let g : r.group ≡ group_at f last by = is.group-is ∙ sym same-group in
           let l : r.group < groups = rw is.group-is below in
           let sides = grid-sides t r.group (none_below groups r.group (bad_grid t) h.sides l) p in
@@ -203,33 +202,21 @@ module _ (f : Frame) (b : Blocks) (t : List ℕ) (grids : List Float) (modular :
       let z : o ≡ blocks_down b * blocks_across b = e ∙ rw (d, q) in
       is ∙ rw z (fill-whole s₀ (blocks_down b * blocks_across b) _ l)
 
-pub row_fits : (f : Frame) (sizes : GroupSizes) (b : Blocks) (t : List ℕ) (grids : List Float) → AllFits f sizes b t grids → (n y : ℕ) → n ≡ blocks_across b → y < blocks_down b
-    → RowFits f sizes t grids (record { left = b.left; by = b.top + y; across = n })
+pub row_fits : (f : Frame) (b : Blocks) (t : List ℕ) → BlocksFit b → some_not_held f b t ≡ false → (n y : ℕ) → n ≡ blocks_across b → y < blocks_down b
+    → RowFits f t (record { left = b.left; by = b.top + y; across = n })
 unfolding some_not_held
-row_fits f sizes b t grids h n y q l =
+row_fits f b t fit held n y q l =
     rw q (record {
-      grids-of = h.grids-of;
-      left_le = h.blocks-fit.left_le;
-      across-le = across-le b h.blocks-fit;
-      held_all = none_below (blocks_down b) y _ h.held_all l;
+      left_le = fit.left_le;
+      across-le = across-le b fit;
+      held_all = none_below (blocks_down b) y _ held l;
     })
 
--- an accepted call with the EPF on, and the sizes from `group_sizes`
-pub all-fits : (f : Frame) (b : Blocks) (t : List ℕ) (grids : List Float) (n on : ℕ) (answer : FrameAnswer) → Accepted on f b t grids n → flag_set on ≡ true
-    → answer ≡ frame_outcome f → AllFits f answer.sizes b t grids
-all-fits f b t grids n on answer h o e =
+-- the grids of an accepted call
+pub grids-of : (on : ℕ) (f g : Frame) (b : Blocks) (t u : List ℕ) (grids : List Float) (n : ℕ) (sizes : GroupSizes) → Accepted on f b t grids n → TableOf g sizes u → g ≡ f → u ≡ t → GridsOf g sizes u grids
+grids-of on f g b t u grids n sizes a h e i =
     record {
-      grids-of =
-          record {
-            table =
-                record {
-                  sound = frame-sound f h.frame-fits;
-                  sizes-are = ap (λ (a : FrameAnswer). a.sizes) e ∙ frame-sizes f h.frame-fits;
-                  entries = h.entries;
-                };
-            sides = h.sides;
-            cells_are = h.cells_are;
-          };
-      blocks-fit = h.blocks;
-      held_all = h.held_all o;
+      table = h;
+      sides = rw (e, i) a.sides;
+      cells_are = rw (e, i) a.cells_are;
     }

@@ -1,15 +1,13 @@
 -- How block sigmas are written: row of blocks by row, each row in runs. A run is a part of a row of blocks that lies in one group. Definitions only.
-use Rattle.std.specs.Prelude.{◌≡◌, false, cond, List, ℕ, ◌+◌, ◌-◌, ◌*◌, ◌<◌, ◌≤◌, ltb, length, get_or, Float}
+use Rattle.std.specs.Prelude.{◌≡◌, true, false, cond, List, ℕ, ◌+◌, ◌-◌, ◌*◌, ◌<◌, ◌≤◌, ltb, length, get_or, Float}
 use Rattle.std.specs.Float.{nan}
 use Rattle.frame.specs.declared.Frame.{Frame}
 use Rattle.frame.specs.declared.GroupSizes.{GroupSizes}
 use Rattle.frame.specs.Sizes.{group_dim_of, inner_of, sizes_of}
-use Rattle.sigma_groups.specs.declared.blocks.Blocks.{Blocks}
 use Rattle.sigma.specs.declared.Run.{Run}
 use Rattle.sigma.specs.declared.BlockRow.{BlockRow}
-use Rattle.sigma_grids.specs.Table.{presence, grid_width, grid_height, grid_start, bad_grid, some_below}
-use Rattle.sigma_groups.specs.BlocksFit.{BlocksFit}
-use Rattle.sigma_groups.specs.Held.{group_at, not_held, some_not_held}
+use Rattle.sigma_grids.specs.Table.{present, grid_width, grid_height, grid_start, bad_grid, some_below}
+use Rattle.sigma_groups.specs.Held.{group_at, not_held}
 use Rattle.sigma.specs.Sigma.{frame_sigma}
 use Rattle.sigma_groups.specs.Fitting.{TableOf}
 
@@ -31,7 +29,7 @@ pub record RunFits (t : List ℕ) (grids : List Float) (r : Run) : Type 0 where
   pub entry : 3 * r.group + 3 ≤ length t
   pub table-le : length t ≤ 768
   pub before : some_below r.group (bad_grid t) ≡ false
-  pub holds : presence t r.group ≡ 1 → Holds t grids r
+  pub holds : present t r.group ≡ true → Holds t grids r
 
 -- ---- runs of a row of blocks
 
@@ -56,14 +54,7 @@ module _ (f : Frame) (t : List ℕ) (grids : List Float) (modular : Float) (s₀
   row_sigma x = frame_sigma f t grids modular (above_in s₀ r.across modular (o + x)) (r.left + x) r.by
 
 -- a row of blocks, each of them held
-pub record RowFits (f : Frame) (sizes : GroupSizes) (t : List ℕ) (grids : List Float) (r : BlockRow) : Type 0 where
-  pub grids-of : GridsOf f sizes t grids
+pub record RowFits (f : Frame) (t : List ℕ) (r : BlockRow) : Type 0 where
   pub left_le : r.left ≤ 131072
   pub across-le : r.across ≤ 2048
   pub held_all : some_below r.across (λ x. not_held f t (r.left + x) r.by) ≡ false
-
--- the conditions for all rows of a filter region
-pub record AllFits (f : Frame) (sizes : GroupSizes) (b : Blocks) (t : List ℕ) (grids : List Float) : Type 0 where
-  pub grids-of : GridsOf f sizes t grids
-  pub blocks-fit : BlocksFit b
-  pub held_all : some_not_held f b t ≡ false

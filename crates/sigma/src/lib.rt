@@ -1,20 +1,23 @@
 // The sigma of each block of a filter region, from the frame's groups and their grids (Specification 7.6).
 #![tactic(auto)]
 
-ghost use Rattle.std.specs.Prelude.{◌≡◌, ℕ, ◌+◌, ◌*◌, ◌<◌, ◌≤◌, length};
+ghost use Rattle.std.specs.Prelude.{◌≡◌, false, ℕ, ◌+◌, ◌*◌, ◌<◌, ◌≤◌, length};
+ghost use Rattle.refusals.specs.Refusals.{number_of};
 ghost use Rattle.planes.specs.Fill.{fill};
 ghost use Rattle.frame.specs.Sizes.{group_of, sizes_of};
-ghost use Rattle.frame.specs.Sound.{Sound};
+ghost use Rattle.sigma_groups.specs.Held.{some_not_held};
 ghost use Rattle.sigma_groups.specs.Measures.{blocks_across, blocks_down};
 ghost use Rattle.sigma.specs.Sigma.{missing, sigma_in, block_sigmas};
 ghost use Rattle.sigma.specs.Outcome.{SigmasOutcome, sigmas_outcome};
-ghost use Rattle.sigma.specs.Runs.{above_in, row_sigma, RunFits, RunOf, RowFits, AllFits};
+ghost use Rattle.sigma.specs.Runs.{above_in, row_sigma, RunFits, RunOf, GridsOf, RowFits};
 
-use frame::{Frame, GroupSizes};
+use frame::{Frame, SoundFrame};
 use limits::min_u32;
 use planes::copy_run;
-use sigma_grids::{ENTRY, PRESENT};
-use sigma_groups::blocks::{Blocks, blocks_along};
+use refusals::Refusal;
+use sigma_grids::{cells_before, grid_of};
+use sigma_groups::blocks::{Blocks, SoundBlocks};
+use sigma_groups::groups::Groups;
 
 // The sigma of a block whose grid is missing, from `sigma_for_modular` and the sigma of the block above.
 fn missing(_modular: f32, above: f32) -> f32
@@ -41,11 +44,8 @@ fn fill_missing(modular: f32, across: u32, sigmas: &mut [f32], at: usize, n: u32
 {
     let across = across as usize;
     let end = n as usize;
-    let mut i = 0;
-    while i < end {
-        let v = missing(modular, above(sigmas, across, modular, at + i));
-        sigmas[at + i] = v;
-        i += 1;
+    for i in 0..end {
+        sigmas[at + i] = missing(modular, above(sigmas, across, modular, at + i));
     }
 }
 
@@ -58,51 +58,6 @@ struct Run {
     n: u32,
 }
 
-// Writes the sigmas of a run at index `at`.
-fn fill_run(
-    table: &[u32],
-    grids: &[f32],
-    run: Run,
-    modular: f32,
-    across: u32,
-    sigmas: &mut [f32],
-    at: usize,
-)
-    requires { RunFits table.now grids.now run × (at + run.n ≤ length sigmas.old) × (run.n ≤ across) }
-    ensures { sigmas.new ≡ fill sigmas.old at run.n
-        (λ (i : ℕ). sigma_in table.now grids.now modular
-        (above_in sigmas.old across modular (at + i)) run.group (run.column + i) run.row) }
-{
-    let entry = ENTRY * run.group as usize;
-    if table[entry] != PRESENT {
-        fill_missing(modular, across, sigmas, at, run.n);
-        return;
-    }
-    let width = table[entry + 1] as usize;
-    let answer = sigma_grids::grid_start(table, run.group);
-    let from = answer.start + (run.row as usize * width + run.column as usize);
-    copy_run(sigmas, at, grids, from, run.n as usize);
-}
-
-// The run that starts at block (bx, by) and has at most `limit` blocks.
-fn run_at(frame: Frame, sizes: GroupSizes, bx: u32, by: u32, limit: u32) -> Run
-    requires sound { Sound frame × (sizes ≡ sizes_of frame) × (0 < limit) }
-    requires group_size_shift_bound { (group_of bx frame.group_size_shift < (sizes_of frame).groups_per_row)
-        × (group_of by frame.group_size_shift < (sizes_of frame).groups_per_column) }
-    ensures { RunOf frame bx by limit result }
-{
-    let column = frame::split_block(bx, frame.group_size_shift);
-    let row = frame::split_block(by, frame.group_size_shift);
-    let group = row.group * sizes.groups_per_row + column.group;
-    let n = min_u32(sizes.group_dim - column.inner, limit);
-    Run {
-        group,
-        column: column.inner,
-        row: row.inner,
-        n,
-    }
-}
-
 // A row of blocks of the filter region: its first block (left, by) in the frame, and the number of blocks across.
 #[derive(Clone, Copy)]
 struct BlockRow {
@@ -111,61 +66,93 @@ struct BlockRow {
     across: u32,
 }
 
-// Writes the sigmas of a row of blocks at index o.
-fn fill_row(
-    frame: Frame,
-    sizes: GroupSizes,
-    table: &[u32],
-    grids: &[f32],
+// The groups of a frame, and the grids slice that their table describes. `modular` is the sigma above the filter region.
+#[derive(Clone, Copy)]
+struct Grids<'a> {
+    groups: Groups<'a>,
+    grids: &'a [f32],
     modular: f32,
-    row: BlockRow,
-    sigmas: &mut [f32],
-    o: usize,
-)
-    requires { RowFits frame sizes table.now grids.now row × (o + row.across ≤ length sigmas.old) }
-    ensures { sigmas.new ≡ fill sigmas.old o row.across
-        (row_sigma frame table.now grids.now modular sigmas.old o row) }
-{
-    let across = row.across;
-    let mut x = 0;
-    while x < across {
-        let run = run_at(frame, sizes, row.left + x, row.by, across - x);
-        fill_run(table, grids, run, modular, across, sigmas, o + x as usize);
-        x += run.n;
+    ghost described: { GridsOf groups.frame.frame groups.sizes groups.table.now grids.now },
+}
+
+impl<'a> Grids<'a> {
+    // Writes the sigmas of a run at index `at`.
+    fn fill_run(self, run: Run, across: u32, sigmas: &mut [f32], at: usize)
+        requires { RunFits self.groups.table.now self.grids.now run × (at + run.n ≤ length sigmas.old) × (run.n ≤ across) }
+        ensures { sigmas.new ≡ fill sigmas.old at run.n
+            (λ (i : ℕ). sigma_in self.entry.groups.table.now self.entry.grids.now self.entry.modular
+            (above_in sigmas.old across self.entry.modular (at + i)) run.group (run.column + i) run.row) }
+    {
+        let group = run.group as usize;
+        match grid_of(self.groups.table, group) {
+            None => fill_missing(self.modular, across, sigmas, at, run.n),
+            Some(grid) => {
+                let first = cells_before(self.groups.table, group);
+                let from = first + (run.row as usize * grid.width as usize + run.column as usize);
+                copy_run(sigmas, at, self.grids, from, run.n as usize);
+            }
+        }
+    }
+
+    // The run that starts at block (bx, by) and has at most `limit` blocks.
+    fn run_at(self, bx: u32, by: u32, limit: u32) -> Run
+        requires limit { 0 < limit }
+        requires in_row { group_of bx self.groups.frame.frame.group_size_shift
+            < (sizes_of self.groups.frame.frame).groups_per_row }
+        requires in_column { group_of by self.groups.frame.frame.group_size_shift
+            < (sizes_of self.groups.frame.frame).groups_per_column }
+        ensures { RunOf self.entry.groups.frame.frame bx by limit result }
+    {
+        let sizes = self.groups.sizes;
+        let shift = self.groups.frame.shift();
+        let column = shift.split(bx);
+        let row = shift.split(by);
+        let group = row.group * sizes.groups_per_row + column.group;
+        let n = min_u32(sizes.group_dim - column.inner, limit);
+        Run {
+            group,
+            column: column.inner,
+            row: row.inner,
+            n,
+        }
+    }
+
+    // Writes the sigmas of a row of blocks at index o.
+    fn fill_row(self, row: BlockRow, sigmas: &mut [f32], o: usize)
+        requires { RowFits self.groups.frame.frame self.groups.table.now row × (o + row.across ≤ length sigmas.old) }
+        ensures { sigmas.new ≡ fill sigmas.old o row.across
+            (row_sigma self.entry.groups.frame.frame self.entry.groups.table.now self.entry.grids.now
+            self.entry.modular sigmas.old o row) }
+    {
+        let across = row.across;
+        let mut x = 0;
+        while x < across {
+            let run = self.run_at(row.left + x, row.by, across - x);
+            self.fill_run(run, across, sigmas, o + x as usize);
+            x += run.n;
+        }
+    }
+
+    // Writes the sigmas of a filter region, row of blocks by row.
+    fn fill_rows(self, region: SoundBlocks, sigmas: &mut [f32])
+        requires { (some_not_held self.groups.frame.frame region.blocks self.groups.table.now ≡ false)
+            × (length sigmas.old ≡ blocks_down region.blocks * blocks_across region.blocks) }
+        ensures { sigmas.new ≡ block_sigmas self.entry.groups.frame.frame region.blocks
+            self.entry.groups.table.now self.entry.grids.now self.entry.modular }
+    {
+        let across = region.across();
+        for y in 0..region.down() {
+            let row = BlockRow {
+                left: region.blocks.left,
+                by: region.blocks.top + y,
+                across,
+            };
+            self.fill_row(row, sigmas, (y * across) as usize);
+        }
     }
 }
 
-fn fill_rows(
-    frame: Frame,
-    sizes: GroupSizes,
-    blocks: Blocks,
-    table: &[u32],
-    grids: &[f32],
-    modular: f32,
-    sigmas: &mut [f32],
-)
-    requires { AllFits frame sizes blocks table.now grids.now
-        × (length sigmas.old ≡ blocks_down blocks * blocks_across blocks) }
-    ensures { sigmas.new ≡ block_sigmas frame blocks table.now grids.now modular }
-{
-    let across = blocks_along(blocks.width);
-    let down = blocks_along(blocks.height);
-    let mut y = 0;
-    let mut o = 0;
-    while y < down {
-        let row = BlockRow {
-            left: blocks.left,
-            by: blocks.top + y,
-            across,
-        };
-        fill_row(frame, sizes, table, grids, modular, row, sigmas, o);
-        o += across as usize;
-        y += 1;
-    }
-}
-
-// Writes the sigma of each block of the filter region, row of blocks by row (Specification 7.9). Returns the number of
-// the refusal, or 0.
+// Writes the sigma of each block of the filter region, row of blocks by row (Specification 7.9).
 pub fn block_sigmas(
     on: u32,
     frame: Frame,
@@ -174,28 +161,22 @@ pub fn block_sigmas(
     grids: &[f32],
     sigma_for_modular: f32,
     sigmas: &mut [f32],
-) -> u32
-    ensures { ◌≡◌ {A = SigmasOutcome} (record { number = result; sigmas = sigmas.new })
+) -> Result<(), Refusal>
+    ensures { ◌≡◌ {A = SigmasOutcome} (record { number = number_of result; sigmas = sigmas.new })
         (sigmas_outcome on frame blocks table.now grids.now sigma_for_modular
         sigmas.old) }
 {
-    let number = sigma_groups::check(on, frame, blocks, table, grids, sigmas.len());
-    if number != refusals::ACCEPTED {
-        return number;
-    }
+    sigma_groups::check(on, frame, blocks, table, grids, sigmas.len())?;
     if !refusals::flag_set(on) {
-        return number;
+        return Ok(());
     }
-    let answer = frame::group_sizes(frame);
-    let sizes = answer.sizes;
-    fill_rows(
-        frame,
-        sizes,
-        blocks,
-        table,
+    let region = SoundBlocks::new(blocks)?;
+    let groups = Groups::new(SoundFrame::new(frame)?, table)?;
+    let grids = Grids {
+        groups,
         grids,
-        sigma_for_modular,
-        sigmas,
-    );
-    number
+        modular: sigma_for_modular,
+    };
+    grids.fill_rows(region, sigmas);
+    Ok(())
 }

@@ -1,6 +1,6 @@
 -- Laws of the group table: searches over its entries, the cells of a grid, and where grids start and end. Assumes nothing.
 use mathlib.Core.Path.{◌≡◌, refl, sym, ap, ◌∙◌}
-use mathlib.Core.Bool.{Bool, true, false, false≢true, ◌||◌}
+use mathlib.Core.Bool.{Bool, true, false, false≢true, cond, ◌||◌}
 use mathlib.Core.List.{List}
 use mathlib.Core.Logic.{⊎_elim}
 use Prim.Native.Nat.{ℕ, zero, suc, ◌+◌, ◌*◌, ◌<◌, ◌≤◌}
@@ -11,7 +11,7 @@ use native.Mathlib.Omega.{arith}
 use borrow.Author.Tests.{le-ltb, ltb-false, leb-false, eq-eqb, ne_eqb}
 use lib.Dec.{ltb, leb}
 use lib.ListN.{length}
-use Rattle.sigma_grids.specs.declared.StartAnswer.{StartAnswer}
+use Rattle.refusals.specs.Numbers.{accepted, out_of_limits}
 use Rattle.sigma_grids.specs.Table.{presence, grid_width, grid_height, bad_grid_side, bad_grid, cells, grid_lacks_block, grid_start, some_below}
 use Rattle.sigma_grids.specs.Start.{no_entries, start_outcome}
 
@@ -122,30 +122,27 @@ start-ends t g (suc n) l =
     (λ (m : g < n). omega (arith, start-ends t g n m))
     (eq-or-lt_of_le (le_of_suc-le-suc l))
 
--- the start of the grid of a group that has an entry in the table
-pub start-accepted : (t : List ℕ) (g : ℕ) → length t ≤ 768 → 3 * g ≤ length t → some_below g (bad_grid t) ≡ false → start_outcome t g ≡ record { number = 0; start = grid_start t g }
+-- a table that has the entries before a group, and no more than a frame has groups
+pub entries-fit : (t : List ℕ) (g : ℕ) → no_entries t g ≡ false → (length t ≤ 768) × (3 * g ≤ length t)
 unfolding no_entries
-start-accepted t g l m b = rw (le-ltb 768 (length t) l, le-ltb (length t) (3 * g) m, b)
+entries-fit t g h = let n = neither (ltb 768 (length t)) (ltb (length t) (3 * g)) h in (ltb-false 768 (length t) n.0, ltb-false (length t) (3 * g) n.1)
 
--- what the answer for such a group says of the grids before it
-module _ (t : List ℕ) (g : ℕ) (a : StartAnswer) (l : length t ≤ 768) (m : 3 * g ≤ length t) (e : a ≡ start_outcome t g) where
-  pub start_outside : some_below g (bad_grid t) ≡ true → a ≡ record { number = 4; start = 0 }
+-- for such a table the number of `grid_start` says whether a grid before the group has a side out of range
+module _ (t : List ℕ) (g : ℕ) (l : length t ≤ 768) (m : 3 * g ≤ length t) where
+  pub start-number : (start_outcome t g).number ≡ cond (some_below g (bad_grid t)) out_of_limits accepted
   unfolding no_entries
-  start_outside b = e ∙ rw (le-ltb 768 (length t) l, le-ltb (length t) (3 * g) m, b)
+  start-number = rw (le-ltb 768 (length t) l, le-ltb (length t) (3 * g) m)
 
-  pub start-inside : some_below g (bad_grid t) ≡ false → a ≡ record { number = 0; start = grid_start t g }
-  start-inside b = e ∙ start-accepted t g l m b
-
-  pub refused-bad : a.number ≡ 4 → some_below g (bad_grid t) ≡ true
-  refused-bad r = go (some_below g (bad_grid t)) refl
+  pub start-passed : 0 ≡ (start_outcome t g).number → some_below g (bad_grid t) ≡ false
+  start-passed z = go (some_below g (bad_grid t)) (z ∙ start-number)
     where
-      go : (b : Bool) → some_below g (bad_grid t) ≡ b → b ≡ true
-      go true z = refl
-      go false z = absurd (omega (arith, r, ap (λ (x : StartAnswer). x.number) (start-inside z)))
+      go : (b : Bool) → 0 ≡ cond b out_of_limits accepted → b ≡ false
+      go true e = absurd (omega arith)
+      go false e = refl
 
-  pub passed-good : (a.number ≡ 4 → ⊥) → some_below g (bad_grid t) ≡ false
-  passed-good r = go (some_below g (bad_grid t)) refl
+  pub start-refused : (n : ℕ) → 0 < n → n ≡ (start_outcome t g).number → (some_below g (bad_grid t) ≡ true) × (n ≡ out_of_limits)
+  start-refused n p z = go (some_below g (bad_grid t)) (z ∙ start-number)
     where
-      go : (b : Bool) → some_below g (bad_grid t) ≡ b → b ≡ false
-      go true z = absurd (r (ap (λ (x : StartAnswer). x.number) (start_outside z)))
-      go false z = refl
+      go : (b : Bool) → n ≡ cond b out_of_limits accepted → (b ≡ true) × (n ≡ out_of_limits)
+      go true e = (refl, e)
+      go false e = absurd (omega arith)

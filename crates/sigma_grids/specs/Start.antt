@@ -2,7 +2,6 @@
 use Rattle.std.specs.Prelude.{Bool, cond, not, ◌||◌, List, [], ◌∷◌, ℕ, ◌*◌, ltb, eqb, length}
 use Rattle.refusals.specs.Numbers.{out_of_limits, wrong_length}
 use Rattle.refusals.specs.Checks.{Check, always, given, first_of}
-use Rattle.sigma_grids.specs.declared.StartAnswer.{StartAnswer}
 use Rattle.sigma_grids.specs.Table.{grid_start, bad_grid, some_below}
 
 -- the table lacks an entry for a group before this one, or has more entries than a frame has groups
@@ -15,6 +14,11 @@ start_checks t group =
     given (not (no_entries t group)) out_of_limits (some_below group (bad_grid t))
     ∷ always wrong_length (no_entries t group)
     ∷ []
+
+-- a number, and a start
+pub record StartAnswer : Type 0 where
+  pub number : ℕ
+  pub start : ℕ
 
 -- a refusal has start 0
 abbrev pub start_answered : ℕ → ℕ → StartAnswer

@@ -1,9 +1,13 @@
 // The group table of a frame, and where each group's grid starts in the grids slice (Specification 7.4).
 #![tactic(auto)]
 
-ghost use Rattle.std.specs.Prelude.{◌≡◌, false, ◌+◌, ◌*◌, ◌≤◌, length};
-ghost use Rattle.sigma_grids.specs.Table.{bad_grid_side, bad_grid, cells, grid_start, some_below};
-ghost use Rattle.sigma_grids.specs.Start.{start_outcome};
+ghost use Rattle.std.specs.Prelude.{◌≡◌, true, false, ◌+◌, ◌*◌, ◌^◌, ◌<◌, ◌≤◌, length, MatchOption};
+ghost use Rattle.refusals.specs.Refusals.{IsOutcome};
+ghost use Rattle.sigma_grids.specs.Table.{present, grid_width, grid_height, bad_grid_side, bad_grid};
+ghost use Rattle.sigma_grids.specs.Table.{cells, grid_start, some_below};
+ghost use Rattle.sigma_grids.specs.Start.{no_entries, start_outcome};
+
+use refusals::Refusal;
 
 const MAX_GRID_SIDE: u32 = 1_024;
 
@@ -15,105 +19,103 @@ pub const PRESENT: u32 = 1;
 // At most 256 groups: 16 × 16 of 1,024 × 1,024 samples.
 const MAX_TABLE: usize = 768;
 
-#[repr(C)]
+// The sides of a group's grid, in cells.
 #[derive(Clone, Copy)]
-pub struct StartAnswer {
-    pub number: u32,
-    pub start: usize,
+pub struct Grid {
+    pub width: u32,
+    pub height: u32,
+}
+
+// The grid of a group, or `None` if it is missing. The table has an entry for the group.
+pub fn grid_of(table: &[u32], group: usize) -> Option<Grid>
+    requires { 3 * group + 3 ≤ length table.now }
+    ensures { MatchOption result (present table.now group ≡ false)
+        (λ grid. (present table.now group ≡ true) × (grid.width ≡ grid_width table.now group)
+        × (grid.height ≡ grid_height table.now group)) }
+{
+    let entry = ENTRY * group;
+    if table[entry] != PRESENT {
+        return None;
+    }
+    Some(Grid {
+        width: table[entry + 1],
+        height: table[entry + 2],
+    })
 }
 
 fn bad_side(side: u32) -> bool
     ensures { result ≡ bad_grid_side side }
 {
-    if side < 1 {
-        return true;
-    }
-    MAX_GRID_SIDE < side
+    side < 1 || MAX_GRID_SIDE < side
 }
 
 // Whether a grid is present and has a side out of range.
+#[tactic(auto, unfolding(crate::specs::Table::bad_grid))]
 fn bad_grid(table: &[u32], group: usize) -> bool
     requires { 3 * group + 3 ≤ length table.now }
     ensures { result ≡ bad_grid table.now group }
 {
-    let entry = ENTRY * group;
-    if table[entry] != PRESENT {
-        return false;
+    match grid_of(table, group) {
+        None => false,
+        Some(grid) => bad_side(grid.width) || bad_side(grid.height),
     }
-    if bad_side(table[entry + 1]) {
-        return true;
-    }
-    bad_side(table[entry + 2])
 }
 
 fn some_bad_grid(table: &[u32], groups: usize) -> bool
     requires { 3 * groups ≤ length table.now }
     ensures { result ≡ some_below groups (bad_grid table.now) }
 {
-    let mut g = 0;
-    while g < groups {
+    for g in 0..groups {
         if bad_grid(table, g) {
             return true;
         }
-        g += 1;
     }
     false
 }
 
 // The number of cells of a group in the grids slice.
+#[tactic(auto, unfolding(crate::specs::Table::cells))]
 fn cells(table: &[u32], group: usize) -> usize
     requires { (3 * group + 3 ≤ length table.now) × (bad_grid table.now group ≡ false) }
     ensures { result ≡ cells table.now group }
 {
-    let entry = ENTRY * group;
-    if table[entry] != PRESENT {
-        return 0;
+    match grid_of(table, group) {
+        None => 0,
+        Some(grid) => grid.width as usize * grid.height as usize,
     }
-    wide(table[entry + 1]) * wide(table[entry + 2])
 }
 
-fn wide(x: u32) -> usize
-    ensures { result ≡ x }
-{
-    x as usize
-}
-
-// The number of cells of all groups before this one.
-fn cells_before(table: &[u32], group: usize) -> usize
+// The number of cells of all groups before this one, whose grids have sides in range: where this group's grid starts.
+pub fn cells_before(table: &[u32], group: usize) -> usize
     requires { (3 * group ≤ length table.now) × (group ≤ 256) × (some_below group (bad_grid table.now) ≡ false) }
     ensures { result ≡ grid_start table.now group }
 {
     let mut start = 0;
-    let mut g = 0;
-    while g < group {
+    for g in 0..group {
         start += cells(table, g);
-        g += 1;
     }
     start
 }
 
-fn no_start(number: u32) -> StartAnswer
-    ensures { result ≡ record { number = number; start = 0 } }
+// Whether the table lacks an entry for a group before this one, or has more entries than a frame has groups.
+#[tactic(auto, unfolding(crate::specs::Start::no_entries))]
+fn no_entries(table: &[u32], group: usize) -> bool
+    requires { group < 2 ^ 32 }
+    ensures { result ≡ no_entries table.now group }
 {
-    StartAnswer { number, start: 0 }
+    MAX_TABLE < table.len() || table.len() < ENTRY * group
 }
 
 // The start of a group's grid in the grids slice, or refusal 4 or 7.
-pub fn grid_start(table: &[u32], group: u32) -> StartAnswer
-    ensures { result ≡ start_outcome table.now group }
+pub fn grid_start(table: &[u32], group: u32) -> Result<usize, Refusal>
+    ensures { IsOutcome result (start_outcome table.now group).number (grid_start table.now group) }
 {
     let before = group as usize;
-    if MAX_TABLE < table.len() {
-        return no_start(refusals::WRONG_LENGTH);
-    }
-    if table.len() < ENTRY * before {
-        return no_start(refusals::WRONG_LENGTH);
+    if no_entries(table, before) {
+        return Err(Refusal::WrongLength);
     }
     if some_bad_grid(table, before) {
-        return no_start(refusals::OUT_OF_LIMITS);
+        return Err(Refusal::OutOfLimits);
     }
-    StartAnswer {
-        number: refusals::ACCEPTED,
-        start: cells_before(table, before),
-    }
+    Ok(cells_before(table, before))
 }

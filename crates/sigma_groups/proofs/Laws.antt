@@ -1,6 +1,6 @@
 -- Laws of the blocks in groups, and of accepted inputs. Assumes nothing.
-use mathlib.Core.Path.{◌≡◌, refl, sym, ap, ◌∙◌}
-use mathlib.Core.Bool.{Bool, true, false, cond}
+use mathlib.Core.Path.{◌≡◌, sym, ap, ◌∙◌}
+use mathlib.Core.Bool.{true, false}
 use mathlib.Core.List.{List}
 use Prim.Native.Nat.{ℕ, ◌+◌, ◌*◌, ◌<◌, ◌≤◌}
 use native.Mathlib.Nat.{mul_comm}
@@ -12,11 +12,10 @@ use lib.ListN.{length}
 use lib.Ieee.{Float}
 use Rattle.frame.specs.declared.Frame.{Frame}
 use Rattle.frame.specs.declared.GroupSizes.{GroupSizes}
-use Rattle.frame.specs.declared.SplitAnswer.{SplitAnswer}
 use Rattle.frame.specs.Sizes.{group_of, inner_of, sizes_of}
-use Rattle.frame.proofs.Laws.{Bounded, sizes-bounded, split-accepted}
-use Rattle.frame.specs.Outcome.{bad_sides, bad_settings, frame_checks, split_outcome}
-use Rattle.refusals.specs.Numbers.{accepted, out_of_limits, out_of_range}
+use Rattle.frame.proofs.Laws.{Bounded, sizes-bounded}
+use Rattle.frame.specs.Outcome.{bad_sides, bad_settings, frame_checks}
+use Rattle.refusals.specs.Numbers.{accepted}
 use Rattle.refusals.specs.Checks.{first_of}
 use Rattle.refusals.specs.Flags.{flag_fits, flag_set}
 use Rattle.refusals.proofs.Rows.{here, below, row-passed}
@@ -29,13 +28,6 @@ use Rattle.sigma_grids.proofs.Laws.{neither}
 use Rattle.sigma_groups.specs.Held.{group_at, not_held, some_not_held}
 use Rattle.sigma_groups.specs.Outcome.{table_fits, some_group, grids_fit, sigma_count, frame_sides, grid_sides, table_length, grids_length, frame_settings, presences, blocks_in_limits, sigmas_counted, region_held, flag_in_range, sigma_checks, sigma_number}
 use Rattle.sigma_groups.specs.Fitting.{TableOf}
-
--- from the answer of `split_block`
-pub split-group : (b s : ℕ) (a : SplitAnswer) → s ≤ 3 → a ≡ split_outcome b s → a.group ≡ group_of b s
-split-group b s a l e = ap (λ (r : SplitAnswer). r.group) (e ∙ split-accepted b s l)
-
-pub split-inner : (b s : ℕ) (a : SplitAnswer) → s ≤ 3 → a ≡ split_outcome b s → a.inner ≡ inner_of b s
-split-inner b s a l e = ap (λ (r : SplitAnswer). r.inner) (e ∙ split-accepted b s l)
 
 module _ (f : Frame) (sizes : GroupSizes) (t : List ℕ) (h : TableOf f sizes t) where
   pub sizes-fit : Bounded sizes
@@ -71,27 +63,7 @@ held f t bx by h =
       in-grid = g.1;
     }
 
--- ---- refused and accepted inputs
-
--- from the number of a frame to the values that are out of range
-pub sides-bad : (a b : Bool) → cond a out_of_limits (cond b out_of_range accepted) ≡ 4 → a ≡ true
-sides-bad true b e = refl
-sides-bad false true e = absurd (omega arith)
-sides-bad false false e = absurd (omega arith)
-
-pub sides-fit : (a b : Bool) → (cond a out_of_limits (cond b out_of_range accepted) ≡ 4 → ⊥) → a ≡ false
-sides-fit true b e = absurd (e refl)
-sides-fit false b e = refl
-
-pub settings-bad : (a b : Bool) → (cond a out_of_limits (cond b out_of_range accepted) ≡ 4 → ⊥) → (cond a out_of_limits (cond b out_of_range accepted) ≡ 0 → ⊥) → b ≡ true
-settings-bad true b e n = absurd (e refl)
-settings-bad false true e n = refl
-settings-bad false false e n = absurd (n refl)
-
-pub settings-fit : (a b : Bool) → cond a out_of_limits (cond b out_of_range accepted) ≡ 0 → (a ≡ false) × (b ≡ false)
-settings-fit true b e = absurd (omega arith)
-settings-fit false true e = absurd (omega arith)
-settings-fit false false e = (refl, refl)
+-- ---- accepted inputs
 
 -- Accepted inputs: the numbers of frame and filter region are in range, and lengths, grids and blocks fit.
 pub record Accepted (on : ℕ) (f : Frame) (b : Blocks) (t : List ℕ) (grids : List Float) (n : ℕ) : Type 0 where

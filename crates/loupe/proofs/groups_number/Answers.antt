@@ -27,4 +27,4 @@ one-alone f t grids = go (table_read f t) refl
 pub returns : goal.returns
 returns c =
     let a = c.args in
-    c.check.ensures ∙ rw c.one_block.ensures (one-alone a.frame a.table.now a.grids.now)
+    c.number_of.ensures ∙ c.check.ensures ∙ rw c.one_block.ensures (one-alone a.frame a.table.now a.grids.now)

@@ -1,7 +1,6 @@
 -- `run_start::picture_number` meets its contract. Assumes nothing.
 use mathlib.Core.Path.{ap, ◌∙◌}
 use Rattle.region_placement.specs.declared.PlacedAnswer.{PlacedAnswer}
-use Rattle.run_start.specs.Lowest.{lowest}
 use Rattle.run_start.specs.Pieces.{number_of}
 use Rattle.run_start.proofs.picture_number.Goals as goal
 

@@ -13,4 +13,4 @@ loop-i-preserved c =
     let i : ℕ = c.loop-i.i in
     let repeated : c.above.result ≡ above_in a.sigmas.now a.across a.modular (a.at + i) =
     c.above.ensures ∙ rw c.loop-i.invariant.held (above_same a.sigmas.now a.across a.modular a.at i _ (a.at + i) (omega (arith, c.loop-i-test.true, c.requires.1))) in
-    written-more c.loop-i.invariant (omega arith) (c.missing-v.ensures ∙ repeated)
+    written-more c.loop-i.invariant (omega arith) (c.missing.ensures ∙ repeated)
