@@ -4,11 +4,14 @@ use mathlib.Core.List.{List}
 use Prim.Native.Nat.{ℕ, zero, suc, ◌+◌, ◌-◌, ◌<◌, ◌≤◌}
 use native.Mathlib.Decide.{dec_lt}
 use native.Mathlib.Omega.{arith}
-use lib.ListN.{length, get_or, set}
+use lib.ListN.{length, get_or, set, take}
 use lib.Seq.{get_or-set_same, get_or-set_other, ext_get_or}
 use lib.Ieee.{Float, nan}
+use borrow.Rule.Slice.PartMut.{put_mid}
+use Rattle.std.proofs.Common.{rules, length-append, length-drop}
+use Rattle.std.proofs.lemmas.List.{places, length-take-le}
 use Rattle.planes.specs.Fill.{fill}
-use Rattle.planes.proofs.Fill.{length-fill, fill-before, fill-after}
+use Rattle.planes.proofs.Fill.{length-fill, fill-before, fill-after, fill-at}
 use Rattle.planes.proofs.Loop.{Written, written-more}
 
 -- an index of the run that is inside the list
@@ -71,3 +74,31 @@ pub run_more : {d dst : List Float} {at n i : ℕ} {v : Float} (g : Float → �
 run_more {d = d} {dst = dst} {at = at} {i = i} g w l e =
     let same : get_or dst (at + i) nan ≡ get_or d (at + i) nan = rw w.held (fill-after d at i (λ (j : ℕ). g (get_or d (at + j) nan) j) (at + i) (omega arith)) in
     written-more w l (e ∙ rw same)
+
+-- the part of d from index `at` replaced by a list of n samples
+pub part-filled : (d part : List Float) (at n : ℕ) (f : ℕ → Float) → at + n ≤ length d → length part ≡ n → ((k : ℕ) → k < n → get_or part k nan ≡ f k)
+    → put_mid at (at + n - at) d part ≡ fill d at n f
+part-filled d part at n f p length-part g =
+    let size : at + n - at ≡ n = omega arith in
+    rw size (ext_get_or nan _ _ (length-put ∙ sym (length-fill d at n f)) each)
+  where
+    length-before : length (take at d) ≡ at
+    length-before = length-take-le at d (omega arith)
+
+    length-put : length (put_mid at n d part) ≡ length d
+    length-put = simp (length-append, length-part, length-before, length-drop) (omega arith)
+
+    each : (k : ℕ) → k < length (put_mid at n d part) → get_or (put_mid at n d part) k nan ≡ get_or (fill d at n f) k nan
+    each k l = go (dec_lt k at) (dec_lt k (at + n))
+      where
+        go : Dec (k < at) → Dec (k < at + n) → get_or (put_mid at n d part) k nan ≡ get_or (fill d at n f) k nan
+        go (yes a) b =
+            let here : get_or (put_mid at n d part) k nan ≡ get_or d k nan = search (rules, places) in
+            here ∙ sym (fill-before d at n f k a)
+        go (no a) (no b) =
+            let here : get_or (put_mid at n d part) k nan ≡ get_or d k nan = search (rules, places) in
+            here ∙ sym (fill-after d at n f k (omega arith))
+        go (no a) (yes b) =
+            let e : at + (k - at) ≡ k = omega arith in
+            let here : get_or (put_mid at n d part) k nan ≡ get_or part (k - at) nan = search (rules, places) in
+            here ∙ g (k - at) (omega arith) ∙ sym (rw e at (fill-at d at n f (k - at) p (omega arith)))

@@ -24,7 +24,7 @@ const PAST: usize = 188;
 const PAIRS: usize = 6;
 
 // The index in a window's plane where a neighbour's samples start, and where its distances start among the fields.
-#[derive(Clone, Copy)]
+#[derive(Clone, Copy, Debug, PartialEq, Eq)]
 pub struct Tap {
     pub index: usize,
     pub start: usize,
@@ -49,22 +49,14 @@ fn half(step: usize) -> usize
 fn shift_of_first(h: usize) -> usize
     ensures { result ≡ shift_of 0 h }
 {
-    if h == 0 {
-        return 1;
+    match h {
+        0 => 1,
+        1 => 2,
+        2 => STRIDE - 1,
+        3 => STRIDE,
+        4 => STRIDE + 1,
+        _ => 2 * STRIDE,
     }
-    if h == 1 {
-        return 2;
-    }
-    if h == 2 {
-        return STRIDE - 1;
-    }
-    if h == 3 {
-        return STRIDE;
-    }
-    if h == 4 {
-        return STRIDE + 1;
-    }
-    2 * STRIDE
 }
 
 // The same for every step.
@@ -191,7 +183,7 @@ fn add_nearby(
     }
 }
 
-// The same for step 2, which compares single samples.
+// The same for step 2, which compares single samples. It stands apart since it reads the window and stores no differences.
 fn add_single(
     fields: &mut [f32; FIELDS],
     at: usize,
@@ -247,9 +239,7 @@ fn clear(fields: &mut [f32; FIELDS], at: usize, n: usize)
     requires { at + n ≤ fields_length }
     ensures { fields.new ≡ fill fields.old at n (λ (i : ℕ). b0) }
 {
-    for i in 0..n {
-        fields[at + i] = 0.0;
-    }
+    fields[at..at + n].fill(0.0);
 }
 
 // Computes the distances of a run, between samples that lie k apart.

@@ -10,7 +10,7 @@ ghost use Rattle.epf_interior.specs.Inside.{far_at, weights_of, mix_of, lane_in,
 ghost use Rattle.epf_interior.specs.Inside.{inside_of, inside_filled};
 ghost use Rattle.epf_interior.specs.Divisor.{ThreeScalesBounded};
 
-use epf_rects::{Rect, rect_fits};
+use epf_rects::Rect;
 use epf_slopes::{SLOPES, first_slope};
 use epf_step::weight;
 use limits::BLOCK;
@@ -183,7 +183,7 @@ pub fn filter_inside(
     ensures { dst.new ≡ inside_filled l scales.now slopes.now top rect
         src.now dst.old }
 {
-    if !rect_fits(l, PLANES, rect, dst.len()) {
+    if !rect.fits(l, PLANES, dst.len()) {
         return;
     }
     if src.len() != dst.len() {

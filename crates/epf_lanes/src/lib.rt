@@ -9,7 +9,7 @@ ghost use Rattle.std.specs.Prelude.{◌≡◌};
 ghost use Rattle.epf_lanes.specs.Lanes.{lanes_stored};
 
 use crate::rows::{filter_planes, filter_three};
-use epf_rects::{Rect, rect_fits};
+use epf_rects::Rect;
 use epf_sizes::{FIELDS, LANES, TILE_ROWS, WINDOWS};
 use epf_slopes::SLOPES;
 use planes::{Layout, PLANES};
@@ -49,7 +49,7 @@ pub fn filter_tile(
     ensures { dst.new ≡ lanes_stored step fields.now slopes.now
         win.now l planes top rect dst.old }
 {
-    if !rect_fits(l, planes, rect, dst.len()) {
+    if !rect.fits(l, planes, dst.len()) {
         return;
     }
     if TILE_ROWS < rect.rows {

@@ -1,5 +1,8 @@
 // The rows of a tile, stored in the target's planes. Each loop along a row has one call, so that it is inlined where the
 // tile's arrays are declared: only there does the compiler see that they do not overlap the target.
+// Three planes go together, since they share a lane's weights; another number of planes goes plane by plane. One function
+// for both would need a loop over planes within the loop over lanes. The tile's arrays stay side by side: with a struct
+// of them each clause would name `tile.entry.fields.now` for `fields.now`.
 ghost use Rattle.std.specs.Prelude.{◌≡◌, ℕ, ◌+◌, ◌*◌, ◌<◌, ◌≤◌, length};
 ghost use Rattle.planes.specs.Fill.{fill};
 ghost use Rattle.planes.specs.Rect.{rows_fill};

@@ -9,12 +9,37 @@ ghost use Rattle.epf_rects.specs.Rects.{taken, Lies, rect_filled, rect_fits, Rec
 use planes::{Layout, copy_run, set_fits};
 
 // Columns x up to x + cols and rows y up to y + rows of the filter region.
-#[derive(Clone, Copy)]
+#[derive(Clone, Copy, Debug, PartialEq, Eq)]
 pub struct Rect {
     pub x: usize,
     pub y: usize,
     pub rows: usize,
     pub cols: usize,
+}
+
+impl Rect {
+    // Whether the rectangle has at least one row and lies in the filter region, and `len` is the length of a set of n
+    // planes.
+    pub fn fits(self, l: Layout, n: usize, len: usize) -> bool
+        ensures { result ≡ rect_fits l n self len }
+    {
+        if !set_fits(l, n, len) {
+            return false;
+        }
+        if l.width < self.cols {
+            return false;
+        }
+        if l.width - self.cols < self.x {
+            return false;
+        }
+        if l.height < self.rows {
+            return false;
+        }
+        if l.height - self.rows < self.y {
+            return false;
+        }
+        0 < self.rows
+    }
 }
 
 // Copies rows of n samples that lie `stride` apart in `dst` and `step` apart in `src`.
@@ -66,34 +91,12 @@ fn store_planes(
     }
 }
 
-// Whether a rectangle of at least one row lies in the filter region, and `len` is the length of a set of n planes.
-pub fn rect_fits(l: Layout, n: usize, rect: Rect, len: usize) -> bool
-    ensures { result ≡ rect_fits l n rect len }
-{
-    if !set_fits(l, n, len) {
-        return false;
-    }
-    if l.width < rect.cols {
-        return false;
-    }
-    if l.width - rect.cols < rect.x {
-        return false;
-    }
-    if l.height < rect.rows {
-        return false;
-    }
-    if l.height - rect.rows < rect.y {
-        return false;
-    }
-    0 < rect.rows
-}
-
 // Copies a rectangle of one set to the same positions of another. Does nothing if the rectangle or the sets do not
 // fit.
 pub fn copy_rect(dst: &mut [f32], src: &[f32], l: Layout, n: usize, rect: Rect)
     ensures { dst.new ≡ copied_rect l n rect src.now dst.old }
 {
-    if !rect_fits(l, n, rect, dst.len()) {
+    if !rect.fits(l, n, dst.len()) {
         return;
     }
     if src.len() != dst.len() {

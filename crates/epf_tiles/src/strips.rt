@@ -43,12 +43,10 @@ fn strip(
     let width = pass.layout.width;
     let y = span.y;
     let rows = span.rows;
-    let mut x = 0;
-    while x < width {
+    for x in (0..width).step_by(LANES) {
         let cols = min(width - x, LANES);
         let rect = Rect { x, y, rows, cols };
         tile(dst, src, pass, sigmas, rect, win, fields, slopes);
-        x += cols;
     }
 }
 
@@ -63,6 +61,7 @@ fn strips(dst: &mut [f32], src: &[f32], pass: Pass, sigmas: &[f32], from: usize,
     let mut fields = [0.0; FIELDS];
     let mut slopes = [0.0; SLOPES];
     let mut y = from;
+    // The first strip may be shorter, so no range with a fixed step gives the others.
     while y < to {
         let rows = min(to - y, BLOCK - y % BLOCK);
         let span = RowSpan { y, rows };

@@ -80,12 +80,9 @@ fn all_copied(sigmas: &[f32], first: usize, blocks: usize, limit: f32) -> bool
     ensures { result ≡ true → (b : ℕ) → b < blocks
         → copied_of (get_or sigmas.now (first + b) nan) limit ≡ true }
 {
-    for b in 0..blocks {
-        if !copied(sigmas[first + b], limit) {
-            return false;
-        }
-    }
-    true
+    sigmas[first..first + blocks]
+        .iter()
+        .all(|sigma| copied(*sigma, limit))
 }
 
 // Filters all blocks of a tile, from its windows.

@@ -10,7 +10,7 @@ ghost use Rattle.planes.specs.Rect.{rows_fill};
 ghost use Rattle.epf_sizes.specs.Sizes.{stride};
 ghost use Rattle.epf_window.specs.Window.{part_sample, window_filled, loaded, WindowFits, PlaneFits};
 
-use crate::row::load_row;
+use crate::row::EpfInputRow;
 use epf_sizes::{STRIDE, WINDOW_ROWS, WINDOWS};
 use mirror::mirrored;
 use planes::{Layout, set_fits};
@@ -54,15 +54,12 @@ fn load_plane(
     let rows = part.rows;
     for i in 0..rows {
         let k = mirrored(part.y + (part.top + i), ABOVE, region.height);
-        load_row(
-            win,
-            at + i * STRIDE,
-            src,
-            region.start + k * region.stride,
-            part.x,
-            region.width,
-            part.cols,
-        );
+        let row = EpfInputRow {
+            plane: src,
+            place: region.start + k * region.stride,
+            width: region.width,
+        };
+        row.copy(win, at + i * STRIDE, part.x, part.cols);
     }
 }
 

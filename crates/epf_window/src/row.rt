@@ -13,9 +13,9 @@ use planes::copy_run;
 // A row that a step reads: the plane, the index where the row starts, and its number of samples.
 #[derive(Clone, Copy)]
 pub(crate) struct EpfInputRow<'a> {
-    plane: &'a [f32],
-    place: usize,
-    width: usize,
+    pub(crate) plane: &'a [f32],
+    pub(crate) place: usize,
+    pub(crate) width: usize,
 }
 
 // a - b, or 0 if b is larger.
@@ -28,82 +28,35 @@ fn saturating_sub(a: usize, b: usize) -> usize
     0
 }
 
-// Copies n samples from four columns left of x on, mirrored in the row of w samples that starts at index `row`.
-fn copy_mirrored(
-    win: &mut [f32; WINDOWS],
-    at: usize,
-    src: &[f32],
-    row: usize,
-    x: usize,
-    w: usize,
-    n: usize,
-)
-    requires { (at + n ≤ windows_length) × (row + w ≤ length src.now) × (0 < w) × (x ≤ 65536) }
-    ensures { win.new ≡ fill win.old at n (row_sample src.now row x w) }
-{
-    for j in 0..n {
-        let k = mirrored(x + j, LEFT, w);
-        win[at + j] = src[row + k];
+impl<'a> EpfInputRow<'a> {
+    // Copies n samples from four columns left of x on, mirrored in the row.
+    fn copy_mirrored(self, win: &mut [f32; WINDOWS], at: usize, x: usize, n: usize)
+        requires { (at + n ≤ windows_length) × (self.place + self.width ≤ length self.plane.now) × (0 < self.width) × (x ≤ 65536) }
+        ensures { win.new ≡ fill win.old at n
+            (row_sample self.entry.plane.now self.entry.place x self.entry.width) }
+    {
+        for j in 0..n {
+            let k = mirrored(x + j, LEFT, self.width);
+            win[at + j] = self.plane[self.place + k];
+        }
     }
-}
 
-// The same, with a plain copy where no mirror is needed.
-fn copy_row(
-    win: &mut [f32; WINDOWS],
-    at: usize,
-    src: &[f32],
-    row: usize,
-    x: usize,
-    w: usize,
-    cols: usize,
-)
-    requires { RowFits at row x w cols (length src.now) }
-    ensures { win.new ≡ fill win.old at cols (row_sample src.now row x w) }
-{
-    let low = saturating_sub(LEFT, x);
-    let high = min(w + LEFT - x, cols);
-    copy_mirrored(win, at, src, row, x, w, low);
-    copy_run(win, at + low, src, row + (x + low - LEFT), high - low);
-    copy_mirrored(win, at + high, src, row, x + high, w, cols - high);
-}
-
-// The same from an input row.
-fn load_view<'w, 'a>(
-    win: &'w mut [f32; WINDOWS],
-    at: usize,
-    r: EpfInputRow<'a>,
-    x: usize,
-    cols: usize,
-)
-    requires { RowFits at r.place x r.width cols (length r.plane.now) }
-    ensures { win.new ≡ fill win.old at cols
-        (row_sample r.entry.plane.now r.entry.place x r.entry.width) }
-{
-    copy_row(win, at, r.plane, r.place, x, r.width, cols)
-}
-
-// Makes the input row, so that callers pass plain parameters.
-pub(crate) fn load_row(
-    win: &mut [f32; WINDOWS],
-    at: usize,
-    src: &[f32],
-    row: usize,
-    x: usize,
-    w: usize,
-    cols: usize,
-)
-    requires { RowFits at row x w cols (length src.now) }
-    ensures { win.new ≡ fill win.old at cols (row_sample src.now row x w) }
-{
-    load_view(
-        win,
-        at,
-        EpfInputRow {
-            plane: src,
-            place: row,
-            width: w,
-        },
-        x,
-        cols,
-    )
+    // The same, with a plain copy where no mirror is needed.
+    pub(crate) fn copy(self, win: &mut [f32; WINDOWS], at: usize, x: usize, cols: usize)
+        requires { RowFits at self.place x self.width cols (length self.plane.now) }
+        ensures { win.new ≡ fill win.old at cols
+            (row_sample self.entry.plane.now self.entry.place x self.entry.width) }
+    {
+        let low = saturating_sub(LEFT, x);
+        let high = min(self.width + LEFT - x, cols);
+        self.copy_mirrored(win, at, x, low);
+        copy_run(
+            win,
+            at + low,
+            self.plane,
+            self.place + (x + low - LEFT),
+            high - low,
+        );
+        self.copy_mirrored(win, at + high, x + high, cols - high);
+    }
 }

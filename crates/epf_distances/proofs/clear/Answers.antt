@@ -1,14 +1,14 @@
-use mathlib.Core.Path.{refl}
-use Prim.Native.Nat.{◌-◌}
+-- `epf_distances::clear` meets its contract. Assumes nothing.
+use mathlib.Core.Path.{◌≡◌, refl}
+use Prim.Native.Nat.{◌+◌, ◌≤◌}
 use native.Mathlib.Omega.{arith}
-use Rattle.planes.proofs.Loop.{written_none, written-more, written_all}
+use lib.ListN.{length}
+use borrow.Rule.Slice.PartMut.{mid_len}
+use Rattle.epf_distances.proofs.Runs.{part-filled}
 use Rattle.epf_distances.proofs.clear.Goals as goal
 
-pub loop-i-init : goal.loop-i-init
-loop-i-init c = written_none _ _ _ _
-
-pub loop-i-preserved : goal.loop-i-preserved
-loop-i-preserved c = written-more c.loop-i.invariant (omega arith) refl
-
 pub returns : goal.returns
-returns c = written_all c.loop-i.invariant c.loop-i-test.false
+returns c =
+    let room : c.args.at + c.args.n ≤ length c.args.fields.now = omega arith in
+    let size : length c.fill.new.self ≡ c.args.n = omega (arith, c.fill.ensures.len, mid_len c.args.at (c.args.at + c.args.n) c.args.fields.now room) in
+    part-filled _ _ _ _ _ room size (λ k l. c.fill.ensures.clones k _ (omega (arith, c.fill.ensures.len, size)) refl)

@@ -8,8 +8,8 @@ use Rattle.epf_interior.specs.Inside.{lies_inside}
 use Rattle.epf_interior.proofs.Inside.{no-rect, no_source, many-columns, at_edge, inside-facts, inside-done}
 use Rattle.epf_interior.proofs.filter_inside.Goals as goal
 
-pub returns-then-not-rect_fits : goal.returns-then-not-rect_fits
-returns-then-not-rect_fits c = no-rect _ _ _ _ _ _ _ (sym c.rect_fits.ensures ∙ c.if-not-rect_fits.true)
+pub returns-then-not-fits : goal.returns-then-not-fits
+returns-then-not-fits c = no-rect _ _ _ _ _ _ _ (sym c.fits.ensures ∙ c.if-not-fits.true)
 
 pub returns-then-src-dst : goal.returns-then-src-dst
 returns-then-src-dst c = no_source _ _ _ _ _ _ _ c.if-src-dst.true
@@ -22,13 +22,13 @@ returns-then-not-lies_inside c = at_edge _ _ _ _ _ _ _ (sym c.lies_inside.ensure
 
 pub rows_of-requires : goal.rows_of-requires
 rows_of-requires c =
-    let fits : RectFits c.args.l 3 c.args.rect (length c.args.dst.now) = rect-facts c.args.l 3 c.args.rect (length c.args.dst.now) (sym c.rect_fits.ensures ∙ c.if-not-rect_fits.false) in
+    let fits : RectFits c.args.l 3 c.args.rect (length c.args.dst.now) = rect-facts c.args.l 3 c.args.rect (length c.args.dst.now) (sym c.fits.ensures ∙ c.if-not-fits.false) in
     let lies : lies_inside c.args.l c.args.rect ≡ true = sym c.lies_inside.ensures ∙ c.if-not-lies_inside.false in
     (inside-facts _ _ lies, fits, c.if-src-dst.false, c.if-rect-gt-COLUMNS.false)
 
 pub returns : goal.returns
 returns c =
-    let fits : RectFits c.args.l 3 c.args.rect (length c.args.dst.now) = rect-facts c.args.l 3 c.args.rect (length c.args.dst.now) (sym c.rect_fits.ensures ∙ c.if-not-rect_fits.false) in
+    let fits : RectFits c.args.l 3 c.args.rect (length c.args.dst.now) = rect-facts c.args.l 3 c.args.rect (length c.args.dst.now) (sym c.fits.ensures ∙ c.if-not-fits.false) in
     let lies : lies_inside c.args.l c.args.rect ≡ true = sym c.lies_inside.ensures ∙ c.if-not-lies_inside.false in
     let s = c.args in c.rows_of.ensures
     ∙ sym (inside-done s.l s.scales.now s.slopes.now s.top s.rect s.src.now s.dst.now fits c.if-src-dst.false c.if-rect-gt-COLUMNS.false lies)

@@ -29,17 +29,17 @@ row_is : (r : PlaneRegion) (p : WindowPart) (src a b : List Float) (o i k : ℕ)
 unfolding plane_sample
 row_is r p src a b o i k e h = h ∙ ap (λ (m : ℕ). fill a o p.cols (row_sample src (r.start + m * r.stride) p.x r.width)) e
 
-pub overflow_mul-k : goal.overflow_mul-k
-overflow_mul-k c = omega (arith, fits _ _ _ _ _ _ c.requires c.mirrored-k.ensures)
+pub overflow_mul-row : goal.overflow_mul-row
+overflow_mul-row c = omega (arith, fits _ _ _ _ _ _ c.requires c.mirrored-k.ensures)
 
-pub overflow_add-region : goal.overflow_add-region
-overflow_add-region c = omega (arith, fits _ _ _ _ _ _ c.requires c.mirrored-k.ensures)
+pub overflow_add-row : goal.overflow_add-row
+overflow_add-row c = omega (arith, fits _ _ _ _ _ _ c.requires c.mirrored-k.ensures)
 
-pub load_row-requires : goal.load_row-requires
-load_row-requires c = record { row-le = fits _ _ _ _ _ _ c.requires c.mirrored-k.ensures; width-le = c.requires.width-le; x_lt = c.requires.x_lt; target-le = omega (arith, c.requires.cols-le, c.requires.target-le); cols-ge = c.requires.cols-ge }
+pub copy-requires : goal.copy-requires
+copy-requires c = record { row-le = fits _ _ _ _ _ _ c.requires c.mirrored-k.ensures; width-le = c.requires.width-le; x_lt = c.requires.x_lt; target-le = omega (arith, c.requires.cols-le, c.requires.target-le); cols-ge = c.requires.cols-ge }
 
 pub returns : goal.returns
 returns c = rows_end _ _ _ _ _ _ _ _ c.loop-i.invariant.1 c.loop-i.invariant.0 c.loop-i-test.false
 
 pub loop-i-preserved : goal.loop-i-preserved
-loop-i-preserved c = (omega arith, rows-turn _ _ _ _ _ _ _ _ _ c.loop-i.invariant.1 refl (row_is c.args.region c.args.part c.args.src.now _ _ _ _ _ c.mirrored-k.ensures c.load_row.ensures))
+loop-i-preserved c = (omega arith, rows-turn _ _ _ _ _ _ _ _ _ c.loop-i.invariant.1 refl (row_is c.args.region c.args.part c.args.src.now _ _ _ _ _ c.mirrored-k.ensures c.copy.ensures))

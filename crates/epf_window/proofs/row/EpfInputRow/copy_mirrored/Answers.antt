@@ -6,7 +6,7 @@ use Rattle.mirror.specs.Mirror.{mirror}
 use Rattle.mirror.proofs.Laws.{mirror-lt}
 use Rattle.planes.proofs.Loop.{written_none, written-more, written_all}
 use Rattle.epf_window.specs.Window.{row_sample}
-use Rattle.epf_window.proofs.row.copy_mirrored.Goals as goal
+use Rattle.epf_window.proofs.row.EpfInputRow.copy_mirrored.Goals as goal
 
 inside : (z : ℤ) (w k : ℕ) → 0 < w → k ≡ mirror z w → k < w
 inside z w k p e = rw e (mirror-lt z w p)
@@ -21,11 +21,11 @@ loop-j-init c = written_none _ _ _ _
 pub overflow_add-win : goal.overflow_add-win
 overflow_add-win c = omega (arith, inside _ _ _ c.requires.2 c.mirrored-k.ensures)
 
-pub offset_bounds-src-row : goal.offset_bounds-src-row
-offset_bounds-src-row c = omega (arith, inside _ _ _ c.requires.2 c.mirrored-k.ensures)
+pub offset_bounds-self-self : goal.offset_bounds-self-self
+offset_bounds-self-self c = omega (arith, inside _ _ _ c.requires.2 c.mirrored-k.ensures)
 
-pub bounds-src-row : goal.bounds-src-row
-bounds-src-row c = omega (arith, inside _ _ _ c.requires.2 c.mirrored-k.ensures)
+pub bounds-self-self : goal.bounds-self-self
+bounds-self-self c = omega (arith, inside _ _ _ c.requires.2 c.mirrored-k.ensures)
 
 pub returns : goal.returns
 returns c = written_all c.loop-j.invariant c.loop-j-test.false

@@ -1,7 +1,0 @@
--- `epf_window::row::copy_mirrored` meets its contract. The invariant: j samples of n are written. Assumes nothing.
-use Rattle.planes.proofs.Loop.{Written}
-use Rattle.epf_window.specs.Window.{row_sample}
-use Rattle.epf_window.proofs.row.copy_mirrored.Given as goal
-
-abbrev pub invariant-loop-j : goal.invariant-loop-j
-invariant-loop-j l = Written l.initial.win l.at l.n (row_sample l.src l.row l.x l.w) l.win l.j
