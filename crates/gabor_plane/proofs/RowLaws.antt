@@ -118,10 +118,6 @@ row-above (suc y) stride p = let e : suc y - 1 ≡ y = omega arith in rw e (suc-
 pub row_below : (y stride : ℕ) → (y + 1) * stride ≡ y * stride + stride
 row_below y stride = let e : y + 1 ≡ suc y = omega arith in rw e (suc-mul y stride)
 
--- the start of the row after the last one
-pub start-room : (r : PlaneRegion) (len y : ℕ) → RegionFits r len → y ≤ r.height → r.at + y * r.stride ≤ len + r.stride
-start-room r len y f p = omega (arith, f.end-le, row-above r.height r.stride f.height-pos, mul-le-mul_right r.stride p)
-
 -- ---- each row function writes the row of the region
 module _ (s : List Float) (r : PlaneRegion) (k : Kernel) (y x o : ℕ) (p : x < r.width) (q : y < r.height) (e : o ≡ r.at + y * r.stride) where
   pub region-only : r.height ≡ 1 → row_sample s o o o r.width k only x ≡ region_sample s r k y x

@@ -1,11 +1,10 @@
 // Rows of the Gabor-like filter: loops that store the samples of the kernel functions.
 // Each row is written at index o. w is its number of columns.
-ghost use Rattle.std.specs.Prelude.{◌≡◌, ◌+◌, ◌*◌, ◌<◌, ◌≤◌, length};
+ghost use Rattle.std.specs.Prelude.{◌≡◌, ◌+◌, ◌<◌, ◌≤◌, length};
 ghost use Rattle.planes.specs.Fill.{fill};
-ghost use Rattle.gabor_plane.specs.Rows.{inner_sample, row_sample, region_sample, RegionFits, RowsHold};
+ghost use Rattle.gabor_plane.specs.Rows.{inner_sample, row_sample, RowsHold};
 
-use crate::PlaneRegion;
-use crate::reads::{EdgeRow, InnerRow, Row, SingleRow};
+use crate::reads::Row;
 use gabor_kernel::Kernel;
 
 // n columns with neighbours on both sides.
@@ -21,7 +20,14 @@ fn inner_columns<R: Row>(src: &[f32], dst: &mut [f32], row: R, o: usize, n: usiz
 }
 
 // A whole row.
-fn filter_row<R: Row>(src: &[f32], dst: &mut [f32], row: R, o: usize, w: usize, k: Kernel)
+pub(crate) fn filter_row<R: Row>(
+    src: &[f32],
+    dst: &mut [f32],
+    row: R,
+    o: usize,
+    w: usize,
+    k: Kernel,
+)
     requires { (0 < w) × RowsHold (R.above row) (R.here row) (R.below row) w (length src.now)
         × (o + w ≤ length dst.old) }
     ensures { dst.new ≡ fill dst.old o w
@@ -34,45 +40,4 @@ fn filter_row<R: Row>(src: &[f32], dst: &mut [f32], row: R, o: usize, w: usize, 
     dst[o] = row.end_column(src, 1, 0, k);
     inner_columns(src, dst, row, o + 1, w - 2, k);
     dst[o + (w - 1)] = row.end_column(src, w - 2, w - 1, k);
-}
-
-// Row y of a region; it starts at o in both slices.
-pub(crate) fn region_row(
-    src: &[f32],
-    dst: &mut [f32],
-    r: PlaneRegion,
-    y: usize,
-    o: usize,
-    k: Kernel,
-)
-    requires region_fits { RegionFits r (length src.now) }
-    requires y_lt_height { (y < r.height) × (o ≡ r.at + y * r.stride) × (o + r.width ≤ length dst.old) }
-    ensures { dst.new ≡ fill dst.old o r.width (region_sample src.now r k y) }
-{
-    if r.height == 1 {
-        filter_row(src, dst, SingleRow { here: o }, o, r.width, k);
-        return;
-    }
-    if y == 0 {
-        let row = EdgeRow {
-            here: o,
-            adjacent: o + r.stride,
-        };
-        filter_row(src, dst, row, o, r.width, k);
-        return;
-    }
-    if y + 1 == r.height {
-        let row = EdgeRow {
-            here: o,
-            adjacent: o - r.stride,
-        };
-        filter_row(src, dst, row, o, r.width, k);
-        return;
-    }
-    let row = InnerRow {
-        above: o - r.stride,
-        here: o,
-        below: o + r.stride,
-    };
-    filter_row(src, dst, row, o, r.width, k);
 }

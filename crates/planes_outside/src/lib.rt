@@ -38,12 +38,8 @@ fn copy_rows_outside(src: &[f32], dst: &mut [f32], l: Layout, from: usize, n: us
     ensures { dst.new ≡ rows_fill dst.old at l.image.width l.image.width n
         (rows_outside l from at l.image.width src.now dst.old) }
 {
-    let mut i = 0;
-    let mut o = at;
-    while i < n {
-        copy_row_outside(src, dst, l, from + i, o);
-        o += l.image.width;
-        i += 1;
+    for i in 0..n {
+        copy_row_outside(src, dst, l, from + i, at + i * l.image.width);
     }
 }
 
@@ -56,11 +52,9 @@ fn copy_planes_outside(src: &[f32], dst: &mut [f32], l: Layout, n: usize, from: 
         (planes_outside_of l l.image.width l.image.height from src.now dst.old)
         dst.old n }
 {
-    let mut c = 0;
-    while c < n {
+    for c in 0..n {
         let at = (c * l.image.height + from) * l.image.width;
         copy_rows_outside(src, dst, l, from, rows, at);
-        c += 1;
     }
 }
 
