@@ -2,7 +2,7 @@
 // number, values, next bit position.
 ghost use Rattle.std.specs.Prelude.{◌<◌};
 
-use crate::forms::{bool_at, has_float, has_form, has_kind, u8_at, u32_at, usize_at};
+use crate::forms::{bool_at, has_float, has_form, u32_at, usize_at};
 use header::RestorationFilter;
 use header_epf::{EdgePreservingFilter, Encoding};
 use header_epf_sigma::EpfSigma;
@@ -11,14 +11,6 @@ use refusals::{ACCEPTED, Refusal};
 
 // Every header of the list is shorter.
 const MOST_BYTES: usize = 64;
-
-#[derive(Clone, Copy)]
-pub enum Reader {
-    Half,
-    Gabor,
-    EdgeFilter,
-    Filters,
-}
 
 // The number, value and next bit position of a reading; a refusal has its number and zeros.
 fn numbered<T: Default>(reading: Result<(T, usize), Refusal>) -> (u32, T, usize) {
@@ -70,12 +62,10 @@ fn encoding_at(n: &[i64], i: usize) -> Encoding {
 fn has_floats(n: &[i64], i: usize, values: &[f32]) -> bool
     requires { i < 32 }
 {
-    let mut k = 0;
-    while k < values.len() {
-        if !has_float(n, i + k, values[k]) {
+    for (k, value) in values.iter().enumerate() {
+        if !has_float(n, i + k, *value) {
             return false;
         }
-        k += 1;
     }
     true
 }
@@ -121,41 +111,24 @@ fn filters(bytes: &[u8], n: &[i64]) -> bool {
         && has_epf(n, 10, filter.epf)
 }
 
-impl Reader {
-    fn agrees(self, bytes: &[u8], n: &[i64]) -> bool {
-        match self {
-            Reader::Half => half(bytes, n),
-            Reader::Gabor => gabor(bytes, n),
-            Reader::EdgeFilter => edge_filter(bytes, n),
-            Reader::Filters => filters(bytes, n),
-        }
-    }
-}
-
 // Copies the numbers as bytes to the start of `out`. False if a number is not a byte or `out` is too short.
 fn take_bytes(n: &[i64], out: &mut [u8]) -> bool {
-    let mut i = 0;
-    while i < n.len() {
-        if out.len() <= i {
+    if out.len() < n.len() {
+        return false;
+    }
+    for (byte, number) in out.iter_mut().zip(n) {
+        let Ok(value) = u8::try_from(*number) else {
             return false;
-        }
-        if !has_kind(n[i], b'y') {
-            return false;
-        }
-        out[i] = u8_at(n, i);
-        i += 1;
+        };
+        *byte = value;
     }
     true
 }
 
-fn compared(bytes: &[u8], count: usize, n: &[i64], reader: Reader) -> bool {
-    if bytes.len() < count {
-        return false;
-    }
-    reader.agrees(&bytes[..count], n)
-}
-
-pub fn agrees(n: &[i64], reader: Reader) -> bool {
+// Whether a reader agrees with a row: the number of bytes, the bytes, and what is compared.
+fn agrees<F: Fn(&[u8], &[i64]) -> bool>(n: &[i64], reader: F) -> bool
+    requires { F.IsAlwaysCallable reader }
+{
     let count = usize_at(n, 0);
     if n.len() <= count {
         return false;
@@ -164,5 +137,23 @@ pub fn agrees(n: &[i64], reader: Reader) -> bool {
     if !take_bytes(&n[1..count + 1], &mut bytes) {
         return false;
     }
-    compared(&bytes, count, &n[count + 1..], reader)
+    bytes
+        .get(..count)
+        .is_some_and(|read| reader(read, &n[count + 1..]))
+}
+
+pub fn read_half(n: &[i64]) -> bool {
+    agrees(n, half)
+}
+
+pub fn read_gabor(n: &[i64]) -> bool {
+    agrees(n, gabor)
+}
+
+pub fn read_epf(n: &[i64]) -> bool {
+    agrees(n, edge_filter)
+}
+
+pub fn read_filters(n: &[i64]) -> bool {
+    agrees(n, filters)
 }

@@ -2,26 +2,13 @@
 // # are not rows.
 ghost use Rattle.std.specs.Prelude.{◌≤◌, length};
 
-use crate::subjects::Subject;
-use replay_text::Number;
-
-#[derive(Clone, Copy)]
+#[derive(Clone, Copy, Default)]
 pub struct Tally {
     pub rows: u64,
     pub differ: u64,
 }
 
-#[derive(Clone, Copy)]
-enum Count {
-    Of(usize),
-    Malformed,
-}
-
 const MOST_NUMBERS: usize = 1024;
-
-pub fn none() -> Tally {
-    Tally { rows: 0, differ: 0 }
-}
 
 impl Tally {
     // No list is long enough for a sum to wrap.
@@ -35,12 +22,10 @@ impl Tally {
 
 // Rows with an unknown name count as different.
 pub fn unknown(rows: u64, known: u64) -> Tally {
-    if rows < known {
-        return none();
-    }
+    let unknown = rows.saturating_sub(known);
     Tally {
-        rows: rows - known,
-        differ: rows - known,
+        rows: unknown,
+        differ: unknown,
     }
 }
 
@@ -51,52 +36,36 @@ fn until(text: &[u8], at: usize, byte: u8) -> usize
     replay_text::end_of(text, at, byte)
 }
 
-// Copies the numbers of a line, from index `from`, to the start of `out`.
-fn read(line: &[u8], from: usize, out: &mut [i64]) -> Count
-    requires { from ≤ length line.now }
-{
-    let mut at = from;
+// Copies the numbers of a line to the start of `out`, and answers how many there are.
+fn read(words: &[u8], out: &mut [i64]) -> Option<usize> {
     let mut count = 0;
-    loop {
-        let end = until(line, at, b' ');
-        let Number::Value(n) = replay_text::number_of(&line[at..end]) else {
-            return Count::Malformed;
-        };
+    for word in words.split(|byte| *byte == b' ') {
+        let number = replay_text::number_of(word)?;
         if out.len() <= count {
-            return Count::Malformed;
+            return None;
         }
-        out[count] = n;
+        out[count] = number;
         count += 1;
-        if line.len() <= end {
-            return Count::Of(count);
-        }
-        at = end + 1;
     }
+    Some(count)
 }
 
-fn compared(numbers: &[i64], count: usize, subject: Subject) -> bool {
-    if numbers.len() < count {
-        return false;
-    }
-    subject.agrees(&numbers[..count])
-}
-
-fn agrees(line: &[u8], name_end: usize, subject: Subject) -> bool {
+// Whether the numbers of a line agree; those start after its name.
+fn agrees_on<F: Fn(&[i64]) -> bool>(line: &[u8], name_end: usize, agrees: &F) -> bool
+    requires { F.IsAlwaysCallable agrees.now }
+{
     if line.len() <= name_end {
         return false;
     }
     let mut numbers = [0i64; MOST_NUMBERS];
-    let Count::Of(count) = read(line, name_end + 1, &mut numbers) else {
+    let Some(count) = read(&line[name_end + 1..], &mut numbers) else {
         return false;
     };
-    compared(&numbers, count, subject)
+    numbers.get(..count).is_some_and(|row| agrees(row))
 }
 
 fn is_row(line: &[u8]) -> bool {
-    if line.len() < 1 {
-        return false;
-    }
-    line[0] != b'#'
+    !matches!(line, [] | [b'#', ..])
 }
 
 fn is_row_of(line: &[u8], name: &[u8]) -> bool {
@@ -104,42 +73,38 @@ fn is_row_of(line: &[u8], name: &[u8]) -> bool {
     &line[..end] == name
 }
 
-fn row_of(line: &[u8], name: &[u8], subject: Subject) -> Tally {
+fn row_of<F: Fn(&[i64]) -> bool>(line: &[u8], name: &[u8], agrees: &F) -> Tally
+    requires { F.IsAlwaysCallable agrees.now }
+{
     if !is_row_of(line, name) {
-        return none();
+        return Tally::default();
     }
-    if agrees(line, name.len(), subject) {
-        return Tally { rows: 1, differ: 0 };
-    }
-    Tally { rows: 1, differ: 1 }
+    let differ = if agrees_on(line, name.len(), agrees) {
+        0
+    } else {
+        1
+    };
+    Tally { rows: 1, differ }
 }
 
 // Compares the rows with this name.
-pub fn rows_of(text: &[u8], name: &[u8], subject: Subject) -> Tally {
-    let mut t = none();
-    let mut at = 0;
-    loop {
-        let end = until(text, at, b'\n');
-        t = t.plus(row_of(&text[at..end], name, subject));
-        if text.len() <= end {
-            return t;
-        }
-        at = end + 1;
+pub fn rows_of<F: Fn(&[i64]) -> bool>(text: &[u8], name: &[u8], agrees: &F) -> Tally
+    requires { F.IsAlwaysCallable agrees.now }
+{
+    let mut tally = Tally::default();
+    for line in text.split(|byte| *byte == b'\n') {
+        tally = tally.plus(row_of(line, name, agrees));
     }
+    tally
 }
 
 // Counts all rows.
 pub fn rows(text: &[u8]) -> u64 {
     let mut count: u64 = 0;
-    let mut at = 0;
-    loop {
-        let end = until(text, at, b'\n');
-        if is_row(&text[at..end]) {
+    for line in text.split(|byte| *byte == b'\n') {
+        if is_row(line) {
             count = count.wrapping_add(1);
         }
-        if text.len() <= end {
-            return count;
-        }
-        at = end + 1;
     }
+    count
 }

@@ -6,14 +6,12 @@ mod headers;
 mod list;
 mod regions;
 mod sizes;
-mod subjects;
 
 ghost use Rattle.std.specs.Prelude.{◌≡◌, ◌≤◌, IfOk, length};
 
 use list::Tally;
 use std::io;
 use std::io::Read;
-use subjects::Subject;
 
 // One more than the largest length of a list, in bytes.
 const ROOM: usize = 262_144;
@@ -22,45 +20,48 @@ fn report(rt: &impl Print, name: &str, t: Tally) -> io::Result<()> {
     println!(rt; "{name}: {} rows, {} differ", t.rows, t.differ)
 }
 
-// Reports the rows of a subject and adds them to the tally.
-fn replayed(
+// Reports the rows with a name and adds them to the tally. `agrees`: whether the proved function returns the answer in a
+// row for the arguments in the row.
+fn replayed<F: Fn(&[i64]) -> bool>(
     rt: &impl Print,
     before: Tally,
     text: &[u8],
     name: &str,
-    subject: Subject,
-) -> io::Result<Tally> {
-    let t = list::rows_of(text, name.as_bytes(), subject);
+    agrees: F,
+) -> io::Result<Tally>
+    requires { F.IsAlwaysCallable agrees }
+{
+    let t = list::rows_of(text, name.as_bytes(), &agrees);
     report(rt, name, t)?;
     Ok(before.plus(t))
 }
 
 fn region_rows(rt: &impl Print, text: &[u8]) -> io::Result<Tally> {
-    let mut t = list::none();
-    t = replayed(rt, t, text, "is_empty", Subject::IsEmpty)?;
-    t = replayed(rt, t, text, "right", Subject::Right)?;
-    t = replayed(rt, t, text, "bottom", Subject::Bottom)?;
-    t = replayed(rt, t, text, "contains", Subject::Contains)?;
-    t = replayed(rt, t, text, "translate", Subject::Translate)?;
-    t = replayed(rt, t, text, "intersection", Subject::Intersection)?;
-    t = replayed(rt, t, text, "pad", Subject::Pad)?;
-    t = replayed(rt, t, text, "downsample", Subject::Downsample)?;
-    replayed(rt, t, text, "container_aligned", Subject::ContainerAligned)
+    let mut t = Tally::default();
+    t = replayed(rt, t, text, "is_empty", regions::is_empty)?;
+    t = replayed(rt, t, text, "right", regions::right)?;
+    t = replayed(rt, t, text, "bottom", regions::bottom)?;
+    t = replayed(rt, t, text, "contains", regions::contains)?;
+    t = replayed(rt, t, text, "translate", regions::translate)?;
+    t = replayed(rt, t, text, "intersection", regions::intersection)?;
+    t = replayed(rt, t, text, "pad", regions::pad)?;
+    t = replayed(rt, t, text, "downsample", regions::downsample)?;
+    replayed(rt, t, text, "container_aligned", regions::container_aligned)
 }
 
 fn size_rows(rt: &impl Print, before: Tally, text: &[u8]) -> io::Result<Tally> {
     let mut t = before;
-    t = replayed(rt, t, text, "mirror", Subject::Mirror)?;
-    t = replayed(rt, t, text, "group_sizes", Subject::GroupSizes)?;
-    replayed(rt, t, text, "split_block", Subject::SplitBlock)
+    t = replayed(rt, t, text, "mirror", sizes::mirror)?;
+    t = replayed(rt, t, text, "group_sizes", sizes::group_sizes)?;
+    replayed(rt, t, text, "split_block", sizes::split_block)
 }
 
 fn header_rows(rt: &impl Print, before: Tally, text: &[u8]) -> io::Result<Tally> {
     let mut t = before;
-    t = replayed(rt, t, text, "read_half", Subject::ReadHalf)?;
-    t = replayed(rt, t, text, "read_gabor", Subject::ReadGabor)?;
-    t = replayed(rt, t, text, "read_epf", Subject::ReadEpf)?;
-    replayed(rt, t, text, "read_filters", Subject::ReadFilters)
+    t = replayed(rt, t, text, "read_half", headers::read_half)?;
+    t = replayed(rt, t, text, "read_gabor", headers::read_gabor)?;
+    t = replayed(rt, t, text, "read_epf", headers::read_epf)?;
+    replayed(rt, t, text, "read_filters", headers::read_filters)
 }
 
 // Reports each subject, the rows with an unknown name, and the total.

@@ -9,15 +9,14 @@ use native.Mathlib.Omega.{arith}
 use borrow.Author.Tests.{lt-ltb, le-ltb, lt-leb}
 use lib.ListN.{length, get_or, drop}
 use lib.Seq.{drop-cons}
+use Rattle.std.specs.Prelude.{Option, None, ℤ}
 use Rattle.replay_text.specs.Numbers.{digit_of, all_digits, appended, value_of, spelled}
-use Rattle.replay_text.specs.declared.Number.{Number}
-use Rattle.replay_text.specs.declared.Number.TheVariants.{Malformed}
 
 -- the number when n has been read and xs are the remaining bytes
-unfoldable pub continued : ℕ → Bool → ℕ → List ℕ → Number
-continued base negative n xs = cond (all_digits base xs) (value_of negative (appended base n xs)) Malformed
+unfoldable pub continued : ℕ → Bool → ℕ → List ℕ → Option ℤ
+continued base negative n xs = cond (all_digits base xs) (value_of negative (appended base n xs)) None
 
-cond_same : (x : Bool) {a : Number} → cond x a a ≡ a
+cond_same : (x : Bool) {a : Option ℤ} → cond x a a ≡ a
 cond_same true = refl
 cond_same false = refl
 
@@ -29,7 +28,7 @@ at_least base n (x ∷ rest) h =
     le_trans (omega arith) (at_least base (n * base + digit_of x) rest h)
 
 module _ (base : ℕ) (negative : Bool) where
-  pub none : (xs : List ℕ) → length xs ≤ 0 → spelled base negative xs ≡ Malformed
+  pub none : (xs : List ℕ) → length xs ≤ 0 → spelled base negative xs ≡ None
   unfolding spelled
   none [] h = refl
   none (x ∷ rest) h = absurd (omega arith)
@@ -52,7 +51,7 @@ module _ (base : ℕ) (negative : Bool) where
     unfolding continued all_digits appended
     turn l = rw (next, lt-ltb _ _ l)
 
-    pub no_digit : base ≤ digit_of (get_or word i 0) → continued base negative n (drop i word) ≡ Malformed
+    pub no_digit : base ≤ digit_of (get_or word i 0) → continued base negative n (drop i word) ≡ None
     unfolding continued all_digits
     no_digit l = rw (next, le-ltb _ _ l)
 
@@ -60,7 +59,7 @@ module _ (base : ℕ) (negative : Bool) where
     unfolding appended
     grown l = rw next (le_trans (omega arith) (at_least base (n * base + digit_of (get_or word i 0)) (drop (i + 1) word) l))
 
-    pub too_large : 8 ≤ base → 0x0fff_ffff_ffff_ffff < n → continued base negative n (drop i word) ≡ Malformed
+    pub too_large : 8 ≤ base → 0x0fff_ffff_ffff_ffff < n → continued base negative n (drop i word) ≡ None
     unfolding continued
     too_large l k =
         let m : 1152921504606846976 * 8 ≤ n * base = mul-le-mul k l in

@@ -5,12 +5,6 @@ ghost use Rattle.std.specs.Prelude.{◌≡◌, ◌≤◌, ◌==◌, drop, positi
 ghost use Rattle.replay_text.specs.Words.{end_of};
 ghost use Rattle.replay_text.specs.Numbers.{digit_of, value_of, spelled, number_of};
 
-#[derive(Clone, Copy)]
-pub enum Number {
-    Value(i64),
-    Malformed,
-}
-
 const LARGEST: u64 = 0x7fff_ffff_ffff_ffff;
 // The largest number that still fits a u64 with a hexadecimal digit appended. A larger one is over 2^63 - 1 with any
 // digit appended.
@@ -39,78 +33,65 @@ pub fn end_of(text: &[u8], at: usize, byte: u8) -> usize
 }
 
 // The value of a hexadecimal digit, 16 for any other byte.
+#[tactic(auto, using(std::proofs::lemmas::Bool::Decides::nat_tests), unfolding(crate::specs::Numbers::digit_of))]
 fn digit(byte: u8) -> u64
     ensures { result ≡ digit_of byte }
 {
-    if byte < b'0' {
-        return NO_DIGIT;
+    match byte {
+        b'0'..=b'9' => (byte - b'0') as u64,
+        b'a'..=b'f' => (byte - b'a') as u64 + 10,
+        _ => NO_DIGIT,
     }
-    if byte <= b'9' {
-        return (byte - b'0') as u64;
-    }
-    if byte < b'a' {
-        return NO_DIGIT;
-    }
-    if byte <= b'f' {
-        return (byte - 87) as u64;
-    }
-    NO_DIGIT
 }
 
-// The number of this sign and size, or malformed if the size is over 2^63 - 1.
-fn value(size: u64, negative: bool) -> Number
+// The number of this sign and size, unless the size is over 2^63 - 1.
+fn value(size: u64, negative: bool) -> Option<i64>
     ensures { result ≡ value_of negative size }
 {
     if LARGEST < size {
-        return Number::Malformed;
+        return None;
     }
     let n = size as i64;
-    if negative {
-        return Number::Value(-n);
-    }
-    Number::Value(n)
+    Some(if negative { -n } else { n })
 }
 
-// The number with the digits from index `from` on.
-fn spelled(word: &[u8], from: usize, base: u64, negative: bool) -> Number
+// The number with these digits.
+fn spelled(digits: &[u8], base: u64, negative: bool) -> Option<i64>
     requires { (8 ≤ base) × (base ≤ 16) }
-    ensures { result ≡ spelled base negative (drop from word.now) }
+    ensures { result ≡ spelled base negative digits.now }
 {
-    if word.len() <= from {
-        return Number::Malformed;
+    if digits.is_empty() {
+        return None;
     }
     let mut size: u64 = 0;
-    let mut i = from;
-    while i < word.len() {
-        let d = digit(word[i]);
+    for byte in digits {
+        let d = digit(*byte);
         if base <= d {
-            return Number::Malformed;
+            return None;
         }
         if LARGEST_WITH_ROOM < size {
-            return Number::Malformed;
+            return None;
         }
         size = size * base + d;
-        i += 1;
     }
     value(size, negative)
 }
 
 // The number that a word denotes: decimal digits, optionally after a minus sign; or x and eight hexadecimal digits, the
 // bits of a float.
-pub fn number_of(word: &[u8]) -> Number
+#[tactic(auto, using(std::proofs::lemmas::Bool::Decides::nat_tests), unfolding(crate::specs::Numbers::number_of))]
+pub fn number_of(word: &[u8]) -> Option<i64>
     ensures { result ≡ number_of word.now }
 {
-    if word.len() < 1 {
-        return Number::Malformed;
+    match word {
+        [] => None,
+        [b'-', digits @ ..] => spelled(digits, 10, true),
+        [b'x', digits @ ..] => {
+            if digits.len() != 8 {
+                return None;
+            }
+            spelled(digits, 16, false)
+        }
+        _ => spelled(word, 10, false),
     }
-    if word[0] == b'-' {
-        return spelled(word, 1, 10, true);
-    }
-    if word[0] != b'x' {
-        return spelled(word, 0, 10, false);
-    }
-    if word.len() != 9 {
-        return Number::Malformed;
-    }
-    spelled(word, 1, 16, false)
 }
