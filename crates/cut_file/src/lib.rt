@@ -12,7 +12,6 @@ ghost use Rattle.cut_file.specs.Entry.{entry_number};
 use cut_bytes::{i32_at, u16_at, u32_at};
 use refusals::Refusal;
 use region::Region;
-use region_placement::picture_fits;
 
 // Compared on reading and written on writing.
 pub const MARKER: [u8; 4] = *b"KCUT";
@@ -48,7 +47,7 @@ pub fn entry_at(i: u32) -> usize
 pub fn sample_count(r: Region) -> usize
     ensures { result ≡ cond (picture_fits r) (sample_count r) 0 }
 {
-    if !picture_fits(r) {
+    if !r.picture_fits() {
         return 0;
     }
     3 * (r.height as usize * r.width as usize)
@@ -89,7 +88,7 @@ fn check_entry(file: &[u8], i: u32, end: usize) -> Result<(), Refusal>
     if file.len() < entry_at(i + 1) {
         return Err(Refusal::WrongEnd);
     }
-    if !picture_fits(region_in(file, i)) {
+    if !region_in(file, i).picture_fits() {
         return Err(Refusal::BadEntry);
     }
     if u32_at(file, entry_at(i)) as usize != end {

@@ -15,7 +15,6 @@ use cut_bytes::{bits_of, put_u16, put_u32};
 use cut_file::{CutTable, MARKER, MARKER_LENGTH, MAX_FILE, bad_count, entry_at, sample_count};
 use refusals::{ACCEPTED, Refusal};
 use region::Region;
-use region_placement::picture_fits;
 
 // The length of a file, in bytes.
 #[repr(C)]
@@ -52,7 +51,7 @@ pub fn cut_length(table: CutTable) -> Result<usize, Refusal>
     }
     let mut end = entry_at(table.count);
     for r in &table.regions[..table.count as usize] {
-        if !picture_fits(*r) {
+        if !r.picture_fits() {
             return Err(Refusal::OutOfLimits);
         }
         end += 4 * sample_count(*r);

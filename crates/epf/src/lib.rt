@@ -4,11 +4,10 @@
 
 ghost use Rattle.std.specs.Prelude.{◌≡◌, ◌≤◌, length};
 ghost use Rattle.refusals.specs.Checks.{first_of};
-ghost use Rattle.refusals.specs.Refusals.{IsOutcome, number_of};
-ghost use Rattle.region_placement.specs.Placed.{placed_checks};
+ghost use Rattle.refusals.specs.Refusals.{number_of};
 ghost use Rattle.planes.specs.Band.{passed};
 ghost use Rattle.planes.specs.Fits.{LayoutFits, BandFits};
-ghost use Rattle.planes_layout.specs.Outcome.{layout_of, PassOutcome};
+ghost use Rattle.planes_layout.specs.Outcome.{PassOutcome};
 ghost use Rattle.epf_step.specs.Steps.{standard_limit};
 ghost use Rattle.epf_tiles.specs.Tile.{step_over};
 ghost use Rattle.epf_tiles.specs.Region.{RegionFits};
@@ -37,20 +36,6 @@ pub struct EpfStep {
     pub channel_scale: [f32; 3],
     pub multiplier: f32,
     pub border_sad_mul: f32,
-}
-
-// The layout of the filter region in the image region.
-fn checked_layout(image: Region, filter: Region, full: bool) -> Result<Layout, Refusal>
-    ensures { IsOutcome result (first_of (placed_checks image filter)) (layout_of image filter full) }
-{
-    let answer = layout_of(image, filter, full);
-    if answer.number == 0 {
-        return Ok(answer.layout);
-    }
-    if answer.number == u32::from(Refusal::OutOfLimits) {
-        return Err(Refusal::OutOfLimits);
-    }
-    Err(Refusal::NotInside)
 }
 
 // Checks the filter region's corner, the lengths, the step, the flag and the rows.
@@ -154,7 +139,7 @@ pub fn epf_pass(
         (epf_outcome image filter preserve_outside s sigmas.now from to src.now
         dst.old) }
 {
-    let l = checked_layout(image, filter, flag_set(preserve_outside))?;
+    let l = layout_of(image, filter, flag_set(preserve_outside))?;
     let first = from as usize;
     let last = to as usize;
     check_pass(

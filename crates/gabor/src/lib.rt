@@ -4,31 +4,15 @@
 mod pass;
 
 ghost use Rattle.std.specs.Prelude.{◌≡◌};
-ghost use Rattle.refusals.specs.Checks.{first_of};
-ghost use Rattle.refusals.specs.Refusals.{IsOutcome, number_of};
-ghost use Rattle.region_placement.specs.Placed.{placed_checks};
-ghost use Rattle.planes_layout.specs.Outcome.{layout_of, PassOutcome};
+ghost use Rattle.refusals.specs.Refusals.{number_of};
+ghost use Rattle.planes_layout.specs.Outcome.{PassOutcome};
 ghost use Rattle.gabor.specs.Outcome.{gabor_outcome};
 
 use pass::gabor_band;
-use planes::{Layout, PLANES, rows_fit, set_fits};
+use planes::{PLANES, rows_fit, set_fits};
 use planes_layout::layout_of;
 use refusals::{Refusal, flag_fits, flag_set};
 use region::Region;
-
-// The layout of the filter region in the image region.
-fn checked_layout(image: Region, filter: Region, full: bool) -> Result<Layout, Refusal>
-    ensures { IsOutcome result (first_of (placed_checks image filter)) (layout_of image filter full) }
-{
-    let answer = layout_of(image, filter, full);
-    if answer.number == 0 {
-        return Ok(answer.layout);
-    }
-    if answer.number == u32::from(Refusal::OutOfLimits) {
-        return Err(Refusal::OutOfLimits);
-    }
-    Err(Refusal::NotInside)
-}
 
 // Filters rows `from` up to, not including, `to` of the result region. That is the image region (`preserve_outside` 1)
 // or the filter region (0). Reads `src` and writes `dst`, sets of three planes. Each channel has two weights, of the
@@ -46,7 +30,7 @@ pub fn gabor_pass(
     ensures { ◌≡◌ {A = PassOutcome} (record { number = number_of result; target = dst.new })
         (gabor_outcome image filter preserve_outside weights from to src.now dst.old) }
 {
-    let l = checked_layout(image, filter, flag_set(preserve_outside))?;
+    let l = layout_of(image, filter, flag_set(preserve_outside))?;
     if !set_fits(l, PLANES, src.len()) {
         return Err(Refusal::WrongLength);
     }

@@ -6,10 +6,10 @@ use Rattle.header_bits.specs.Outcome.{accepted, refused}
 use Rattle.header_bits.specs.Bits.{field, u}
 use Rattle.region.specs.declared.Region.{Region}
 use Rattle.region.specs.Regions.{zero_region}
-use Rattle.region.specs.Answers.{is_empty_outcome}
+use Rattle.region.specs.Answers.{given_checks}
 use Rattle.region_arithmetic.specs.declared.RegionAnswer.{RegionAnswer}
 use Rattle.region_arithmetic.specs.Answers.{downsample_outcome, aligned_outcome}
-use Rattle.region_placement.specs.Placed.{placed_outcome}
+use Rattle.region_placement.specs.Placed.{placed_checks}
 use Rattle.mirror.specs.Outcome.{mirror_outcome}
 use Rattle.frame.specs.declared.Frame.{Frame}
 use Rattle.frame.specs.Outcome.{frame_outcome, split_outcome}
@@ -53,10 +53,10 @@ abbrev pub square : ℤ → ℕ → Region
 square corner side = record { left = corner; top = corner; width = side; height = side }
 
 abbrev pub side_number : ℕ → ℕ
-side_number side = (is_empty_outcome (square (pos 0) side)).number
+side_number side = first_of (given_checks (square (pos 0) side))
 
 abbrev pub corner_number : ℤ → ℕ
-corner_number corner = (is_empty_outcome (square corner 1)).number
+corner_number corner = first_of (given_checks (square corner 1))
 
 -- a region at 0, 0 with these sides
 abbrev pub sides : ℕ → ℕ → Region
@@ -64,7 +64,7 @@ sides w h = record { left = pos 0; top = pos 0; width = w; height = h }
 
 -- an image region of this width and height that is also the filter region
 abbrev pub picture_number : ℕ × ℕ → ℕ
-picture_number s = (placed_outcome (sides s.0 s.1) (sides s.0 s.1)).number
+picture_number s = first_of (placed_checks (sides s.0 s.1) (sides s.0 s.1))
 
 abbrev pub frame_number : ℕ → ℕ → ℕ → ℕ → ℕ
 frame_number side upsampling level shift =

@@ -9,6 +9,7 @@ use lib.Dec.{T, eqb, leb, le→leb}
 use lib.Ieee.Fits.{and_l, and_r, and_i}
 use lib.IntN.{ℤ, pos, ◌+ℤ◌}
 use lib.Signed.{le_z, lt_z}
+use Rattle.std.specs.Prelude.{Some}
 use Rattle.refusals.specs.Numbers.{out_of_range}
 use Rattle.refusals.specs.Checks.{always, first_of}
 use Rattle.refusals.proofs.Tables.{met}
@@ -114,10 +115,10 @@ module _ (m : ℕ) (whole wanted : Region) (h : WantedFits whole wanted) where
       (bounds_of (region_of x y) x-corner y-corner x-side y-side) area
 
   -- each axis is within the limits
-  pub columns-fit : axis_of x ≡ record { ok = true; start = x.start; len = extent x }
+  pub columns-fit : axis_of x ≡ Some (record { start = x.start; len = extent x })
   columns-fit = axis-in x (true_of (corner_fits x.start) x-corner) x-side
 
-  pub rows_fit_lem : axis_of y ≡ record { ok = true; start = y.start; len = extent y }
+  pub rows_fit_lem : axis_of y ≡ Some (record { start = y.start; len = extent y })
   rows_fit_lem = axis-in y (true_of (corner_fits y.start) y-corner) y-side
 
   -- blocks

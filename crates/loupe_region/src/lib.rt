@@ -1,8 +1,7 @@
 // The rectangle of a picture that the filters need for a wanted one (Specification 17.1 to 17.3).
 #![tactic(auto)]
 
-ghost use Rattle.std.specs.Prelude.{◌≡◌, T};
-ghost use Rattle.region.specs.Measures.{bounds_fit};
+ghost use Rattle.std.specs.Prelude.{◌≡◌};
 ghost use Rattle.region_interval.specs.Interval.{span_of, reaching};
 ghost use Rattle.region_interval.specs.Overlap.{meet};
 ghost use Rattle.loupe_region.specs.Widened.{widened};
@@ -14,8 +13,8 @@ use region::Region;
 use region_arithmetic::{RegionAnswer, refused};
 use region_axis::check_span;
 use region_interval::overlap::meet;
-use region_interval::{Span, reaching, span_of};
-use region_placement::{on_blocks, picture_fits, rectangle_fits};
+use region_interval::{Axis, Span};
+use region_placement::on_blocks;
 use run_passes::{MAX_ITERS, Settings, margin};
 
 // What the loupe shows: the filter region of a whole picture, the wanted rectangle of it, and the settings of the
@@ -28,22 +27,19 @@ pub struct LoupeSetup {
     pub settings: Settings,
 }
 
-// One axis of the widened rectangle: what `len` positions from `start` need, clipped to the whole.
-fn clipped(start: i32, len: u32, margin: u32, whole_start: i32, whole_len: u32) -> Span
-    ensures { result ≡ meet (reaching margin 8 (span_of start len)) (span_of whole_start whole_len) }
+// One axis of the widened rectangle: what the wanted positions need, clipped to the whole.
+fn clipped(wanted: Axis, margin: u32, whole: Axis) -> Span
+    ensures { result ≡ meet (reaching margin 8 (span_of wanted.start wanted.len)) (span_of whole.start whole.len) }
 {
-    meet(
-        reaching(start, len, margin),
-        span_of(whole_start, whole_len),
-    )
+    meet(wanted.reaching(margin), whole.span())
 }
 
 fn widened(whole: Region, wanted: Region, margin: u32) -> Region
     requires { WantedFits whole wanted }
     ensures { result ≡ widened margin whole wanted }
 {
-    let x = check_span(clipped(wanted.left, wanted.width, margin, whole.left, whole.width));
-    let y = check_span(clipped(wanted.top, wanted.height, margin, whole.top, whole.height));
+    let x = check_span(clipped(wanted.columns(), margin, whole.columns())).unwrap();
+    let y = check_span(clipped(wanted.rows(), margin, whole.rows())).unwrap();
     Region {
         left: x.start,
         top: y.start,
@@ -52,9 +48,8 @@ fn widened(whole: Region, wanted: Region, margin: u32) -> Region
     }
 }
 
-// Whether the wanted rectangle is empty or reaches outside the whole, for regions within the limits.
+// Whether the wanted rectangle is empty or reaches outside the whole.
 fn bad_wanted(whole: Region, wanted: Region) -> bool
-    requires { T (bounds_fit whole) × T (bounds_fit wanted) }
     ensures { result ≡ bad_wanted whole wanted }
 {
     if wanted.width == 0 {
@@ -63,7 +58,7 @@ fn bad_wanted(whole: Region, wanted: Region) -> bool
     if wanted.height == 0 {
         return true;
     }
-    !whole.contains(wanted).holds
+    !whole.surrounds(wanted)
 }
 
 // Whether the EPF runs and the whole does not start at multiples of 8.
@@ -83,10 +78,10 @@ fn off_blocks(s: LoupeSetup) -> bool
 pub fn loupe_widened(s: LoupeSetup) -> RegionAnswer
     ensures { result ≡ widened_outcome s }
 {
-    if !picture_fits(s.whole) {
+    if !s.whole.picture_fits() {
         return refused(OUT_OF_LIMITS);
     }
-    if !rectangle_fits(s.wanted) {
+    if !s.wanted.rectangle_fits() {
         return refused(OUT_OF_LIMITS);
     }
     if bad_wanted(s.whole, s.wanted) {

@@ -15,14 +15,12 @@ use Rattle.refusals.proofs.Rows.{found, after, first-number, none, drop, same_nu
 use Rattle.region.specs.declared.Region.{Region}
 use Rattle.region.proofs.Laws.{picture-bounds, picture-width, picture-height, bounds-width, bounds-height}
 use Rattle.region.proofs.Regions.{width_fits, height-fits}
-use Rattle.region_placement.specs.declared.PlacedAnswer.{PlacedAnswer}
-use Rattle.region_placement.specs.Placed.{placed_checks, placed_outcome}
+use Rattle.region_placement.specs.Placed.{placed_checks}
 use Rattle.region_placement.proofs.PlacedLaws.{placed-fits}
 use Rattle.planes.specs.declared.Layout.{Layout}
 use Rattle.planes.specs.Band.{layout_fits, set_fits, rows_fit}
 use Rattle.planes.specs.Fits.{LayoutFits}
-use Rattle.planes_layout.specs.declared.LayoutAnswer.{LayoutAnswer}
-use Rattle.planes_layout.specs.Outcome.{layout_of, no_layout, layout_answer, layout_outcome, lengths_check, flag_check, rows_check, pass_checks, PassOutcome, pass_outcome}
+use Rattle.planes_layout.specs.Outcome.{layout_of, lengths_check, flag_check, rows_check, pass_checks, PassOutcome, pass_outcome}
 
 -- ---- the layout of regions with number 0
 
@@ -133,39 +131,7 @@ module _ (image filter : Region) (full n from to : ℕ) (src dst : List Float) w
             let passed : applies (rows_check image filter full from to) ≡ false = rw (f, e) in
             own-number 0 (same_number own [] (search (none, drop, lengths, flag, passed) depth 20))
 
--- ---- the answer
-
-pub answer-refused : (image filter : Region) (full : Bool) (p : PlacedAnswer) (a : LayoutAnswer) → p ≡ placed_outcome image filter → (p.number ≡ 0 → ⊥)
-    → a ≡ record { number = p.number; layout = no_layout } → a ≡ layout_outcome image filter full
-unfolding layout_answer
-answer-refused image filter full p a e h q =
-    let k : p.number ≡ first_of (placed_checks image filter) = ap (λ (z : PlacedAnswer). z.number) e in
-    let m : eqb (first_of (placed_checks image filter)) 0 ≡ false = ne_eqb _ 0 (λ (z : first_of (placed_checks image filter) ≡ 0). h (k ∙ z)) in
-    q ∙ rw (k, m)
-
-pub answer-accepted : (image filter : Region) (full : Bool) (p : PlacedAnswer) → p ≡ placed_outcome image filter → p.number ≡ 0
-    → ◌≡◌ {A = LayoutAnswer} (record {
-      number = 0;
-      layout = record { image = record { width = image.width; height = image.height }; left = p.x; top = p.y; width = filter.width; height = filter.height; full = full };
-    }) (layout_outcome image filter full)
-unfolding layout_answer layout_of
-answer-accepted image filter full p e h =
-    let k : first_of (placed_checks image filter) ≡ 0 = sym (ap (λ (z : PlacedAnswer). z.number) e) ∙ h in
-    let x : p.x ≡ nat_abs (filter.left -ℤ image.left) = ap (λ (z : PlacedAnswer). z.x) e ∙ rw k in
-    let y : p.y ≡ nat_abs (filter.top -ℤ image.top) = ap (λ (z : PlacedAnswer). z.y) e ∙ rw k in
-    rw (k, x, y)
-
--- ---- for passes: a is the answer; then the number and the written set of the pass
-
-pub answer-number : (image filter : Region) (full : Bool) (a : LayoutAnswer) → a ≡ layout_outcome image filter full → a.number ≡ first_of (placed_checks image filter)
-unfolding layout_answer
-answer-number image filter full a e = ap (λ (z : LayoutAnswer). z.number) e
-
-pub answer-layout : (image filter : Region) (full : Bool) (a : LayoutAnswer) → a ≡ layout_outcome image filter full → a.number ≡ 0 → a.layout ≡ layout_of image filter full
-unfolding layout_answer
-answer-layout image filter full a e h =
-    let k : first_of (placed_checks image filter) ≡ 0 = sym (answer-number image filter full a e) ∙ h in
-    ap (λ (z : LayoutAnswer). z.layout) e ∙ rw k
+-- ---- for passes: the number and the written set of the pass
 
 pub pass-refused : (k n : ℕ) (left dst : List Float) → k ≡ n → (k ≡ 0 → ⊥) → ◌≡◌ {A = PassOutcome} (record { number = k; target = dst }) (pass_outcome n left dst)
 unfolding pass_outcome

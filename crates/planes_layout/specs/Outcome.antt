@@ -7,7 +7,6 @@ use Rattle.region.specs.declared.Region.{Region}
 use Rattle.region_placement.specs.Placed.{placed_checks}
 use Rattle.planes.specs.declared.Layout.{Layout}
 use Rattle.planes.specs.Band.{rows_fit}
-use Rattle.planes_layout.specs.declared.LayoutAnswer.{LayoutAnswer}
 
 -- columns and rows count from the image region's corner; full: the result region is the image region
 unfoldable pub layout_of : Region → Region → Bool → Layout
@@ -19,16 +18,6 @@ layout_of image filter full = record {
   height = filter.height;
   full = full;
 }
-
-abbrev pub no_layout : Layout
-no_layout = record { image = record { width = 0; height = 0 }; left = 0; top = 0; width = 0; height = 0; full = false }
-
-unfoldable pub layout_answer : ℕ → Layout → LayoutAnswer
-layout_answer n l = record { number = n; layout = cond (eqb n 0) l no_layout }
-
--- Specification 9.4: 4, then 5
-abbrev pub layout_outcome : Region → Region → Bool → LayoutAnswer
-layout_outcome image filter full = layout_answer (first_of (placed_checks image filter)) (layout_of image filter full)
 
 -- ---- a pass over the rows from `from` up to, not including, `to` of the result region, from one set of n planes to another
 

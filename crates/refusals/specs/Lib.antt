@@ -1,4 +1,5 @@
 pub mod Refusals
+pub mod Answered
 pub mod Numbers
 pub mod Checks
 pub mod Flags

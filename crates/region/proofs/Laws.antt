@@ -42,11 +42,11 @@ module _ (r : Region) (t : T (bounds_fit r)) where
   bounds-height = side-size r.height (and_r (corner_fits r.top) (side_fits r.height) down)
 
   -- the right and bottom edges
-  pub far-column : mag (columns r).end < 0x8000_0000
-  far-column = omega (arith, mag-add r.left (pos r.width), place-size r.left bounds-left, bounds-width)
+  pub far_column : mag (columns r).end < 0x8000_0000
+  far_column = omega (arith, mag-add r.left (pos r.width), place-size r.left bounds-left, bounds-width)
 
-  pub far-row : mag (rows r).end < 0x8000_0000
-  far-row = omega (arith, mag-add r.top (pos r.height), place-size r.top bounds-top, bounds-height)
+  pub far_row : mag (rows r).end < 0x8000_0000
+  far_row = omega (arith, mag-add r.top (pos r.height), place-size r.top bounds-top, bounds-height)
 
 pub bounds_of : (r : Region) → T (corner_fits r.left) → T (corner_fits r.top) → r.width ≤ 16384 → r.height ≤ 16384 → T (bounds_fit r)
 unfolding bounds_fit
@@ -55,13 +55,13 @@ bounds_of r a b w h =
     (and_i (corner_fits r.left) (side_fits r.width) a (side-of r.width w)) (and_i (corner_fits r.top) (side_fits r.height) b (side-of r.height h))
 
 -- a region is within the limits if both of its axes are
-pub bounds-spans : (x y : Span) → bounds_fit (region_of x y) ≡ (span_fits x && span_fits y)
+pub bounds_spans : (x y : Span) → bounds_fit (region_of x y) ≡ (span_fits x && span_fits y)
 unfolding bounds_fit region_of span_fits
-bounds-spans x y = refl
+bounds_spans x y = refl
 
-pub bounds-axes : (r : Region) → bounds_fit r ≡ (span_fits (columns r) && span_fits (rows r))
+pub bounds_axes : (r : Region) → bounds_fit r ≡ (span_fits (columns r) && span_fits (rows r))
 unfolding bounds_fit span_fits
-bounds-axes r = rw (extent-back r.left r.width, extent-back r.top r.height)
+bounds_axes r = rw (extent-back r.left r.width, extent-back r.top r.height)
 
 -- ---- regions within the limits of an image or filter region
 

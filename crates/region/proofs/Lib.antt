@@ -1,3 +1,4 @@
+pub mod Areas
 pub mod Answers
 pub mod Laws
 pub mod Regions

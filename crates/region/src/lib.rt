@@ -2,21 +2,22 @@
 // Specification 4.1.
 #![tactic(auto)]
 
-ghost use Rattle.std.specs.Prelude.{◌≡◌, false, ◌<◌, T, pos};
+ghost use Rattle.std.specs.Prelude.{◌≡◌, ◌*◌, ◌<◌, T};
 ghost use Rattle.std.specs.Int.Signed.{mag};
 ghost use Rattle.refusals.specs.Checks.{first_of};
-ghost use Rattle.region_axis.specs.Measures.{span_fits};
-ghost use Rattle.region.specs.Measures.{bounds_fit};
+ghost use Rattle.refusals.specs.Refusals.{number_of, IsOutcome};
+ghost use Rattle.region.specs.Measures.{bounds_fit, picture_fits, rectangle_fits};
 ghost use Rattle.region.specs.Regions.{columns, rows, is_empty, inside, contains};
-ghost use Rattle.region.specs.Answers.{bool_answer, edge_answer, given_checks};
-ghost use Rattle.region.specs.Answers.{is_empty_outcome, right_outcome, bottom_outcome, contains_outcome};
+ghost use Rattle.region.specs.Answers.{given_checks, pair_checks};
 
-use refusals::{ACCEPTED, OUT_OF_LIMITS};
-use region_interval::Span;
+use limits::MAX_AREA_U64;
+use refusals::Refusal;
+use region_axis::span_fits;
+use region_interval::{Axis, Span, overlap};
 
 // A rectangle of samples: the column and row of its corner, and its sides. It is empty if a side is 0.
 #[repr(C)]
-#[derive(Clone, Copy)]
+#[derive(Clone, Copy, Debug, Default, PartialEq, Eq)]
 pub struct Region {
     pub left: i32,
     pub top: i32,
@@ -24,158 +25,121 @@ pub struct Region {
     pub height: u32,
 }
 
-// Whether a test of regions holds; false in a refused call.
-#[repr(C)]
-#[derive(Clone, Copy)]
-pub struct BoolAnswer {
-    pub number: u32,
-    pub holds: bool,
-}
-
-// The first column right of a region or the first row below it; 0 in a refused call.
-#[repr(C)]
-#[derive(Clone, Copy)]
-pub struct EdgeAnswer {
-    pub number: u32,
-    pub edge: i32,
-}
-
-fn columns(r: Region) -> Span
-    ensures { result ≡ columns r }
-{
-    region_interval::span_of(r.left, r.width)
-}
-
-fn rows(r: Region) -> Span
-    ensures { result ≡ rows r }
-{
-    region_interval::span_of(r.top, r.height)
-}
-
-fn within(s: Span) -> bool
-    ensures { result ≡ span_fits s }
-{
-    region_axis::check_span(s).ok
-}
-
-// Whether a region is within the limits of region arithmetic: sides may be 0, and the area has no limit.
-pub fn bounds_fit(r: Region) -> bool
-    ensures { result ≡ bounds_fit r }
-{
-    if !within(columns(r)) {
-        return false;
-    }
-    within(rows(r))
-}
-
-fn empty(r: Region) -> bool
-    ensures { result ≡ is_empty r }
-{
-    if r.width == 0 {
-        return true;
-    }
-    r.height == 0
-}
-
-fn bool_answer(holds: bool) -> BoolAnswer
-    ensures { result ≡ bool_answer 0 holds }
-{
-    BoolAnswer {
-        number: ACCEPTED,
-        holds,
-    }
-}
-
-fn bool_refused(number: u32) -> BoolAnswer
-    ensures { result ≡ record { number = number; holds = false } }
-{
-    BoolAnswer {
-        number,
-        holds: false,
-    }
-}
-
-fn edge_at(s: Span) -> EdgeAnswer
-    requires { mag s.end < 0x8000_0000 }
-    ensures { result ≡ edge_answer 0 s.end }
-{
-    EdgeAnswer {
-        number: ACCEPTED,
-        edge: s.end as i32,
-    }
-}
-
-fn no_edge(number: u32) -> EdgeAnswer
-    ensures { result ≡ record { number = number; edge = pos 0 } }
-{
-    EdgeAnswer { number, edge: 0 }
-}
-
-// The end of a span of r, if r is within the limits.
-fn edge_of(r: Region, s: Span) -> EdgeAnswer
-    requires { T (bounds_fit r) → mag s.end < 0x8000_0000 }
-    ensures { result ≡ edge_answer (first_of (given_checks r)) s.end }
-{
-    if !bounds_fit(r) {
-        return no_edge(OUT_OF_LIMITS);
-    }
-    edge_at(s)
-}
-
 impl Region {
-    // Whether a side is 0, or refusal 4.
-    pub fn is_empty(self) -> BoolAnswer
-        ensures { result ≡ is_empty_outcome self }
+    pub fn columns(self) -> Axis
+        ensures { result ≡ record { start = self.left; len = self.width } }
     {
-        if !bounds_fit(self) {
-            return bool_refused(OUT_OF_LIMITS);
+        Axis {
+            start: self.left,
+            len: self.width,
         }
-        bool_answer(empty(self))
+    }
+
+    pub fn rows(self) -> Axis
+        ensures { result ≡ record { start = self.top; len = self.height } }
+    {
+        Axis {
+            start: self.top,
+            len: self.height,
+        }
+    }
+
+    // Whether the region is within the limits of region arithmetic: sides may be 0, and the area has no limit.
+    #[tactic(auto, using(crate::proofs::Laws::bounds_axes))]
+    pub fn bounds_fit(self) -> bool
+        ensures { result ≡ bounds_fit self }
+    {
+        span_fits(self.columns().span()) && span_fits(self.rows().span())
+    }
+
+    // Refusal 4 outside the limits of region arithmetic.
+    pub fn check_bounds(self) -> Result<(), Refusal>
+        ensures { number_of result ≡ first_of (given_checks self) }
+    {
+        if self.bounds_fit() {
+            Ok(())
+        } else {
+            Err(Refusal::OutOfLimits)
+        }
+    }
+
+    #[tactic(auto, using(crate::proofs::Areas::product))]
+    fn area(self) -> u64
+        ensures { result ≡ self.width * self.height }
+    {
+        u64::from(self.width) * u64::from(self.height)
+    }
+
+    // Whether the region is within the limits of an image or filter region.
+    #[tactic(auto, unfolding(crate::specs::Measures::picture_fits))]
+    pub fn picture_fits(self) -> bool
+        ensures { result ≡ picture_fits self }
+    {
+        self.bounds_fit() && 1 <= self.width && 1 <= self.height && self.area() <= MAX_AREA_U64
+    }
+
+    // Whether the region is within the limits of a rectangle that a caller asks for: it may be empty.
+    #[tactic(auto, unfolding(crate::specs::Measures::rectangle_fits))]
+    pub fn rectangle_fits(self) -> bool
+        ensures { result ≡ rectangle_fits self }
+    {
+        self.bounds_fit() && self.area() <= MAX_AREA_U64
+    }
+
+    fn has_no_sample(self) -> bool
+        ensures { result ≡ is_empty self }
+    {
+        self.width == 0 || self.height == 0
+    }
+
+    // Whether a side is 0, or refusal 4.
+    pub fn is_empty(self) -> Result<bool, Refusal>
+        ensures { IsOutcome result (first_of (given_checks self)) (is_empty self) }
+    {
+        self.check_bounds()?;
+        Ok(self.has_no_sample())
+    }
+
+    // The end of a span of the region, if the region is within the limits.
+    fn edge(self, s: Span) -> Result<i32, Refusal>
+        requires { T (bounds_fit self) → mag s.end < 0x8000_0000 }
+        ensures { IsOutcome result (first_of (given_checks self)) s.end }
+    {
+        self.check_bounds()?;
+        Ok(s.end as i32)
     }
 
     // left + width, or refusal 4.
-    pub fn right(self) -> EdgeAnswer
-        ensures { result ≡ right_outcome self }
+    #[tactic(auto, using(crate::proofs::Laws::far_column))]
+    pub fn right(self) -> Result<i32, Refusal>
+        ensures { IsOutcome result (first_of (given_checks self)) (columns self).end }
     {
-        edge_of(self, columns(self))
+        self.edge(self.columns().span())
     }
 
     // top + height, or refusal 4.
-    pub fn bottom(self) -> EdgeAnswer
-        ensures { result ≡ bottom_outcome self }
+    #[tactic(auto, using(crate::proofs::Laws::far_row))]
+    pub fn bottom(self) -> Result<i32, Refusal>
+        ensures { IsOutcome result (first_of (given_checks self)) (rows self).end }
     {
-        edge_of(self, rows(self))
+        self.edge(self.rows().span())
+    }
+
+    // Whether the target is inside the region, limits or not.
+    #[tactic(auto, unfolding(crate::specs::Regions::inside))]
+    pub fn surrounds(self, target: Region) -> bool
+        ensures { result ≡ inside self target }
+    {
+        overlap::covers(self.columns().span(), target.columns().span())
+            && overlap::covers(self.rows().span(), target.rows().span())
     }
 
     // Whether the target is empty or inside, or refusal 4.
-    pub fn contains(self, target: Region) -> BoolAnswer
-        ensures { result ≡ contains_outcome self target }
+    pub fn contains(self, target: Region) -> Result<bool, Refusal>
+        ensures { IsOutcome result (first_of (pair_checks self target)) (contains self target) }
     {
-        if !bounds_fit(self) {
-            return bool_refused(OUT_OF_LIMITS);
-        }
-        if !bounds_fit(target) {
-            return bool_refused(OUT_OF_LIMITS);
-        }
-        bool_answer(holds(self, target))
+        self.check_bounds()?;
+        target.check_bounds()?;
+        Ok(target.has_no_sample() || self.surrounds(target))
     }
-}
-
-// Whether the target is inside r.
-fn inside(r: Region, target: Region) -> bool
-    ensures { result ≡ inside r target }
-{
-    if !region_interval::overlap::covers(columns(r), columns(target)) {
-        return false;
-    }
-    region_interval::overlap::covers(rows(r), rows(target))
-}
-
-fn holds(r: Region, target: Region) -> bool
-    ensures { result ≡ contains r target }
-{
-    if empty(target) {
-        return true;
-    }
-    inside(r, target)
 }

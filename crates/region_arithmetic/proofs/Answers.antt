@@ -1,5 +1,9 @@
 -- When a result is refused, read off the tables of checks. Assumes nothing.
-use mathlib.Core.Path.{◌≡◌, refl}
+use mathlib.Core.Path.{◌≡◌, refl, sym, ◌∙◌}
+use Rattle.std.specs.Prelude.{Result}
+use Rattle.refusals.specs.Refusals.{IsOutcome}
+use Rattle.refusals.specs.declared.Refusal.{Refusal}
+use Rattle.region.proofs.Answers.{given_passed}
 use mathlib.Core.Bool.{Bool, true, false}
 use Rattle.refusals.specs.Numbers.{out_of_limits, out_of_range}
 use Rattle.refusals.specs.Checks.{applies, first_of}
@@ -22,9 +26,9 @@ module _ (r made : Region) where
   pub result-fails : bounds_fit r ≡ false → first_of (made_checks r made) ≡ out_of_limits
   result-fails e = first-number (made_checks r made) (measured_check r) (search (found, after, too_large) depth 20)
 
-  pub result-checked : bounds_fit r ≡ true → first_of (made_checks r made) ≡ region_number made
+  pub result_checked : bounds_fit r ≡ true → first_of (made_checks r made) ≡ region_number made
   unfolding region_number
-  result-checked e = same_number (made_checks r made) (given_checks made) (search (none, keep, drop, in-limits) depth 20)
+  result_checked e = same_number (made_checks r made) (given_checks made) (search (none, keep, drop, in-limits) depth 20)
 
   module _ (sound : Bool) where
     pub setting-given : bounds_fit r ≡ false → first_of (setting_checks r sound made) ≡ out_of_limits
@@ -36,6 +40,15 @@ module _ (r made : Region) where
         let fails : applies (setting_check sound) ≡ true = rw f in
         first-number (setting_checks r sound made) (setting_check sound) (search (found, after, in-limits, unjudged, fails) depth 20)
 
-    pub setting-checked : bounds_fit r ≡ true → sound ≡ true → first_of (setting_checks r sound made) ≡ region_number made
+    pub setting_checked : bounds_fit r ≡ true → sound ≡ true → first_of (setting_checks r sound made) ≡ region_number made
     unfolding region_number
-    setting-checked e f = rw f (same_number (setting_checks r true made) (given_checks made) (search (none, keep, drop, in-limits, refl) depth 20))
+    setting_checked e f = rw f (same_number (setting_checks r true made) (given_checks made) (search (none, keep, drop, in-limits, refl) depth 20))
+
+-- ---- what a call returns that has checked its arguments and its setting
+
+module _ (r made : Region) (o : Result Region Refusal) (e : 0 ≡ first_of (given_checks r)) (i : IsOutcome o (region_number made) made) where
+  pub made_outcome : IsOutcome o (first_of (made_checks r made)) made
+  made_outcome = (i.0 ∙ sym (result_checked r made (given_passed r e)), i.1)
+
+  pub setting_outcome : (sound : Bool) → sound ≡ true → IsOutcome o (first_of (setting_checks r sound made)) made
+  setting_outcome sound f = (i.0 ∙ sym (setting_checked r made sound (given_passed r e) f), i.1)

@@ -3,17 +3,19 @@
 #![tactic(auto)]
 
 ghost use Rattle.std.specs.Prelude.{◌≡◌, T};
-ghost use Rattle.region_interval.specs.Interval.{span_of};
-ghost use Rattle.region_interval.specs.Overlap.{meet};
+ghost use Rattle.refusals.specs.Checks.{first_of};
+ghost use Rattle.refusals.specs.Refusals.{number_of, IsOutcome};
+ghost use Rattle.refusals.specs.Answered.{value_or};
 ghost use Rattle.region.specs.Measures.{bounds_fit};
 ghost use Rattle.region.specs.Regions.{region_of, zero_region};
-ghost use Rattle.region_arithmetic.specs.Arithmetic.{intersected};
-ghost use Rattle.region_arithmetic.specs.Answers.{region_answer, region_number, is_alignment, aligned_outcome};
-ghost use Rattle.region_arithmetic.specs.Answers.{translate_outcome, intersection_outcome, pad_outcome};
-ghost use Rattle.region_arithmetic.specs.Answers.{downsample_outcome};
+ghost use Rattle.region.specs.Answers.{pair_checks};
+ghost use Rattle.region_arithmetic.specs.Arithmetic.{translated, intersected, padded_by, downsampled, aligned_to};
+ghost use Rattle.region_arithmetic.specs.Answers.{region_number, made_checks, setting_checks, is_factor, is_alignment};
 
-use refusals::{ACCEPTED, OUT_OF_LIMITS, OUT_OF_RANGE};
-use region::{Region, bounds_fit};
+use refusals::{Refusal, number_of};
+use region::Region;
+use region_axis::check_span;
+use region_interval::overlap::{meet, vacant};
 use region_interval::{LARGEST_EXPONENT, Span};
 
 // A region made from others; zeros in a refused call.
@@ -24,9 +26,18 @@ pub struct RegionAnswer {
     pub region: Region,
 }
 
-const LARGEST_FACTOR: u32 = 16;
+impl From<Result<Region, Refusal>> for RegionAnswer {
+    ghost from_gives = { λ made a. a ≡ record { number = number_of made; region = value_or zero_region made } };
 
-// The answer of a refused call.
+    fn from(made: Result<Region, Refusal>) -> RegionAnswer {
+        RegionAnswer {
+            number: number_of(made.map(|_| ())),
+            region: made.unwrap_or_default(),
+        }
+    }
+}
+
+// The answer of a refused call, for callers that answer numbers.
 pub fn refused(number: u32) -> RegionAnswer
     ensures { result ≡ record { number = number; region = zero_region } }
 {
@@ -41,133 +52,98 @@ pub fn refused(number: u32) -> RegionAnswer
     }
 }
 
+const LARGEST_FACTOR: u32 = 16;
+
 // The region of these columns and rows if it is within the limits, or refusal 4.
-fn check_made(x: Span, y: Span) -> RegionAnswer
-    ensures { result ≡ region_answer (region_number (region_of x y)) (region_of x y) }
+#[tactic(auto, using(region_axis::proofs::Laws::axis_none, region::proofs::Laws::bounds_spans), unfolding(crate::specs::Answers::region_number))]
+fn check_made(x: Span, y: Span) -> Result<Region, Refusal>
+    ensures { IsOutcome result (region_number (region_of x y)) (region_of x y) }
 {
-    let across = region_axis::check_span(x);
-    let down = region_axis::check_span(y);
-    if !across.ok {
-        return refused(OUT_OF_LIMITS);
-    }
-    if !down.ok {
-        return refused(OUT_OF_LIMITS);
-    }
-    RegionAnswer {
-        number: ACCEPTED,
-        region: Region {
-            left: across.start,
-            top: down.start,
-            width: across.len,
-            height: down.len,
-        },
-    }
+    let Some(across) = check_span(x) else {
+        return Err(Refusal::OutOfLimits);
+    };
+    let Some(down) = check_span(y) else {
+        return Err(Refusal::OutOfLimits);
+    };
+    Ok(Region {
+        left: across.start,
+        top: down.start,
+        width: across.len,
+        height: down.len,
+    })
 }
 
 fn is_alignment(grid_dim: u32) -> bool
     ensures { result ≡ is_alignment grid_dim }
 {
-    let exponent = u32::trailing_zeros(grid_dim);
-    if LARGEST_EXPONENT < exponent {
-        return false;
-    }
-    1u32 << exponent == grid_dim
+    let exponent = grid_dim.trailing_zeros();
+    exponent <= LARGEST_EXPONENT && 1u32 << exponent == grid_dim
 }
 
 // The region moved by (x, y), or refusal 4.
-pub fn translate(r: Region, x: i32, y: i32) -> RegionAnswer
-    ensures { result ≡ translate_outcome r x y }
+pub fn translate(r: Region, x: i32, y: i32) -> Result<Region, Refusal>
+    ensures { IsOutcome result (first_of (made_checks r (translated x y r))) (translated x y r) }
 {
-    if !bounds_fit(r) {
-        return refused(OUT_OF_LIMITS);
-    }
-    check_made(
-        region_interval::moved(r.left, r.width, x),
-        region_interval::moved(r.top, r.height, y),
-    )
-}
-
-// The positions common to n positions from a and m positions from b.
-fn shared(a: i32, n: u32, b: i32, m: u32) -> Span
-    ensures { result ≡ meet (span_of a n) (span_of b m) }
-{
-    region_interval::overlap::meet(
-        region_interval::span_of(a, n),
-        region_interval::span_of(b, m),
-    )
+    r.check_bounds()?;
+    check_made(r.columns().moved(x), r.rows().moved(y))
 }
 
 // The intersection of two regions within the limits.
-fn common(a: Region, b: Region) -> RegionAnswer
+#[tactic(auto, unfolding(crate::specs::Arithmetic::intersected))]
+fn common(a: Region, b: Region) -> Result<Region, Refusal>
     requires { T (bounds_fit a) × T (bounds_fit b) }
-    ensures { result ≡ region_answer 0 (intersected a b) }
+    ensures { IsOutcome result 0 (intersected a b) }
 {
-    let x = shared(a.left, a.width, b.left, b.width);
-    let y = shared(a.top, a.height, b.top, b.height);
-    if region_interval::overlap::vacant(x) {
-        return refused(ACCEPTED);
-    }
-    if region_interval::overlap::vacant(y) {
-        return refused(ACCEPTED);
+    let x = meet(a.columns().span(), b.columns().span());
+    let y = meet(a.rows().span(), b.rows().span());
+    if vacant(x) || vacant(y) {
+        return Ok(Region {
+            left: 0,
+            top: 0,
+            width: 0,
+            height: 0,
+        });
     }
     check_made(x, y)
 }
 
 // The intersection, zeros if it is empty, or refusal 4.
-pub fn intersection(a: Region, b: Region) -> RegionAnswer
-    ensures { result ≡ intersection_outcome a b }
+pub fn intersection(a: Region, b: Region) -> Result<Region, Refusal>
+    ensures { IsOutcome result (first_of (pair_checks a b)) (intersected a b) }
 {
-    if !bounds_fit(a) {
-        return refused(OUT_OF_LIMITS);
-    }
-    if !bounds_fit(b) {
-        return refused(OUT_OF_LIMITS);
-    }
+    a.check_bounds()?;
+    b.check_bounds()?;
     common(a, b)
 }
 
 // The region with `size` more columns and rows on every side, or refusal 4.
-pub fn pad(r: Region, size: u32) -> RegionAnswer
-    ensures { result ≡ pad_outcome r size }
+#[tactic(auto, using(crate::proofs::Answers::result_checked), unfolding(crate::specs::Arithmetic::padded_by))]
+pub fn pad(r: Region, size: u32) -> Result<Region, Refusal>
+    ensures { IsOutcome result (first_of (made_checks r (padded_by size r))) (padded_by size r) }
 {
-    if !bounds_fit(r) {
-        return refused(OUT_OF_LIMITS);
-    }
-    check_made(
-        region_interval::padded(r.left, r.width, size),
-        region_interval::padded(r.top, r.height, size),
-    )
+    r.check_bounds()?;
+    check_made(r.columns().padded(size), r.rows().padded(size))
 }
 
 // The cells of 2^factor × 2^factor positions that the region touches, or refusal 4 or 9.
-pub fn downsample(r: Region, factor: u32) -> RegionAnswer
-    ensures { result ≡ downsample_outcome r factor }
+pub fn downsample(r: Region, factor: u32) -> Result<Region, Refusal>
+    ensures { IsOutcome result (first_of (setting_checks r (is_factor factor) (downsampled factor r))) (downsampled factor r) }
 {
-    if !bounds_fit(r) {
-        return refused(OUT_OF_LIMITS);
-    }
+    r.check_bounds()?;
     if LARGEST_FACTOR < factor {
-        return refused(OUT_OF_RANGE);
+        return Err(Refusal::OutOfRange);
     }
-    check_made(
-        region_interval::shrunk(r.left, r.width, factor),
-        region_interval::shrunk(r.top, r.height, factor),
-    )
+    check_made(r.columns().shrunk(factor), r.rows().shrunk(factor))
 }
 
 // The smallest region around r whose edges are multiples of `grid_dim`, or refusal 4 or 9.
-pub fn container_aligned(r: Region, grid_dim: u32) -> RegionAnswer
-    ensures { result ≡ aligned_outcome r grid_dim }
+pub fn container_aligned(r: Region, grid_dim: u32) -> Result<Region, Refusal>
+    ensures { IsOutcome result (first_of (setting_checks r (is_alignment grid_dim) (aligned_to grid_dim r))) (aligned_to grid_dim r) }
 {
-    if !bounds_fit(r) {
-        return refused(OUT_OF_LIMITS);
-    }
+    r.check_bounds()?;
     if !is_alignment(grid_dim) {
-        return refused(OUT_OF_RANGE);
+        return Err(Refusal::OutOfRange);
     }
-    let exponent = u32::trailing_zeros(grid_dim);
-    check_made(
-        region_interval::aligned(r.left, r.width, exponent),
-        region_interval::aligned(r.top, r.height, exponent),
-    )
+    let exponent = grid_dim.trailing_zeros();
+    check_made(r.columns().aligned(exponent), r.rows().aligned(exponent))
 }

@@ -1,18 +1,20 @@
 -- Laws of the limits of one axis. Assumes nothing.
 use mathlib.Core.Path.{◌≡◌, refl, ap}
 use mathlib.Core.Bool.{Bool, true, false}
-use mathlib.Core.Logic.{⊎_elim}
-use Prim.Native.Nat.{ℕ, ◌+◌, ◌<◌, ◌≤◌}
+use Prim.Native.Nat.{ℕ, ◌+◌, ◌≤◌}
 use native.Mathlib.Omega.{arith}
-use borrow.Author.Tests.{lt-leb, le-leb}
+use borrow.Author.Tests.{le-leb}
 use lib.Dec.{T, leb, leb→le, le→leb}
+use Rattle.std.specs.Prelude.{Option, Some, None, FitsSigned}
+use mir.Syntax.{w32}
 use lib.Ieee.Fits.{and_l, and_r, and_i}
-use lib.IntN.{ℤ, pos, negsuc, ◌+ℤ◌, ◌-ℤ◌}
+use lib.IntN.{ℤ, pos, negsuc, ◌+ℤ◌}
 use lib.Signed.{le_z, mag}
-use Rattle.region_interval.proofs.Order.{above, below, one_side, sum_is, difference-is, size_is, side-mag, eq_of, distance_is}
+use Rattle.region_interval.proofs.Order.{above, below, sum_is, eq_of, distance_is}
 use Rattle.region_interval.proofs.Positions.{nth-offset}
 use Rattle.region_interval.specs.Interval.{span_of, extent}
 use Rattle.region_interval.specs.declared.Span.{Span}
+use Rattle.region_interval.specs.declared.Axis.{Axis}
 use Rattle.region_axis.specs.Measures.{axis_of, span_fits, corner_fits, side_fits}
 
 -- ---- laws
@@ -50,44 +52,40 @@ extent-back z n = nth-offset z n
 
 -- ---- spans that are checked
 
-module _ (s : Span) where
-  pub axis-unplaced : corner_fits s.start ≡ false → axis_of s ≡ record { ok = false; start = pos 0; len = 0 }
-  unfolding axis_of span_fits
-  axis-unplaced e = rw e
-
-  pub axis-long : corner_fits s.start ≡ true → 16384 < extent s → axis_of s ≡ record { ok = false; start = pos 0; len = 0 }
-  unfolding axis_of span_fits side_fits
-  axis-long e h = rw (e, lt-leb (extent s) 16384 h)
-
-  pub axis-in : corner_fits s.start ≡ true → extent s ≤ 16384 → axis_of s ≡ record { ok = true; start = s.start; len = extent s }
-  unfolding axis_of span_fits side_fits
-  axis-in e h = rw (e, le-leb (extent s) 16384 h)
-
-  -- an end that is far from every accepted start
-  pub far-end : T (corner_fits s.start) → 4194304 < above s.end + below s.end → 16384 < extent s
-  far-end p h =
-      let d = s.end -ℤ s.start in
-      let facts : above s.start + below s.start ≤ 1048577 = omega (arith, side-mag s.start, place-size s.start p) in
-      ⊎_elim
-      (λ (l : above d ≡ 0). ⊎_elim
-      (λ (m : above s.end ≡ 0). omega (arith, size_is d, difference-is s.end s.start))
-      (λ (m : below s.end ≡ 0). omega (arith, size_is d, difference-is s.end s.start)) (one_side s.end))
-      (λ (l : below d ≡ 0). ⊎_elim
-      (λ (m : above s.end ≡ 0). omega (arith, size_is d, difference-is s.end s.start))
-      (λ (m : below s.end ≡ 0). omega (arith, size_is d, difference-is s.end s.start)) (one_side s.end))
-      (one_side d)
-
-pub axis-ok : (s : Span) → (axis_of s).ok ≡ span_fits s
-unfolding axis_of
-axis-ok s = go (span_fits s) refl
-  where
-    go : (x : Bool) → span_fits s ≡ x → (axis_of s).ok ≡ span_fits s
-    go true e = rw e
-    go false e = rw e
-
-pub axis-yes : (s : Span) → span_fits s ≡ true → axis_of s ≡ record { ok = true; start = s.start; len = extent s }
+pub axis-yes : (s : Span) → span_fits s ≡ true → axis_of s ≡ Some (record { start = s.start; len = extent s })
 unfolding axis_of
 axis-yes s e = rw e
+
+pub axis-no : (s : Span) → span_fits s ≡ false → axis_of s ≡ None
+unfolding axis_of
+axis-no s e = rw e
+
+pub axis-in : (s : Span) → corner_fits s.start ≡ true → extent s ≤ 16384 → axis_of s ≡ Some (record { start = s.start; len = extent s })
+unfolding span_fits side_fits
+axis-in s e h = axis-yes s (rw (e, le-leb (extent s) 16384 h))
+
+-- what there being one says, and none
+pub axis_some : (s : Span) (a : Axis) → Some a ≡ axis_of s → (span_fits s ≡ true) × (a ≡ record { start = s.start; len = extent s })
+unfolding axis_of
+axis_some s a = go (span_fits s) refl
+  where
+    go : (x : Bool) → span_fits s ≡ x → Some a ≡ axis_of s → (span_fits s ≡ true) × (a ≡ record { start = s.start; len = extent s })
+    go true e f = let g : Some a ≡ Some (record { start = s.start; len = extent s }) = rw e at f in (e, cc)
+    go false e f = let g : Some a ≡ None = rw e at f in cc
+
+pub axis_start : (s : Span) (a : Axis) → Some a ≡ axis_of s → FitsSigned w32 a.start
+axis_start s a e =
+    let p = axis_some s a e in
+    let h = place-size s.start (bounds-place s (rw p.0 tt)) in
+    rw p.1 (record { sfits = omega arith })
+
+pub axis_none : (s : Span) → None ≡ axis_of s → span_fits s ≡ false
+unfolding axis_of
+axis_none s = go (span_fits s) refl
+  where
+    go : (x : Bool) → span_fits s ≡ x → None ≡ axis_of s → span_fits s ≡ false
+    go true e f = let g : ◌≡◌ {A = Option Axis} None (Some (record { start = s.start; len = extent s })) = rw e at f in cc
+    go false e f = e
 
 -- an interval with start ≤ end is given by its start and extent
 pub span-back : (s : Span) → T (le_z s.start s.end) → span_of s.start (extent s) ≡ s

@@ -6,14 +6,28 @@ pub mod overlap;
 ghost use Rattle.std.specs.Prelude.{◌≡◌, ◌+◌, ◌≤◌, ◌<◌, ◌^◌, min, pos, neg_ℤ, ◌+ℤ◌, ◌*ℤ◌};
 ghost use Rattle.std.specs.Int.Signed.{mag};
 ghost use Rattle.region_interval.specs.Integers.{floor_div, ceil_div};
-ghost use Rattle.region_interval.specs.Interval.{span_of, moved, padded, reaching, shrunk, aligned};
+ghost use Rattle.region_interval.specs.Interval.{span_of, extent, moved, padded, reaching, shrunk, aligned};
 
-use limits::min_u32;
-
-#[derive(Clone, Copy)]
+#[derive(Clone, Copy, Debug, PartialEq, Eq)]
 pub struct Span {
     pub start: i64,
     pub end: i64,
+}
+
+impl Span {
+    // The distance of the ends: the number of positions, if the start is not after the end.
+    pub fn extent(self) -> u64
+        ensures { result ≡ extent self }
+    {
+        self.end.abs_diff(self.start)
+    }
+}
+
+// `len` positions from `start`.
+#[derive(Clone, Copy, Debug, PartialEq, Eq)]
+pub struct Axis {
+    pub start: i32,
+    pub len: u32,
 }
 
 // Alignments are 2^0 to 2^13.
@@ -79,69 +93,70 @@ fn multiple(q: i64, f: u32) -> i64
     q * (1i64 << f)
 }
 
-// len positions from start.
-pub fn span_of(start: i32, len: u32) -> Span
-    ensures { result ≡ span_of start len }
-{
-    Span {
-        start: wide(start),
-        end: end_of(start, len),
+impl Axis {
+    pub fn span(self) -> Span
+        ensures { result ≡ span_of self.start self.len }
+    {
+        Span {
+            start: wide(self.start),
+            end: end_of(self.start, self.len),
+        }
     }
-}
 
-// Both ends moved by d.
-pub fn moved(start: i32, len: u32, d: i32) -> Span
-    ensures { result ≡ moved d (span_of start len) }
-{
-    let by = wide(d);
-    Span {
-        start: sum(wide(start), by),
-        end: sum(end_of(start, len), by),
+    // Both ends moved by d.
+    pub fn moved(self, d: i32) -> Span
+        ensures { result ≡ moved d (span_of self.start self.len) }
+    {
+        let by = wide(d);
+        Span {
+            start: sum(wide(self.start), by),
+            end: sum(end_of(self.start, self.len), by),
+        }
     }
-}
 
-// n more positions at each end.
-pub fn padded(start: i32, len: u32, n: u32) -> Span
-    ensures { result ≡ padded n (span_of start len) }
-{
-    let by = length(n);
-    Span {
-        start: sum(wide(start), negated(by)),
-        end: sum(end_of(start, len), by),
+    // n more positions at each end.
+    pub fn padded(self, n: u32) -> Span
+        ensures { result ≡ padded n (span_of self.start self.len) }
+    {
+        let by = length(n);
+        Span {
+            start: sum(wide(self.start), negated(by)),
+            end: sum(end_of(self.start, self.len), by),
+        }
     }
-}
 
-// n more positions at each end, and the start then moved down to a multiple of 8.
-pub fn reaching(start: i32, len: u32, n: u32) -> Span
-    ensures { result ≡ reaching n 8 (span_of start len) }
-{
-    let by = length(n);
-    let from = sum(wide(start), negated(by));
-    let to = sum(end_of(start, len), by);
-    Span {
-        start: multiple(floor_shift(from, BLOCK_EXPONENT), BLOCK_EXPONENT),
-        end: to,
+    // n more positions at each end, and the start then moved down to a multiple of 8.
+    pub fn reaching(self, n: u32) -> Span
+        ensures { result ≡ reaching n 8 (span_of self.start self.len) }
+    {
+        let by = length(n);
+        let from = sum(wide(self.start), negated(by));
+        let to = sum(end_of(self.start, self.len), by);
+        Span {
+            start: multiple(floor_shift(from, BLOCK_EXPONENT), BLOCK_EXPONENT),
+            end: to,
+        }
     }
-}
 
-// The cells of 2^f positions that the span touches. An f over 63 counts as 63.
-pub fn shrunk(start: i32, len: u32, f: u32) -> Span
-    ensures { result ≡ shrunk (2 ^ min f 63) (span_of start len) }
-{
-    let by = min_u32(f, 63);
-    Span {
-        start: floor_shift(wide(start), by),
-        end: ceil_shift(end_of(start, len), by),
+    // The cells of 2^f positions that the span touches. An f over 63 counts as 63.
+    pub fn shrunk(self, f: u32) -> Span
+        ensures { result ≡ shrunk (2 ^ min f 63) (span_of self.start self.len) }
+    {
+        let by = f.min(63);
+        Span {
+            start: floor_shift(wide(self.start), by),
+            end: ceil_shift(end_of(self.start, self.len), by),
+        }
     }
-}
 
-// The span extended to multiples of 2^f. An f over 13 counts as 13.
-pub fn aligned(start: i32, len: u32, f: u32) -> Span
-    ensures { result ≡ aligned (2 ^ min f 13) (span_of start len) }
-{
-    let by = min_u32(f, LARGEST_EXPONENT);
-    Span {
-        start: multiple(floor_shift(wide(start), by), by),
-        end: multiple(ceil_shift(end_of(start, len), by), by),
+    // The span extended to multiples of 2^f. An f over 13 counts as 13.
+    pub fn aligned(self, f: u32) -> Span
+        ensures { result ≡ aligned (2 ^ min f 13) (span_of self.start self.len) }
+    {
+        let by = f.min(LARGEST_EXPONENT);
+        Span {
+            start: multiple(floor_shift(wide(self.start), by), by),
+            end: multiple(ceil_shift(end_of(self.start, self.len), by), by),
+        }
     }
 }

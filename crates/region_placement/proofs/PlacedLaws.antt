@@ -1,7 +1,7 @@
 -- When a placement is refused, read off the table of checks. Assumes nothing.
-use mathlib.Core.Path.{◌≡◌}
-use mathlib.Core.Bool.{true, false, ◌&&◌}
-use lib.Dec.{T}
+use mathlib.Core.Path.{◌≡◌, refl}
+use mathlib.Core.Bool.{Bool, true, false, cond, not, ◌&&◌}
+use lib.Dec.{T, eqb}
 use lib.Ieee.Fits.{and_l, and_r}
 use Rattle.refusals.specs.Numbers.{out_of_limits, not_inside}
 use Rattle.refusals.specs.Checks.{first_of}
@@ -26,6 +26,16 @@ module _ (image filter : Region) where
   pub placed-inside : picture_fits image ≡ true → picture_fits filter ≡ true → inside image filter ≡ true → first_of (placed_checks image filter) ≡ 0
   placed-inside e f g = rw (e, f, g)
 
+-- whether none applies
+pub placed_flag : (image filter : Region) → eqb (first_of (placed_checks image filter)) 0 ≡ ((picture_fits image && picture_fits filter) && inside image filter)
+placed_flag image filter = go (picture_fits image) (picture_fits filter) (inside image filter)
+  where
+    go : (a b c : Bool) → eqb (cond (not (a && b)) out_of_limits (cond (not c) not_inside 0)) 0 ≡ ((a && b) && c)
+    go true true true = refl
+    go true true false = refl
+    go true false c = refl
+    go false b c = refl
+
 -- ---- what holds of the regions if the number is 0
 
 pub record PlacedFits (image filter : Region) : Type 0 where
@@ -36,7 +46,7 @@ pub record PlacedFits (image filter : Region) : Type 0 where
 pub placed-fits : (image filter : Region) → first_of (placed_checks image filter) ≡ 0 → PlacedFits image filter
 placed-fits image filter e =
     let passed = row-passed (placed_checks image filter) tt e in
-    let both = met (picture_fits image && picture_fits filter) (passed (picture_check image filter) (search (here, below) depth 20)) in
+    let both = met (picture_fits image && picture_fits filter) (passed (picture_check image filter) (search here depth 20)) in
     record {
       image-picture = and_l (picture_fits image) (picture_fits filter) both;
       filter-picture = and_r (picture_fits image) (picture_fits filter) both;

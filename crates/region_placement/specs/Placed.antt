@@ -1,11 +1,11 @@
--- The position of a filter region in an image region (Specification 3.1, numbers 4 and 5): columns and rows from the image region's corner, zeros if refused.
-use Rattle.std.specs.Prelude.{cond, ◌&&◌, not, List, [], ◌∷◌, ℕ, eqb, nat_abs, ◌-ℤ◌}
+-- The position of a filter region in an image region (Specification 3.1, numbers 4 and 5): its table of checks, and the place if none applies.
+use Rattle.std.specs.Prelude.{◌&&◌, not, List, [], ◌∷◌, nat_abs, ◌-ℤ◌}
 use Rattle.refusals.specs.Numbers.{out_of_limits, not_inside}
 use Rattle.refusals.specs.Checks.{Check, always, first_of}
 use Rattle.region.specs.Measures.{picture_fits}
 use Rattle.region.specs.Regions.{inside}
 use Rattle.region.specs.declared.Region.{Region}
-use Rattle.region_placement.specs.declared.PlacedAnswer.{PlacedAnswer}
+use Rattle.region_placement.specs.declared.Place.{Place}
 
 -- a region exceeds the limits of an image or filter region
 abbrev pub picture_check : Region → Region → Check
@@ -17,12 +17,6 @@ inside_check image filter = always not_inside (not (inside image filter))
 abbrev pub placed_checks : Region → Region → List Check
 placed_checks image filter = picture_check image filter ∷ inside_check image filter ∷ []
 
-abbrev pub placed_answer : ℕ → Region → Region → PlacedAnswer
-placed_answer n image filter = record {
-  number = n;
-  x = cond (eqb n 0) (nat_abs (filter.left -ℤ image.left)) 0;
-  y = cond (eqb n 0) (nat_abs (filter.top -ℤ image.top)) 0;
-}
-
-abbrev pub placed_outcome : Region → Region → PlacedAnswer
-placed_outcome image filter = placed_answer (first_of (placed_checks image filter)) image filter
+-- columns and rows from the image region's corner
+abbrev pub place_of : Region → Region → Place
+place_of image filter = record { x = nat_abs (filter.left -ℤ image.left); y = nat_abs (filter.top -ℤ image.top) }

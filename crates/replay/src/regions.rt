@@ -2,8 +2,8 @@
 ghost use Rattle.std.specs.Prelude.{◌<◌};
 
 use crate::forms::{bool_at, has_form, i32_at, u32_at};
-use region::{BoolAnswer, EdgeAnswer, Region};
-use region_arithmetic::RegionAnswer;
+use refusals::{Refusal, number_of};
+use region::Region;
 
 fn region_at(n: &[i64], i: usize) -> Region
     requires { i < 16 }
@@ -16,26 +16,27 @@ fn region_at(n: &[i64], i: usize) -> Region
     }
 }
 
-fn same(a: Region, b: Region) -> bool {
-    a.left == b.left && a.top == b.top && a.width == b.width && a.height == b.height
+// Whether a row has the answer of a call: its number, and the value, or a zero in a refused call.
+fn has_answer<T: Copy + Default + PartialEq>(number: u32, value: T, answer: Result<T, Refusal>) -> bool {
+    number == number_of(answer.map(|_| ())) && value == answer.unwrap_or_default()
 }
 
-fn has_region(n: &[i64], i: usize, a: RegionAnswer) -> bool
+fn has_region(n: &[i64], i: usize, a: Result<Region, Refusal>) -> bool
     requires { i < 15 }
 {
-    u32_at(n, i) == a.number && same(region_at(n, i + 1), a.region)
+    has_answer(u32_at(n, i), region_at(n, i + 1), a)
 }
 
-fn has_bool(n: &[i64], i: usize, a: BoolAnswer) -> bool
+fn has_bool(n: &[i64], i: usize, a: Result<bool, Refusal>) -> bool
     requires { i < 15 }
 {
-    u32_at(n, i) == a.number && bool_at(n, i + 1) == a.holds
+    has_answer(u32_at(n, i), bool_at(n, i + 1), a)
 }
 
-fn has_edge(n: &[i64], i: usize, a: EdgeAnswer) -> bool
+fn has_edge(n: &[i64], i: usize, a: Result<i32, Refusal>) -> bool
     requires { i < 15 }
 {
-    u32_at(n, i) == a.number && i32_at(n, i + 1) == a.edge
+    has_answer(u32_at(n, i), i32_at(n, i + 1), a)
 }
 
 pub fn is_empty(n: &[i64]) -> bool {

@@ -8,9 +8,7 @@ use native.Mathlib.Omega.{arith}
 use borrow.Author.Tests.{le-leb, lt-ltb}
 use lib.ListN.{length, get_or}
 use lib.Ieee.{Float, nan}
-use Rattle.planes_layout.specs.declared.LayoutAnswer.{LayoutAnswer}
-use Rattle.planes_layout.specs.Outcome.{layout_of, layout_outcome}
-use Rattle.planes_layout.proofs.Fits.{answer-number, answer-layout}
+use Rattle.planes_layout.specs.Outcome.{layout_of}
 use Rattle.planes.specs.declared.Layout.{Layout}
 use Rattle.planes.specs.Picture.{Picture, in_rect}
 use Rattle.planes.specs.Sets.{of, set_of}
@@ -98,13 +96,10 @@ pub result_copied : (n : ℕ) (l : Layout) (src out b : List Float) → length o
 unfolding result_of inner part_of
 result_copied n l src out b e h = h ∙ whole_set n (result_width l) (result_height l) (inner (part_of l) src) out e
 
--- ---- for a setup in range: a is the answer about its layout, and p the layout of the result region
-module _ (s : Setup) (f : SetupFits s) (full : Bool) (u : full ≡ full_planes s) (a : LayoutAnswer) (e : a ≡ layout_outcome s.image s.filter full) (p : Layout) (q : p ≡ part_of a.layout) where
+-- ---- for a setup in range: l is its layout, and p the layout of the result region
+module _ (s : Setup) (f : SetupFits s) (full : Bool) (u : full ≡ full_planes s) (l : Layout) (e : l ≡ layout_of s.image s.filter full) (p : Layout) (q : p ≡ part_of l) where
   part-is : p ≡ part_of (layout s)
-  part-is =
-      let d : a ≡ layout_outcome s.image s.filter (full_planes s) = e ∙ rw u in
-      let z : a.number ≡ 0 = answer-number s.image s.filter (full_planes s) a d ∙ placed-accepted s f in
-      q ∙ ap part_of (answer-layout s.image s.filter (full_planes s) a d z)
+  part-is = q ∙ ap part_of (rw u at e)
 
   pub setup-part : LayoutFits p
   setup-part = rw part-is (part-fits (layout s) (setup-layout s f).fits)

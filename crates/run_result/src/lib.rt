@@ -77,8 +77,8 @@ fn copy_result(s: Setup, src: &[f32], out: &mut [f32])
     ensures { out.new ≡ result_of 3 (layout s) src.now }
 {
     let full = flag_set(s.preserve_outside);
-    let answer = layout_of(s.image, s.filter, full);
-    let part = part_of(answer.layout);
+    let l = layout_of(s.image, s.filter, full).unwrap();
+    let part = part_of(l);
     copy_planes(src, out, part, PLANES)
 }
 

@@ -8,9 +8,13 @@ use lib.Dec.{leb}
 use Rattle.region.specs.declared.Region.{Region}
 use Rattle.region.specs.Regions.{inside}
 use Rattle.region.specs.Measures.{picture_fits}
-use Rattle.region_placement.specs.declared.PlacedAnswer.{PlacedAnswer}
-use Rattle.region_placement.specs.Placed.{placed_checks, placed_outcome}
-use Rattle.region_placement.proofs.PlacedLaws.{placed-inside, placed-fits}
+use Rattle.region_placement.specs.declared.Place.{Place}
+use Rattle.region_placement.specs.Placed.{placed_checks, place_of}
+use Rattle.region_placement.proofs.PlacedLaws.{placed_flag}
+use Rattle.std.specs.Prelude.{Result, is_ok}
+use Rattle.refusals.specs.Refusals.{IsOutcome}
+use Rattle.refusals.specs.declared.Refusal.{Refusal}
+use Rattle.refusals.proofs.Answered.{outcome_flag}
 use Rattle.refusals.specs.Checks.{first_of}
 use Rattle.planes_layout.specs.Outcome.{layout_of}
 use Rattle.region_placement.specs.Blocks.{on_blocks}
@@ -94,33 +98,15 @@ module _ (s : Setup) where
 
 -- ---- what start would refuse
 
-none-placed : (a b c d e : Bool) → (a ≡ true → b ≡ true → c ≡ true → ⊥) → false ≡ (((a && b) && (c && d)) && e)
-none-placed true true true d e h = absurd (h refl refl refl)
-none-placed true true false d e h = refl
-none-placed true false c d e h = refl
-none-placed false b c d e h = refl
+regroup : (a b c d e : Bool) → ((((a && b) && c) && d) && e) ≡ (((a && b) && (c && d)) && e)
+regroup true true c d e = refl
+regroup true false c d e = refl
+regroup false b c d e = refl
 
--- a is the answer of `placed`
-module _ (s : Setup) (a : PlacedAnswer) (e : a ≡ placed_outcome s.image s.filter) where
-  number_is : a.number ≡ first_of (placed_checks s.image s.filter)
-  number_is = ap (λ (z : PlacedAnswer). z.number) e
-
-  pub not-placed : (a.number ≡ 0 → ⊥) → false ≡ setup_fits s
-  unfolding setup_fits
-  not-placed h =
-      none-placed (picture_fits s.image) (picture_fits s.filter) (inside s.image s.filter) (blocks_fit s) (numbers_fit s)
-      (λ p q r. h (number_is ∙ placed-inside s.image s.filter p q r))
-
-  module _ (z : a.number ≡ 0) where
-    parts : (picture_fits s.image ≡ true) × (picture_fits s.filter ≡ true) × (inside s.image s.filter ≡ true)
-    parts =
-        let p = placed-fits s.image s.filter (sym number_is ∙ z) in
-        (is_true _ p.image-picture, is_true _ p.filter-picture, is_true _ p.filter-inside)
-
-    pub not-on-blocks : blocks_fit s ≡ false → false ≡ setup_fits s
-    unfolding setup_fits
-    not-on-blocks b = rw (parts.0, parts.1, parts.2, b)
-
-    pub fits-by-numbers : blocks_fit s ≡ true → numbers_fit s ≡ setup_fits s
-    unfolding setup_fits
-    fits-by-numbers b = rw (parts.0, parts.1, parts.2, b)
+-- r is the answer of `placed`
+pub setup_rules : (s : Setup) (r : Result Place Refusal) → IsOutcome r (first_of (placed_checks s.image s.filter)) (place_of s.image s.filter)
+    → ((is_ok r && blocks_fit s) && numbers_fit s) ≡ setup_fits s
+unfolding setup_fits
+setup_rules s r o =
+    rw (outcome_flag r _ _ o, placed_flag s.image s.filter)
+    (regroup (picture_fits s.image) (picture_fits s.filter) (inside s.image s.filter) (blocks_fit s) (numbers_fit s))

@@ -6,7 +6,7 @@ ghost use Rattle.run_setup.specs.Setup.{row_count, size_fits, band_count, blocks
 ghost use Rattle.run_setup.specs.Setup.{numbers_fit, setup_fits};
 
 use limits::{MAX_AREA_U32, MAX_SIDE_U32};
-use refusals::{ACCEPTED, flag_fits, flag_set};
+use refusals::{flag_fits, flag_set};
 use region::Region;
 use region_placement::{on_blocks, placed};
 use run_passes::{MAX_ITERS, Settings};
@@ -108,12 +108,5 @@ pub fn numbers_fit(s: Setup) -> bool
 pub fn setup_fits(s: Setup) -> bool
     ensures { result ≡ setup_fits s }
 {
-    let place = placed(s.image, s.filter);
-    if place.number != ACCEPTED {
-        return false;
-    }
-    if !blocks_fit(s) {
-        return false;
-    }
-    numbers_fit(s)
+    placed(s.image, s.filter).is_ok() && (blocks_fit(s) && numbers_fit(s))
 }

@@ -5,6 +5,7 @@ ghost use Rattle.std.specs.Prelude.{◌≡◌, ◌&&◌, not};
 ghost use Rattle.refusals.specs.Checks.{first_of};
 ghost use Rattle.region.specs.Regions.{zero_region};
 ghost use Rattle.sigma_groups.specs.Outcome.{sigma_number};
+ghost use Rattle.region_placement.specs.Placed.{placed_checks};
 ghost use Rattle.region_placement.specs.Blocks.{on_blocks};
 ghost use Rattle.run_passes.specs.Makers.{no_epf, no_settings};
 ghost use Rattle.run_record.specs.Record.{started};
@@ -15,7 +16,7 @@ ghost use Rattle.run_start.specs.Pieces.{epf_flag, sigmas_asked, setup_checks, n
 use frame::Frame;
 use header_epf_sigma::EpfSigma;
 use limits::BLOCK;
-use refusals::{ACCEPTED, NOT_ON_BLOCKS, OUT_OF_RANGE, WRONG_LENGTH};
+use refusals::{ACCEPTED, NOT_ON_BLOCKS, OUT_OF_RANGE, WRONG_LENGTH, number_of};
 use region::Region;
 use region_placement::{clamp_to_zero, on_blocks, placed};
 use run_outcomes::{RunAnswer, bad_sets};
@@ -122,6 +123,13 @@ fn groups_number(s: Setup, frame: Frame, table: &[u32], grids: &[f32], sigmas: u
     refusals::number_of(check(epf_flag(s), frame, blocks_of(s), table, grids, asked))
 }
 
+// The number of a filter region that has no place in the image region.
+fn placed_number(s: Setup) -> u32
+    ensures { result ≡ first_of (placed_checks s.image s.filter) }
+{
+    number_of(placed(s.image, s.filter).map(|_| ()))
+}
+
 // The lowest number of the checks of Specification 12.6.
 fn picture_number(
     s: Setup,
@@ -134,10 +142,10 @@ fn picture_number(
 ) -> u32
     ensures { result ≡ number_of 3 s frame table.now grids.now first second sigmas }
 {
-    let place = placed(s.image, s.filter);
+    let place = placed_number(s);
     let own = setup_number(s, first, second);
     let groups = groups_number(s, frame, table, grids, sigmas);
-    lowest(lowest(place.number, own), groups)
+    lowest(lowest(place, own), groups)
 }
 
 // The record of a run that has started: no pass and no band is done.

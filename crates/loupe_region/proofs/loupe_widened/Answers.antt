@@ -5,9 +5,8 @@ use native.Mathlib.Omega.{arith}
 use Rattle.refusals.specs.Checks.{first_of}
 use Rattle.region_interval.proofs.Flags.{yes}
 use Rattle.region.specs.Measures.{picture_fits, rectangle_fits}
-use Rattle.region.proofs.Laws.{picture-bounds}
 use Rattle.loupe_region.specs.Outcome.{bad_wanted, off_blocks, widened_checks}
-use Rattle.loupe_region.proofs.Laws.{rectangle-bounds, wanted-of}
+use Rattle.loupe_region.proofs.Laws.{wanted-of}
 use Rattle.loupe_region.proofs.Answers.{whole-outside, wanted-outside, wanted-bad, whole-off-blocks, regions-pass, margin-number, margin-given, refused-answer, accepted-answer}
 use Rattle.loupe_region.proofs.loupe_widened.Goals as goal
 
@@ -21,13 +20,6 @@ returns-then-not-rectangle_fits c =
     let s = c.args.s in
     let whole_in : picture_fits s.whole ≡ true = sym c.picture_fits.ensures ∙ c.if-not-picture_fits.false in
     refused-answer s 4 _ (λ z. omega arith) (wanted-outside s whole_in (sym c.rectangle_fits.ensures ∙ c.if-not-rectangle_fits.true)) c.refused-then-not-rectangle_fits.ensures
-
-pub bad_wanted-requires : goal.bad_wanted-requires
-bad_wanted-requires c =
-    let s = c.args.s in
-    let whole_in : picture_fits s.whole ≡ true = sym c.picture_fits.ensures ∙ c.if-not-picture_fits.false in
-    let wanted-in : rectangle_fits s.wanted ≡ true = sym c.rectangle_fits.ensures ∙ c.if-not-rectangle_fits.false in
-    (picture-bounds s.whole (yes whole_in), rectangle-bounds s.wanted (yes wanted-in))
 
 pub returns-then-bad_wanted : goal.returns-then-bad_wanted
 returns-then-bad_wanted c =

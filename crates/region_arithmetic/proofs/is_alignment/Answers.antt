@@ -4,7 +4,7 @@ use mathlib.Core.Bool.{Bool, true, false}
 use Prim.Native.Nat.{ℕ, ◌^◌, ◌%◌, ◌<◌, ◌≤◌}
 use native.Mathlib.Nat.{one-mul, mod-eq_of_lt}
 use lib.Pow.{pow-lt}
-use borrow.Author.Tests.{eq-eqb}
+use borrow.Author.Tests.{eq-eqb, lt-leb}
 use native.Mathlib.Omega.{arith}
 use lib.Count.{count_trailing_zeros}
 use lib.Dec.{eqb, eqb→eq}
@@ -30,12 +30,12 @@ decided d h = go (eqb (2 ^ count_trailing_zeros 32 d) d) refl (power_below 14 d)
         sym (power_in 14 (count_trailing_zeros 32 d) (omega arith)) ∙ ap (power_below 14) z ∙ f
     go false e true f = sym e ∙ eq-eqb (2 ^ count_trailing_zeros 32 d) d (power-found d f).1
 
-pub returns-then-exponent-gt-LARGEST_EXPONENT : goal.returns-then-exponent-gt-LARGEST_EXPONENT
-returns-then-exponent-gt-LARGEST_EXPONENT c = too_far c.args.grid_dim c.if-exponent-gt-LARGEST_EXPONENT.true
+pub returns-else-exponent-le-LARGEST_EXPONENT : goal.returns-else-exponent-le-LARGEST_EXPONENT
+returns-else-exponent-le-LARGEST_EXPONENT c = rw (lt-leb (count_trailing_zeros 32 c.args.grid_dim) 13 (omega (arith, c.if-exponent-le-LARGEST_EXPONENT.false))) (too_far c.args.grid_dim (omega (arith, c.if-exponent-le-LARGEST_EXPONENT.false)))
 
-pub returns : goal.returns
-returns c =
+pub returns-then-exponent-le-LARGEST_EXPONENT : goal.returns-then-exponent-le-LARGEST_EXPONENT
+returns-then-exponent-le-LARGEST_EXPONENT c =
     let z = count_trailing_zeros 32 c.args.grid_dim in
-    let l : 2 ^ z < 2 ^ 14 = pow-lt {i = z} {j = 14} (omega arith) in
+    let l : 2 ^ z < 2 ^ 14 = pow-lt {i = z} {j = 14} (omega (arith, c.if-exponent-le-LARGEST_EXPONENT.true)) in
     let m : 2 ^ z % 4294967296 ≡ 2 ^ z = mod-eq_of_lt (omega arith) in
-    rw (one-mul (2 ^ z), m) (decided c.args.grid_dim c.if-exponent-gt-LARGEST_EXPONENT.false)
+    rw (one-mul (2 ^ z), m) (decided c.args.grid_dim (omega (arith, c.if-exponent-le-LARGEST_EXPONENT.true)))
