@@ -52,7 +52,7 @@ pub extern "C" fn restoration_gabor_pass(
         (gabor_outcome image filter preserve_outside settings.weights from to src.now
         dst.old) }
 {
-    let weights = run_passes::weights(settings);
+    let weights = settings.weights;
     let answer = gabor::gabor_pass(image, filter, preserve_outside, weights, from, to, src, dst);
     number_of(answer)
 }

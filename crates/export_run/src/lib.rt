@@ -8,6 +8,7 @@ ghost use Rattle.run_outcomes.specs.Band.{BandOutcome, band_outcome, advance_out
 ghost use Rattle.run_outcomes.specs.Result.{ResultOutcome, result_outcome};
 
 use frame::Frame;
+use refusals::number_of;
 use run_outcomes::RunAnswer;
 use run_passes::{MarginAnswer, Settings};
 use run_record::Run;
@@ -20,10 +21,11 @@ use run_setup::Setup;
 // Numbers: 0; 9 if `gabor.enabled` is neither 0 nor 1 or `epf.iters` is over 3. A refused call returns margin 0. No
 // other field of the settings is read.
 #[unsafe(no_mangle)]
+#[tactic(auto, using(run_passes::proofs::PlanLaws::margin_rules))]
 pub extern "C" fn restoration_margin(settings: Settings) -> MarginAnswer
     ensures { result ≡ margin_outcome settings }
 {
-    run_passes::margin(settings)
+    MarginAnswer::from(settings.margin())
 }
 
 // Starts a run: checks all arguments, fills `sigmas` with the block sigmas and returns the run's record.
@@ -68,7 +70,8 @@ pub extern "C" fn restoration_start(
           sigmas = sigmas.old;
         })) }
 {
-    run_start::start(setup, frame, table, grids, first, second, sigmas)
+    let started = run_start::start(setup, frame, table, grids, first, second, sigmas);
+    RunAnswer::from(started)
 }
 
 // Runs the next pass over the rows of band `k` and returns the record with that band marked done.
@@ -103,7 +106,9 @@ pub extern "C" fn restoration_band(
         (record { run = run; sigmas = sigmas.now; first = first.old; second = second.old })
         k) }
 {
-    run_band::band(run, sigmas, first, second, k)
+    let mut after = run;
+    let answer = run_band::band(&mut after, sigmas, first, second, k);
+    RunAnswer::new(answer, after)
 }
 
 // Advances a run to its next pass when every band of the current pass is done. The two sets exchange their roles and
@@ -114,7 +119,9 @@ pub extern "C" fn restoration_band(
 pub extern "C" fn restoration_advance(run: Run) -> RunAnswer
     ensures { result ≡ advance_outcome run }
 {
-    run_advance::advance(run)
+    let mut after = run;
+    let answer = run_advance::advance(&mut after);
+    RunAnswer::new(answer, after)
 }
 
 // Copies the result of a finished run to `out`, plane by plane and row by row. It is the result region of the set
@@ -134,5 +141,6 @@ pub extern "C" fn restoration_result(
     ensures { ◌≡◌ {A = ResultOutcome} (record { number = result; out = out.new })
         (result_outcome 3 run first.now second.now out.old) }
 {
-    run_result::result(run, first, second, out)
+    let answer = run_result::result(&run, first, second, out);
+    number_of(answer)
 }

@@ -23,11 +23,12 @@ use refusals::{
 use region::Region;
 use run_advance::advance;
 use run_band::band;
-use run_passes::{Settings, pass_count};
+use run_outcomes::RunAnswer;
+use run_passes::Settings;
 use run_record::Run;
 use run_result::result;
 use run_setup::Setup;
-use run_start::{no_settings, start, started};
+use run_start::start;
 use sigma_groups::blocks::Blocks;
 use sigma_groups::check;
 
@@ -132,8 +133,10 @@ fn one_pass(run: Run, sigmas: &[f32], first: &mut [f32], second: &mut [f32]) -> 
     }) (after_pass 3
         (record { run = run; sigmas = sigmas.now; first = first.old; second = second.old })) }
 {
-    let banded = band(run, sigmas, first, second, 0);
-    advance(banded.run).run
+    let mut r = run;
+    let _ = band(&mut r, sigmas, first, second, 0);
+    let _ = advance(&mut r);
+    r
 }
 
 fn all_passes(run: Run, passes: u32, sigmas: &[f32], first: &mut [f32], second: &mut [f32]) -> Run
@@ -158,7 +161,7 @@ fn all_passes(run: Run, passes: u32, sigmas: &[f32], first: &mut [f32], second: 
 fn copy_run(widened: Region, wanted: Region) -> Run
     ensures { result ≡ started (copy_setup widened wanted) }
 {
-    let settings = no_settings();
+    let settings = Settings::default();
     let setup = Setup {
         image: widened,
         filter: wanted,
@@ -166,14 +169,14 @@ fn copy_run(widened: Region, wanted: Region) -> Run
         settings,
         band_height: MAX_SIDE_U32,
     };
-    started(setup)
+    Run::started(setup)
 }
 
 // Copies the wanted rectangle from a set of the widened one.
 fn copy_wanted(widened: Region, wanted: Region, set: &[f32], out: &mut [f32])
     ensures { out.new ≡ copied 3 widened wanted set.now out.old }
 {
-    result(copy_run(widened, wanted), set, set, out);
+    let _ = result(&copy_run(widened, wanted), set, set, out);
 }
 
 // All passes, and the copy from the set that a next pass would read.
@@ -260,11 +263,12 @@ pub fn loupe_smooth(
     }
     let settings = s.settings;
     let setup = run_setup(place.region, settings);
-    let answer = start(setup, frame, table, grids, first, second, sigmas);
+    let started = start(setup, frame, table, grids, first, second, sigmas);
+    let answer = RunAnswer::from(started);
     if answer.number != ACCEPTED {
         return answer.number;
     }
-    let passes = pass_count(settings);
+    let passes = settings.pass_count();
     finish(
         answer.run,
         passes,

@@ -15,7 +15,7 @@ use region_axis::check_span;
 use region_interval::overlap::meet;
 use region_interval::{Axis, Span};
 use region_placement::on_blocks;
-use run_passes::{MAX_ITERS, Settings, margin};
+use run_passes::{MAX_ITERS, MarginAnswer, Settings};
 
 // What the loupe shows: the filter region of a whole picture, the wanted rectangle of it, and the settings of the
 // filters.
@@ -90,7 +90,7 @@ pub fn loupe_widened(s: LoupeSetup) -> RegionAnswer
     if off_blocks(s) {
         return refused(NOT_ON_BLOCKS);
     }
-    let reach = margin(s.settings);
+    let reach = MarginAnswer::from(s.settings.margin());
     if reach.number != ACCEPTED {
         return refused(reach.number);
     }

@@ -10,7 +10,6 @@ use lib.Dec.{T, eqb, eqb→eq}
 use lib.ListN.{length}
 use lib.Ieee.{Float}
 use lib.Ieee.Fits.{and_l, and_r}
-use Rattle.refusals.specs.Checks.{first_of}
 use Rattle.region.proofs.Laws.{picture-bounds, bounds-height}
 use Rattle.planes_layout.specs.Outcome.{layout_of}
 use Rattle.run_setup.specs.declared.Setup.{Setup}
@@ -123,22 +122,16 @@ module _ (t : State) (k : ℕ) where
   unfolding banded reads_first
   first-written e b h = rw (ne_eqb (t.run.pass % 2) 0 e, h)
 
-  module _ (n : ℕ) (e : n ≡ first_of (set_check 3 t.run.setup (length t.first) (length t.second) ∷ sigma_check 3 t.run.setup (length t.sigmas) ∷ open_checks t.run k)) where
-    pub number_is : n ≡ band_number 3 t k
-    unfolding band_checks
-    number_is = e
+  pub band-refused : (n : ℕ) → n ≡ band_number 3 t k → (n ≡ 0 → ⊥) → ◌≡◌ {A = BandOutcome} (record { number = n; state = t }) (band_outcome 3 t k)
+  unfolding band_outcome
+  band-refused n e h =
+      let z : eqb (band_number 3 t k) 0 ≡ false = ne_eqb (band_number 3 t k) 0 (λ q. h (e ∙ q)) in
+      rw (z, e)
 
-    pub band-refused : (n ≡ 0 → ⊥) → ◌≡◌ {A = BandOutcome} (record { number = n; state = t }) (band_outcome 3 t k)
-    unfolding band_outcome
-    band-refused h =
-        let z : eqb (band_number 3 t k) 0 ≡ false = ne_eqb (band_number 3 t k) 0 (λ q. h (number_is ∙ q)) in
-        rw (z, number_is)
-
-    pub band-done : n ≡ 0 → (r : Run) → r ≡ marked t.run k → (a b : List Float) → Written a b
-        → ◌≡◌ {A = BandOutcome} (record { number = 0; state = record { run = r; sigmas = t.sigmas; first = a; second = b } }) (band_outcome 3 t k)
-    unfolding band_outcome
-    band-done h r p a b w =
-        let z : band_number 3 t k ≡ 0 = sym number_is ∙ h in
-        let f : a ≡ cond (reads_first t.run) t.first (banded 3 t k) = ap (λ (u : State). u.first) w in
-        let g : b ≡ cond (reads_first t.run) (banded 3 t k) t.second = ap (λ (u : State). u.second) w in
-        rw (z, p, f, g)
+  pub band-done : band_number 3 t k ≡ 0 → (a b : List Float) → Written a b
+      → ◌≡◌ {A = BandOutcome} (record { number = 0; state = record { run = marked t.run k; sigmas = t.sigmas; first = a; second = b } }) (band_outcome 3 t k)
+  unfolding band_outcome
+  band-done z a b w =
+      let f : a ≡ cond (reads_first t.run) t.first (banded 3 t k) = ap (λ (u : State). u.first) w in
+      let g : b ≡ cond (reads_first t.run) (banded 3 t k) t.second = ap (λ (u : State). u.second) w in
+      rw (z, f, g)

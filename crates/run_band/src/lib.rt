@@ -1,79 +1,75 @@
 // The band call of a run.
 #![tactic(auto)]
 
-ghost use Rattle.std.specs.Prelude.{◌≡◌, ◌∷◌, ◌<◌, length};
-ghost use Rattle.refusals.specs.Checks.{first_of};
-ghost use Rattle.run_setup.specs.Setup.{max_bands};
-ghost use Rattle.run_record.specs.Record.{marked, open_checks};
-ghost use Rattle.run_outcomes.specs.Band.{State, BandOutcome, set_check, sigma_check, band_number, band_outcome};
+ghost use Rattle.std.specs.Prelude.{◌≡◌, length};
+ghost use Rattle.refusals.specs.Refusals.{number_of};
+ghost use Rattle.run_outcomes.specs.Band.{State, BandOutcome, band_number, band_outcome};
 ghost use Rattle.run_band.specs.Rows.{RowsFit, passed_rows, band_written};
 
 use epf::epf_pass;
 use gabor::gabor_pass;
-use limits::min_u32;
-use refusals::{ACCEPTED, WRONG_LENGTH};
-use run_outcomes::{RunAnswer, bad_sets, bad_sigmas};
-use run_passes::{gabor_at, step_at, weights};
-use run_record::{Run, band_number};
-use run_setup::row_count;
+use refusals::Refusal;
+use run_outcomes::{check_sets, check_sigmas};
+use run_passes::Pass;
+use run_record::Run;
 
-// The number of a band call: 7 for the sets and the block sigmas, then the record's number.
-fn refusal(run: Run, sigmas: usize, first: usize, second: usize, k: u32) -> u32
-    ensures { result ≡ first_of
-        (set_check 3 run.setup first second ∷ sigma_check 3 run.setup sigmas ∷ open_checks run k) }
+// Refuses a band call: for the sets, the block sigmas, then the record.
+fn check(run: &Run, sigmas: &[f32], first: &[f32], second: &[f32], k: u32) -> Result<(), Refusal>
+    ensures { number_of result ≡ band_number 3 (record {
+      run = run.now;
+      sigmas = sigmas.now;
+      first = first.now;
+      second = second.now;
+    }) k }
 {
-    if bad_sets(run.setup, first, second) {
-        return WRONG_LENGTH;
-    }
-    if bad_sigmas(run.setup, sigmas) {
-        return WRONG_LENGTH;
-    }
-    band_number(run, k)
+    check_sets(&run.setup, first, second)?;
+    check_sigmas(&run.setup, sigmas)?;
+    run.check_band(k)
 }
 
-// Runs the next pass over rows `from` up to `to` of the result region.
-fn pass_rows(run: Run, sigmas: &[f32], src: &[f32], dst: &mut [f32], from: u32, to: u32)
-    requires { RowsFit run (length sigmas.now) (length src.now) (length dst.old) from to }
+// Runs the next pass over rows `from` up to `to` of the result region. Neither filter refuses arguments that fit.
+fn pass_rows(run: &Run, sigmas: &[f32], src: &[f32], dst: &mut [f32], from: u32, to: u32)
+    requires { RowsFit run.now (length sigmas.now) (length src.now) (length dst.old) from to }
     ensures { dst.new
-        ≡ passed_rows 3 run sigmas.now from to src.now dst.old }
+        ≡ passed_rows 3 run.now sigmas.now from to src.now dst.old }
 {
-    let s = run.setup;
-    if gabor_at(s.settings, run.pass) {
-        let w = weights(s.settings.gabor);
-        let _ = gabor_pass(s.image, s.filter, s.preserve_outside, w, from, to, src, dst);
-        return;
+    let s = &run.setup;
+    match s.settings.pass_at(run.pass) {
+        Pass::Gabor(weights) => {
+            let full = s.preserve_outside;
+            let _ = gabor_pass(s.image, s.filter, full, weights, from, to, src, dst);
+        }
+        Pass::Edge(step) => {
+            let full = s.preserve_outside;
+            let _ = epf_pass(s.image, s.filter, full, step, sigmas, from, to, src, dst);
+        }
     }
-    let step = step_at(s.settings, run.pass);
-    let _answer = epf_pass(
-        s.image,
-        s.filter,
-        s.preserve_outside,
-        step,
-        sigmas,
-        from,
-        to,
-        src,
-        dst,
-    );
 }
 
 // Runs the next pass over the rows of band k. Each advance exchanges the sets: even passes read the first, odd passes
 // read the second.
-fn filter_band(run: Run, sigmas: &[f32], first: &mut [f32], second: &mut [f32], k: u32)
-    requires { band_number 3
-        (record { run = run; sigmas = sigmas.now; first = first.old; second = second.old }) k ≡ 0 }
+fn filter_band(run: &Run, sigmas: &[f32], first: &mut [f32], second: &mut [f32], k: u32)
+    requires { band_number 3 (record {
+      run = run.now;
+      sigmas = sigmas.now;
+      first = first.old;
+      second = second.old;
+    }) k ≡ 0 }
     ensures { ◌≡◌ {A = State} (record {
-      run = run;
+      run = run.now;
       sigmas = sigmas.now;
       first = first.new;
       second = second.new;
-    }) (band_written 3
-        (record { run = run; sigmas = sigmas.now; first = first.old; second = second.old })
-        k) }
+    }) (band_written 3 (record {
+      run = run.now;
+      sigmas = sigmas.now;
+      first = first.old;
+      second = second.old;
+    }) k) }
 {
     let height = run.setup.band_height;
     let from = k * height;
-    let to = min_u32(from + height, row_count(run.setup) as u32);
+    let to = (from + height).min(run.setup.row_count());
     if run.pass % 2 == 0 {
         pass_rows(run, sigmas, first, second, from, to);
         return;
@@ -81,38 +77,32 @@ fn filter_band(run: Run, sigmas: &[f32], first: &mut [f32], second: &mut [f32], 
     pass_rows(run, sigmas, second, first, from, to);
 }
 
-fn marked(run: Run, k: usize) -> Run
-    requires { k < max_bands }
-    ensures { result ≡ marked run k }
-{
-    let mut r = run;
-    r.done[k] = 1;
-    r
-}
-
 // Runs band k of the next pass: writes its rows of the result region to the set that the pass writes, and marks the
 // band done.
-pub fn band(run: Run, sigmas: &[f32], first: &mut [f32], second: &mut [f32], k: u32) -> RunAnswer
+pub fn band(
+    run: &mut Run,
+    sigmas: &[f32],
+    first: &mut [f32],
+    second: &mut [f32],
+    k: u32,
+) -> Result<(), Refusal>
     ensures { ◌≡◌ {A = BandOutcome} (record {
-      number = result.number;
+      number = number_of result;
       state = record {
-        run = result.run;
+        run = run.new;
         sigmas = sigmas.now;
         first = first.new;
         second = second.new;
       };
-    }) (band_outcome 3
-        (record { run = run; sigmas = sigmas.now; first = first.old; second = second.old })
-        k) }
+    }) (band_outcome 3 (record {
+      run = run.old;
+      sigmas = sigmas.now;
+      first = first.old;
+      second = second.old;
+    }) k) }
 {
-    let number = refusal(run, sigmas.len(), first.len(), second.len(), k);
-    if number != ACCEPTED {
-        return RunAnswer { number, run };
-    }
+    check(run, sigmas, first, second, k)?;
     filter_band(run, sigmas, first, second, k);
-    let run = marked(run, k as usize);
-    RunAnswer {
-        number: ACCEPTED,
-        run,
-    }
+    run.done[k as usize] = 1;
+    Ok(())
 }

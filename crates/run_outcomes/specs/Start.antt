@@ -1,7 +1,10 @@
 -- Start: its arguments, the number of the call, and what it returns and writes (Specification 12.6, 12.7). Definitions only.
-use Rattle.std.specs.Prelude.{Bool, cond, not, ◌&&◌, List, [], ◌∷◌, ◌++◌, ℕ, ◌/◌, eqb, length, Float}
+use Rattle.std.specs.Prelude.{Bool, cond, not, ◌&&◌, List, [], ◌∷◌, ◌++◌, ℕ, ◌/◌, eqb, length, Float, Result}
+use Rattle.std.specs.Result.{result_unwrap_or}
 use Rattle.refusals.specs.Numbers.{not_on_blocks, wrong_length, block_not_held, out_of_range}
 use Rattle.refusals.specs.Checks.{Check, always, given, first_of}
+use Rattle.refusals.specs.Refusals.{number_of}
+use Rattle.refusals.specs.declared.Refusal.{Refusal}
 use Rattle.frame.specs.declared.Frame.{Frame}
 use Rattle.sigma_groups.specs.declared.blocks.Blocks.{Blocks}
 use Rattle.sigma_groups.specs.Held.{some_not_held}
@@ -122,6 +125,10 @@ module _ (n : ℕ) (h : Handed) where
 -- `started` of a setup of zeros: pass 0, no band done
 abbrev pub no_run : Run
 no_run = started no_setup
+
+-- the number and the record on the C boundary
+abbrev pub run_answer : Result Run Refusal → RunAnswer
+run_answer run = record { number = number_of run; run = result_unwrap_or run no_run }
 
 -- ---- the outcome: number and record, the first set and the block sigmas after the call
 

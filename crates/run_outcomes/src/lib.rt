@@ -2,14 +2,16 @@
 // advance and result are defined in specs/.
 #![tactic(auto)]
 
-ghost use Rattle.std.specs.Prelude.{◌≡◌, true, ◌*◌};
-ghost use Rattle.refusals.specs.Checks.{applies};
-ghost use Rattle.run_setup.specs.Setup.{size_fits, result_region};
+ghost use Rattle.std.specs.Prelude.{◌≡◌, true, ◌*◌, length, [], ◌∷◌};
+ghost use Rattle.refusals.specs.Checks.{first_of};
+ghost use Rattle.refusals.specs.Refusals.{number_of};
+ghost use Rattle.run_setup.specs.Setup.{epf_on, size_fits, sigma_length};
 ghost use Rattle.run_outcomes.specs.Band.{set_check, sigma_check};
 ghost use Rattle.run_outcomes.specs.Result.{slice_check};
+ghost use Rattle.run_outcomes.specs.Start.{run_answer};
 
 use planes::PLANES;
-use refusals::{flag_fits, flag_set};
+use refusals::{ACCEPTED, Refusal, flag_fits, number_of};
 use region::Region;
 use run_passes::MAX_ITERS;
 use run_record::Run;
@@ -25,6 +27,36 @@ pub struct RunAnswer {
     pub run: Run,
 }
 
+impl RunAnswer {
+    // The answer of a call that changes a record, with the record after the call.
+    pub fn new(answer: Result<(), Refusal>, run: Run) -> RunAnswer
+        ensures { result ≡ record { number = number_of answer; run = run } }
+    {
+        RunAnswer {
+            number: number_of(answer),
+            run,
+        }
+    }
+}
+
+// The answer of a start.
+impl From<Result<Run, Refusal>> for RunAnswer {
+    ghost from_gives = { λ started answer. answer ≡ run_answer started };
+
+    fn from(started: Result<Run, Refusal>) -> RunAnswer {
+        match started {
+            Ok(run) => RunAnswer {
+                number: ACCEPTED,
+                run,
+            },
+            Err(refusal) => RunAnswer {
+                number: u32::from(refusal),
+                run: Run::default(),
+            },
+        }
+    }
+}
+
 fn set_length(r: Region) -> usize
     requires { size_fits r ≡ true }
     ensures { result ≡ 3 * r.height * r.width }
@@ -32,59 +64,60 @@ fn set_length(r: Region) -> usize
     PLANES * r.height as usize * r.width as usize
 }
 
-fn result_region(s: Setup) -> Region
-    ensures { result ≡ result_region s }
-{
-    if flag_set(s.preserve_outside) {
-        return s.image;
-    }
-    s.filter
-}
-
-// Whether a set has the wrong length; false if the image region's size does not fit (Specification 12.12).
-pub fn bad_sets(s: Setup, first: usize, second: usize) -> bool
-    ensures { result ≡ applies (set_check 3 s first second) }
+// Refuses sets of the wrong length; passed over if the image region's size does not fit (Specification 12.12).
+pub fn check_sets(s: &Setup, first: &[f32], second: &[f32]) -> Result<(), Refusal>
+    ensures { number_of result
+        ≡ first_of (set_check 3 s.now (length first.now) (length second.now) ∷ []) }
 {
     if !size_fits(s.image) {
-        return false;
+        return Ok(());
     }
     let n = set_length(s.image);
-    if first != n {
-        return true;
+    if first.len() != n || second.len() != n {
+        return Err(Refusal::WrongLength);
     }
-    second != n
+    Ok(())
 }
 
-// Whether the block sigmas have the wrong length; false if the iterations are over 3, or if the EPF is on and the
-// filter region's size does not fit (Specification 12.12).
-pub fn bad_sigmas(s: Setup, sigmas: usize) -> bool
-    ensures { result ≡ applies (sigma_check 3 s sigmas) }
+// The number of block sigmas: one per block, none if the EPF is off.
+fn sigmas_length(s: &Setup) -> usize
+    requires { epf_on s.now ≡ true → size_fits s.now.filter ≡ true }
+    ensures { result ≡ sigma_length s.now }
 {
-    if MAX_ITERS < s.settings.epf.iters {
-        return false;
-    }
     if s.settings.epf.iters == 0 {
-        return sigmas != 0;
-    }
-    if !size_fits(s.filter) {
-        return false;
+        return 0;
     }
     let down = blocks_along(s.filter.height) as usize;
     let across = blocks_along(s.filter.width) as usize;
-    sigmas != down * across
+    down * across
 }
 
-// Whether the slice for the result has the wrong length; false if `preserve_outside` is not a flag or the result
-// region's size does not fit (Specification 12.12).
-pub fn bad_slice(s: Setup, out: usize) -> bool
-    ensures { result ≡ applies (slice_check 3 s out) }
+// Refuses block sigmas of the wrong length; passed over if the iterations are over 3, or if the EPF is on and the
+// filter region's size does not fit (Specification 12.12).
+pub fn check_sigmas(s: &Setup, sigmas: &[f32]) -> Result<(), Refusal>
+    ensures { number_of result ≡ first_of (sigma_check 3 s.now (length sigmas.now) ∷ []) }
 {
-    if !flag_fits(s.preserve_outside) {
-        return false;
+    let iters = s.settings.epf.iters;
+    if MAX_ITERS < iters || 0 < iters && !size_fits(s.filter) {
+        return Ok(());
     }
-    let r = result_region(s);
-    if !size_fits(r) {
-        return false;
+    if sigmas.len() != sigmas_length(s) {
+        return Err(Refusal::WrongLength);
     }
-    out != set_length(r)
+    Ok(())
+}
+
+// Refuses a slice of the wrong length for the result; passed over if `preserve_outside` is not a flag or the result
+// region's size does not fit (Specification 12.12).
+pub fn check_slice(s: &Setup, out: &[f32]) -> Result<(), Refusal>
+    ensures { number_of result ≡ first_of (slice_check 3 s.now (length out.now) ∷ []) }
+{
+    let r = s.result_region();
+    if !flag_fits(s.preserve_outside) || !size_fits(r) {
+        return Ok(());
+    }
+    if out.len() != set_length(r) {
+        return Err(Refusal::WrongLength);
+    }
+    Ok(())
 }

@@ -1,17 +1,25 @@
 -- Laws of the passes of the settings: how many there are, which is which, and how far they read. Assumes nothing.
 use mathlib.Core.Path.{◌≡◌, refl}
 use mathlib.Core.Bool.{Bool, true, false, true≢false, false≢true, cond, ◌&&◌}
-use mathlib.Core.List.{◌∷◌}
+use mathlib.Core.List.{List, ◌∷◌}
 use Prim.Native.Nat.{ℕ, zero, suc, ◌+◌, ◌-◌, ◌<◌, ◌≤◌, min}
 use native.Mathlib.Nat.{le_of_suc-le-suc}
 use native.Mathlib.Omega.{arith}
-use borrow.Author.Tests.{eqb-true, le-ltb}
+use borrow.Author.Tests.{eqb-true, le-ltb, ne_eqb}
 use lib.Dec.{eqb, ltb}
 use lib.ListN.{length, get_or}
+use lib.Ieee.{Float}
+use Rattle.std.specs.Prelude.{Result, Ok, Err}
+use Rattle.refusals.specs.declared.Refusal.{Refusal}
+use Rattle.refusals.specs.Refusals.{IsOutcome, number}
+use Rattle.refusals.proofs.Outcomes.{number-nonzero}
 use Rattle.header_epf_sigma.specs.declared.EpfSigma.{EpfSigma}
+use Rattle.epf.specs.declared.EpfStep.{EpfStep}
+use Rattle.run_passes.specs.declared.Pass.TheVariants.{Gabor, Edge}
 use Rattle.run_passes.specs.declared.Settings.{Settings}
 use Rattle.run_passes.specs.Pass.{Pass, gabor_like, reach, reaches}
-use Rattle.run_passes.specs.Plan.{gabor_at, gabor_on, margin, one_if, plan, scale_of, step, step_index, step_margin, step_of, steps}
+use Rattle.run_passes.specs.PassAt.{pass_at}
+use Rattle.run_passes.specs.Plan.{gabor_at, gabor_on, margin, margin_answer, margin_number, margin_outcome, one_if, plan, scale_of, step, step_index, step_margin, step_of, steps}
 
 -- ---- laws
 
@@ -106,3 +114,30 @@ plan-step n s p d e h = go (gabor_on s) p e h
         let z = steps-at n s i p d h in
         let q : min (p + one_if (ltb i 3) - 0) 2 ≡ p + one_if (ltb i 3) = omega (arith, z.1) in
         rw q z.0
+
+-- ---- the margin on the C boundary
+
+pub margin-answered : (s : Settings) (m : Result ℕ Refusal) → IsOutcome m (margin_number s) (margin s) → margin_answer m ≡ margin_outcome s
+unfolding margin_outcome
+margin-answered s (Ok m) o = rw (← o.0, o.1)
+margin-answered s (Err e) o = rw (← o.0, ne_eqb (number e) 0 (number-nonzero e))
+
+pub ruleset margin_rules = (margin-answered)
+
+-- ---- what a pass runs
+
+pub pass-gabor : (s : Settings) (p : ℕ) (ws : List (List Float)) → Gabor ws ≡ pass_at s p → (gabor_at s p ≡ true) × (ws ≡ s.gabor.weights)
+unfolding pass_at
+pass-gabor s p ws e = go (gabor_at s p) refl e
+  where
+    go : (b : Bool) → gabor_at s p ≡ b → Gabor ws ≡ cond b (Gabor s.gabor.weights) (Edge (step_of s (step_index s p))) → (gabor_at s p ≡ true) × (ws ≡ s.gabor.weights)
+    go true g e = (g, cc)
+    go false g e = absurd cc
+
+pub pass-edge : (s : Settings) (p : ℕ) (step : EpfStep) → Edge step ≡ pass_at s p → (gabor_at s p ≡ false) × (step ≡ step_of s (step_index s p))
+unfolding pass_at
+pass-edge s p step e = go (gabor_at s p) refl e
+  where
+    go : (b : Bool) → gabor_at s p ≡ b → Edge step ≡ cond b (Gabor s.gabor.weights) (Edge (step_of s (step_index s p))) → (gabor_at s p ≡ false) × (step ≡ step_of s (step_index s p))
+    go true g e = absurd cc
+    go false g e = (g, cc)

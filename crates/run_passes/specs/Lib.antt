@@ -1,5 +1,6 @@
 pub mod Pass
 pub mod Plan
+pub mod PassAt
 pub mod Near
 pub mod Cut
 pub mod Bounds

@@ -1,8 +1,11 @@
 -- The passes of the settings (Specification 11.1, 12.2), and the margin (Specification 12.14). Definitions only.
-use Rattle.std.specs.Prelude.{Bool, cond, not, ◌&&◌, List, [], ◌∷◌, ℕ, zero, suc, ◌+◌, ◌-◌, min, eqb, leb, ltb, Float}
+use Rattle.std.specs.Prelude.{Bool, cond, not, ◌&&◌, List, [], ◌∷◌, ℕ, zero, suc, ◌+◌, ◌-◌, min, eqb, leb, ltb, Float, Result}
+use Rattle.std.specs.Result.{result_unwrap_or}
 use Rattle.refusals.specs.Numbers.{out_of_range}
 use Rattle.refusals.specs.Checks.{Check, always, first_of}
 use Rattle.refusals.specs.Flags.{flag_fits, flag_set}
+use Rattle.refusals.specs.Refusals.{number_of}
+use Rattle.refusals.specs.declared.Refusal.{Refusal}
 use Rattle.planes.specs.Samples.{b1}
 use Rattle.header_epf_sigma.specs.declared.EpfSigma.{EpfSigma}
 use Rattle.epf.specs.declared.EpfStep.{EpfStep}
@@ -70,6 +73,10 @@ margin_number s = first_of (margin_checks s)
 -- a refused call returns margin 0
 unfoldable pub margin_outcome : Settings → MarginAnswer
 margin_outcome s = record { number = margin_number s; margin = cond (eqb (margin_number s) 0) (margin s) 0 }
+
+-- the number and the margin on the C boundary, margin 0 for a refusal
+abbrev pub margin_answer : Result ℕ Refusal → MarginAnswer
+margin_answer m = record { number = number_of m; margin = result_unwrap_or m 0 }
 
 -- ---- the pass with a given number
 

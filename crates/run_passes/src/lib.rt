@@ -2,13 +2,15 @@
 #![tactic(auto)]
 
 ghost use Rattle.std.specs.Prelude.{◌≡◌, ◌≤◌, length};
-ghost use Rattle.refusals.specs.Numbers.{out_of_range};
-ghost use Rattle.run_passes.specs.Plan.{plan, gabor_on, one_if, step_margin, margin, margin_outcome};
+ghost use Rattle.refusals.specs.Refusals.{IsOutcome};
+ghost use Rattle.run_passes.specs.Makers.{no_settings};
+ghost use Rattle.run_passes.specs.Plan.{plan, gabor_on, one_if, step_margin, margin, margin_number, margin_answer};
 ghost use Rattle.run_passes.specs.Plan.{scale_of, step_of, gabor_at, step_index};
+ghost use Rattle.run_passes.specs.PassAt.{pass_at};
 
 use epf::EpfStep;
 use header_epf_sigma::EpfSigma;
-use refusals::{ACCEPTED, OUT_OF_RANGE, flag_fits, flag_set};
+use refusals::{ACCEPTED, Refusal, flag_fits, flag_set};
 
 // The Gabor-like filter. `enabled` is a flag: 1 is on, 0 is off. `weights` has two weights for each of the channels
 // X, Y and B: of the side neighbours and of the diagonal ones.
@@ -45,147 +47,161 @@ pub struct MarginAnswer {
     pub margin: u32,
 }
 
+// What a pass runs, with the settings that it reads.
+#[derive(Clone, Copy)]
+pub enum Pass {
+    // The weights of the Gabor-like filter.
+    Gabor([[f32; 2]; 3]),
+    // A step of the edge-preserving filter.
+    Edge(EpfStep),
+}
+
 pub const MAX_ITERS: u32 = 3;
 
 // Three iterations have all steps; fewer start with step 1.
 const ALL_STEPS: u32 = 3;
 
-// Makes Gabor settings from a flag and weights.
-pub fn gabor_settings(enabled: u32, weights: [[f32; 2]; 3]) -> GaborSettings
-    ensures { result ≡ record { enabled = enabled; weights = weights } }
-{
-    GaborSettings { enabled, weights }
-}
+const LAST_STEP: u64 = 2;
 
-// The settings' weights.
-pub fn weights(gabor: GaborSettings) -> [[f32; 2]; 3]
-    ensures { result ≡ gabor.weights }
-{
-    gabor.weights
-}
-
-fn gabor_on(s: Settings) -> bool
-    ensures { result ≡ gabor_on s }
-{
-    flag_set(s.gabor.enabled)
-}
-
-fn one_if(b: bool) -> u32
-    ensures { (result ≡ one_if b) × (result ≤ 1) }
-{
-    if b { 1 } else { 0 }
-}
-
-fn gabor_passes(s: Settings) -> u32
-    ensures { (result ≡ one_if (gabor_on s)) × (result ≤ 1) }
-{
-    one_if(gabor_on(s))
-}
-
-// The number of passes.
-pub fn pass_count(s: Settings) -> u32
-    ensures { result ≡ length (plan 3 s) }
-{
-    let first = gabor_passes(s);
-    let iters = s.epf.iters;
-    if iters < ALL_STEPS {
-        return first + iters;
-    }
-    first + ALL_STEPS
-}
-
+// How far the steps of so many iterations read together.
+#[tactic(auto, unfolding(crate::specs::Plan::step_margin))]
 fn step_margin(iters: u32) -> u32
     ensures { (result ≡ step_margin iters) × (result ≤ 6) }
 {
-    if iters == 0 {
-        return 0;
-    }
-    if iters == 1 {
-        return 2;
-    }
-    if iters == 2 {
-        return 3;
-    }
-    6
-}
-
-fn margin_of(s: Settings) -> u32
-    ensures { result ≡ margin s }
-{
-    gabor_passes(s) + step_margin(s.epf.iters)
-}
-
-fn no_margin() -> MarginAnswer
-    ensures { result ≡ record { number = out_of_range; margin = 0 } }
-{
-    MarginAnswer {
-        number: OUT_OF_RANGE,
-        margin: 0,
+    match iters {
+        0 => 0,
+        1 => 2,
+        2 => 3,
+        _ => 6,
     }
 }
 
-// The margin (Specification 12.14): how many samples must lie between a sample and each cut edge. 9 if Gabor's flag
-// or the iterations are out of range.
-pub fn margin(s: Settings) -> MarginAnswer
-    ensures { result ≡ margin_outcome s }
-{
-    if !flag_fits(s.gabor.enabled) {
-        return no_margin();
-    }
-    if MAX_ITERS < s.epf.iters {
-        return no_margin();
-    }
-    MarginAnswer {
-        number: ACCEPTED,
-        margin: margin_of(s),
-    }
-}
-
-// Whether a pass is the Gabor-like filter.
-pub fn gabor_at(s: Settings, pass: u32) -> bool
-    ensures { result ≡ gabor_at s pass }
-{
-    gabor_on(s) && pass == 0
-}
-
+#[tactic(auto, unfolding(crate::specs::Plan::scale_of))]
 fn scale_of(sigma: EpfSigma, step: u32) -> f32
     ensures { result ≡ scale_of sigma step }
 {
-    if step == 0 {
-        return sigma.pass0_sigma_scale;
+    match step {
+        0 => sigma.pass0_sigma_scale,
+        1 => 1.0,
+        _ => sigma.pass2_sigma_scale,
     }
-    if step == 1 {
-        return 1.0;
-    }
-    sigma.pass2_sigma_scale
 }
 
-fn step_index(s: Settings, pass: u32) -> u32
-    ensures { result ≡ step_index s pass }
-{
-    let before = gabor_passes(s) as usize;
-    let skipped = one_if(s.epf.iters < ALL_STEPS) as usize;
-    let at = pass as usize + skipped;
-    if at <= before {
-        return 0;
+impl Settings {
+    fn gabor_on(&self) -> bool
+        ensures { result ≡ gabor_on self.now }
+    {
+        flag_set(self.gabor.enabled)
     }
-    if at - before == 1 {
-        return 1;
+
+    fn gabor_passes(&self) -> u32
+        ensures { (result ≡ one_if (gabor_on self.now)) × (result ≤ 1) }
+    {
+        u32::from(self.gabor_on())
     }
-    2
+
+    // The number of passes.
+    pub fn pass_count(&self) -> u32
+        ensures { result ≡ length (plan 3 self.now) }
+    {
+        self.gabor_passes() + self.epf.iters.min(ALL_STEPS)
+    }
+
+    // The margin (Specification 12.14): how many samples must lie between a sample and each cut edge. Refused if
+    // Gabor's flag or the iterations are out of range.
+    #[tactic(auto, unfolding(crate::specs::Plan::margin_checks))]
+    pub fn margin(&self) -> Result<u32, Refusal>
+        ensures { IsOutcome result (margin_number self.now) (margin self.now) }
+    {
+        if !flag_fits(self.gabor.enabled) || MAX_ITERS < self.epf.iters {
+            return Err(Refusal::OutOfRange);
+        }
+        Ok(self.gabor_passes() + step_margin(self.epf.iters))
+    }
+
+    // Whether a pass is the Gabor-like filter.
+    #[tactic(auto, unfolding(crate::specs::Plan::gabor_at))]
+    fn gabor_at(&self, pass: u32) -> bool
+        ensures { result ≡ gabor_at self.now pass }
+    {
+        self.gabor_on() && pass == 0
+    }
+
+    #[tactic(auto, unfolding(crate::specs::Plan::step_index))]
+    fn step_index(&self, pass: u32) -> u32
+        ensures { result ≡ step_index self.now pass }
+    {
+        let skipped = u64::from(self.epf.iters < ALL_STEPS);
+        let before = u64::from(self.gabor_passes());
+        let step = (u64::from(pass) + skipped).saturating_sub(before);
+        step.min(LAST_STEP) as u32
+    }
+
+    // The step of a pass that is not the Gabor-like filter, with the settings that it reads.
+    #[tactic(auto, unfolding(crate::specs::Plan::step_of))]
+    fn step_at(&self, pass: u32) -> EpfStep
+        ensures { result ≡ step_of self.now (step_index self.now pass) }
+    {
+        let step = self.step_index(pass);
+        let sigma = self.epf.sigma;
+        EpfStep {
+            step,
+            channel_scale: self.epf.channel_scale,
+            multiplier: scale_of(sigma, step),
+            border_sad_mul: sigma.border_sad_mul,
+        }
+    }
+
+    // What a pass runs; the last step for a number past the last pass.
+    #[tactic(auto, unfolding(crate::specs::PassAt::pass_at))]
+    pub fn pass_at(&self, pass: u32) -> Pass
+        ensures { result ≡ pass_at self.now pass }
+    {
+        if self.gabor_at(pass) {
+            return Pass::Gabor(self.gabor.weights);
+        }
+        Pass::Edge(self.step_at(pass))
+    }
 }
 
-// The step of a pass that is not the Gabor-like filter, with the settings that it reads.
-pub fn step_at(s: Settings, pass: u32) -> EpfStep
-    ensures { result ≡ step_of s (step_index s pass) }
-{
-    let step = step_index(s, pass);
-    let sigma = s.epf.sigma;
-    let channel_scale = s.epf.channel_scale;
-    EpfStep {
-        step,
-        channel_scale,
-        multiplier: scale_of(sigma, step),
-        border_sad_mul: sigma.border_sad_mul,
+// Zeros: both filters are off. By hand, as a derive says this field by field, and callers need the whole record.
+impl Default for Settings {
+    ghost is_default = { λ s. s ≡ no_settings };
+
+    fn default() -> Settings {
+        let gabor = GaborSettings {
+            enabled: 0,
+            weights: [[0.0; 2]; 3],
+        };
+        let sigma = EpfSigma {
+            quant_mul: 0.0,
+            pass0_sigma_scale: 0.0,
+            pass2_sigma_scale: 0.0,
+            border_sad_mul: 0.0,
+        };
+        let epf = EpfSettings {
+            iters: 0,
+            channel_scale: [0.0; 3],
+            sigma,
+            sigma_for_modular: 0.0,
+        };
+        Settings { gabor, epf }
+    }
+}
+
+impl From<Result<u32, Refusal>> for MarginAnswer {
+    ghost from_gives = { λ margin answer. answer ≡ margin_answer margin };
+
+    fn from(margin: Result<u32, Refusal>) -> MarginAnswer {
+        match margin {
+            Ok(margin) => MarginAnswer {
+                number: ACCEPTED,
+                margin,
+            },
+            Err(refusal) => MarginAnswer {
+                number: u32::from(refusal),
+                margin: 0,
+            },
+        }
     }
 }

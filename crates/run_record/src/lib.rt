@@ -1,17 +1,17 @@
-// The record of a run: the setup, the number of completed passes, and the done bands of the next pass. Calls take it
-// by value and return it by value.
+// The record of a run: the setup, the number of completed passes, and the done bands of the next pass.
 #![tactic(auto)]
 
 ghost use Rattle.std.specs.Prelude.{◌≡◌, not, ℕ, ◌<◌, ◌≤◌, get_or};
 ghost use Rattle.refusals.specs.Checks.{first_of};
-ghost use Rattle.sigma_grids.specs.Table.{some_below};
+ghost use Rattle.refusals.specs.Refusals.{number_of};
+ghost use Rattle.run_setup.specs.Makers.{no_setup};
 ghost use Rattle.run_setup.specs.Setup.{max_bands, band_count};
-ghost use Rattle.run_record.specs.Record.{is_done, bad_flag, finished, open_bands, run_fits, not_open};
+ghost use Rattle.run_record.specs.Record.{started, is_done, bad_flag, bad_done, band_missing};
+ghost use Rattle.run_record.specs.Record.{finished, open_bands, run_fits, not_open};
 ghost use Rattle.run_record.specs.Record.{open_checks, over_checks, finished_checks};
 
-use refusals::{ACCEPTED, BAND_NOT_OPEN, OUT_OF_RANGE, PASS_NOT_DONE, flag_set};
-use run_passes::pass_count;
-use run_setup::{MAX_BANDS, Setup, band_count, setup_fits};
+use refusals::{Refusal, flag_set};
+use run_setup::{MAX_BANDS, Setup};
 
 // The record of a run. `pass` counts the completed passes. `done` has one flag per band of the next pass: 1 if the
 // band is done.
@@ -21,13 +21,6 @@ pub struct Run {
     pub setup: Setup,
     pub pass: u32,
     pub done: [u8; MAX_BANDS],
-}
-
-fn is_done(r: Run, k: usize) -> bool
-    requires { k < max_bands }
-    ensures { result ≡ is_done r k }
-{
-    flag_set(r.done[k] as u32)
 }
 
 // Whether no accepted calls give band k this flag, if only the first `bands` bands may be done.
@@ -40,118 +33,131 @@ fn bad_flag(bands: usize, k: usize, flag: u8) -> bool
     0 < flag
 }
 
-fn bad_done(r: Run, bands: usize) -> bool
-    ensures { result ≡ some_below max_bands (λ (k : ℕ). bad_flag bands k (get_or r.done k 0)) }
-{
-    let done = r.done;
-    let mut k = 0;
-    while k < MAX_BANDS {
-        if bad_flag(bands, k, done[k]) {
-            return true;
+impl Run {
+    // The record of a run that has started: no pass and no band is done.
+    #[tactic(auto, unfolding(crate::specs::Record::started))]
+    pub fn started(setup: Setup) -> Run
+        ensures { result ≡ started setup }
+    {
+        Run {
+            setup,
+            pass: 0,
+            done: [0; MAX_BANDS],
         }
-        k += 1;
     }
-    false
-}
 
-// Whether one of the first n bands is not done.
-fn band_missing(r: Run, n: usize) -> bool
-    requires { n ≤ max_bands }
-    ensures { result ≡ some_below n (λ (k : ℕ). not (is_done r k)) }
-{
-    let done = r.done;
-    let mut k = 0;
-    while k < n {
-        if !flag_set(done[k] as u32) {
-            return true;
+    #[tactic(auto, unfolding(crate::specs::Record::is_done))]
+    fn is_done(&self, k: usize) -> bool
+        requires { k < max_bands }
+        ensures { result ≡ is_done self.now k }
+    {
+        flag_set(self.done[k] as u32)
+    }
+
+    // Whether no accepted calls give one of the flags.
+    fn bad_done(&self) -> bool
+        ensures { result ≡ bad_done self.now }
+    {
+        let bands = self.open_bands();
+        for k in 0..MAX_BANDS {
+            if bad_flag(bands, k, self.done[k]) {
+                return true;
+            }
         }
-        k += 1;
+        false
     }
-    false
+
+    // Whether a band of the pass is not done.
+    fn band_missing(&self) -> bool
+        requires { band_count self.now.setup ≤ max_bands }
+        ensures { result ≡ band_missing self.now }
+    {
+        for k in 0..self.setup.band_count() {
+            if !self.is_done(k) {
+                return true;
+            }
+        }
+        false
+    }
+
+    // Whether all passes are completed.
+    fn finished(&self) -> bool
+        ensures { result ≡ finished self.now }
+    {
+        self.pass == self.setup.settings.pass_count()
+    }
+
+    // The number of bands that may be done: 0 in a finished run.
+    fn open_bands(&self) -> usize
+        ensures { result ≡ open_bands self.now }
+    {
+        if self.finished() {
+            return 0;
+        }
+        self.setup.band_count()
+    }
+
+    // Whether a record is valid (Specification 12.8).
+    #[tactic(auto, unfolding(crate::specs::Record::run_fits))]
+    pub fn fits(&self) -> bool
+        ensures { result ≡ run_fits self.now }
+    {
+        self.setup.fits() && self.pass <= self.setup.settings.pass_count() && !self.bad_done()
+    }
+
+    // Whether band k cannot run: the run is finished, there is no band k, or it is done.
+    fn not_open(&self, k: usize) -> bool
+        requires { band_count self.now.setup ≤ max_bands }
+        ensures { result ≡ not_open self.now k }
+    {
+        self.finished() || self.setup.band_count() <= k || self.is_done(k)
+    }
+
+    // Refuses a call of band k for the record: out of range, or the band is not open.
+    pub fn check_band(&self, k: u32) -> Result<(), Refusal>
+        ensures { number_of result ≡ first_of (open_checks self.now k) }
+    {
+        if !self.fits() {
+            return Err(Refusal::OutOfRange);
+        }
+        if self.not_open(k as usize) {
+            return Err(Refusal::BandNotOpen);
+        }
+        Ok(())
+    }
+
+    // Refuses an advance for the record: out of range, or the pass is not done.
+    pub fn check_advance(&self) -> Result<(), Refusal>
+        ensures { number_of result ≡ first_of (over_checks self.now) }
+    {
+        if !self.fits() {
+            return Err(Refusal::OutOfRange);
+        }
+        if self.finished() || self.band_missing() {
+            return Err(Refusal::PassNotDone);
+        }
+        Ok(())
+    }
+
+    // Refuses a result for the record: out of range, or the run is not finished.
+    pub fn check_result(&self) -> Result<(), Refusal>
+        ensures { number_of result ≡ first_of (finished_checks self.now) }
+    {
+        if !self.fits() {
+            return Err(Refusal::OutOfRange);
+        }
+        if !self.finished() {
+            return Err(Refusal::PassNotDone);
+        }
+        Ok(())
+    }
 }
 
-// Whether all passes are completed.
-fn finished(r: Run) -> bool
-    ensures { result ≡ finished r }
-{
-    r.pass == pass_count(r.setup.settings)
-}
+// The record that a refused start answers: zeros. By hand for the same reason as `Settings`.
+impl Default for Run {
+    ghost is_default = { λ r. r ≡ started no_setup };
 
-// The number of bands that may be done: 0 in a finished run.
-fn open_bands(r: Run) -> usize
-    ensures { result ≡ open_bands r }
-{
-    if finished(r) {
-        return 0;
+    fn default() -> Run {
+        Run::started(Setup::default())
     }
-    band_count(r.setup)
-}
-
-// Whether a record is valid (Specification 12.8).
-pub fn run_fits(r: Run) -> bool
-    ensures { result ≡ run_fits r }
-{
-    if !setup_fits(r.setup) {
-        return false;
-    }
-    if pass_count(r.setup.settings) < r.pass {
-        return false;
-    }
-    !bad_done(r, open_bands(r))
-}
-
-// Whether band k cannot run: the run is finished, there is no band k, or it is done.
-fn not_open(r: Run, k: usize) -> bool
-    requires { band_count r.setup ≤ max_bands }
-    ensures { result ≡ not_open r k }
-{
-    if finished(r) {
-        return true;
-    }
-    if band_count(r.setup) <= k {
-        return true;
-    }
-    is_done(r, k)
-}
-
-// The record's number for a band call: 9, 10 or 0.
-pub fn band_number(r: Run, k: u32) -> u32
-    ensures { result ≡ first_of (open_checks r k) }
-{
-    if !run_fits(r) {
-        return OUT_OF_RANGE;
-    }
-    if not_open(r, k as usize) {
-        return BAND_NOT_OPEN;
-    }
-    ACCEPTED
-}
-
-// The record's number for an advance: 9, 11 or 0.
-pub fn advance_number(r: Run) -> u32
-    ensures { result ≡ first_of (over_checks r) }
-{
-    if !run_fits(r) {
-        return OUT_OF_RANGE;
-    }
-    if finished(r) {
-        return PASS_NOT_DONE;
-    }
-    if band_missing(r, band_count(r.setup)) {
-        return PASS_NOT_DONE;
-    }
-    ACCEPTED
-}
-
-// The record's number for a result call: 9, 11 or 0.
-pub fn result_number(r: Run) -> u32
-    ensures { result ≡ first_of (finished_checks r) }
-{
-    if !run_fits(r) {
-        return OUT_OF_RANGE;
-    }
-    if finished(r) {
-        return ACCEPTED;
-    }
-    PASS_NOT_DONE
 }

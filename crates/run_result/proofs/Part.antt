@@ -27,15 +27,6 @@ use Rattle.run_result.specs.Part.{part_of, rows_of}
 
 -- ---- the layout of the result region
 
-pub part-alone : (l : Layout) → l.full ≡ false → l ≡ part_of l
-unfolding part_of
-part-alone l e = rw e
-
-pub part-full : (l : Layout) → l.full ≡ true
-    → ◌≡◌ {A = Layout} (record { image = l.image; left = 0; top = 0; width = l.image.width; height = l.image.height; full = true }) (part_of l)
-unfolding part_of
-part-full l e = rw e
-
 pub part-fits : (l : Layout) → LayoutFits l → LayoutFits (part_of l)
 unfolding part_of
 part-fits l f = record { width-le = f.width-le; height-le = f.height-le; across = go l.full; down = go-down l.full }

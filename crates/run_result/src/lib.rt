@@ -3,19 +3,20 @@
 #![tactic(auto)]
 
 ghost use Rattle.std.specs.Prelude.{◌≡◌, ◌+◌, ◌*◌, ◌≤◌, length};
+ghost use Rattle.refusals.specs.Refusals.{number_of};
 ghost use Rattle.planes.specs.Rect.{rows_fill, planes_fill};
 ghost use Rattle.planes.specs.Fits.{LayoutFits};
 ghost use Rattle.planes.specs.Band.{inner};
 ghost use Rattle.run_setup.specs.Setup.{layout, set_length, result_length};
 ghost use Rattle.run_setup.specs.SetupFits.{SetupFits};
-ghost use Rattle.run_outcomes.specs.Result.{ResultOutcome, result_of, result_outcome};
+ghost use Rattle.run_outcomes.specs.Result.{ResultOutcome, result_number, result_of, result_outcome};
 ghost use Rattle.run_result.specs.Part.{part_of, rows_of};
 
 use planes::{Layout, PLANES, copy_run};
 use planes_layout::layout_of;
-use refusals::{ACCEPTED, WRONG_LENGTH, flag_set};
-use run_outcomes::{bad_sets, bad_slice};
-use run_record::{Run, result_number};
+use refusals::{Refusal, flag_set};
+use run_outcomes::{check_sets, check_slice};
+use run_record::Run;
 use run_setup::Setup;
 
 // Copies the filter region's rows of one plane. In `src` the image row of the first one starts at index `from`; in
@@ -26,14 +27,9 @@ fn copy_rows(src: &[f32], from: usize, out: &mut [f32], at: usize, l: Layout)
     ensures { out.new
         ≡ rows_fill out.old at l.width l.width l.height (rows_of l from src.now) }
 {
-    let mut y = 0;
-    let mut row = from;
-    let mut o = at;
-    while y < l.height {
-        copy_run(out, o, src, row + l.left, l.width);
-        row += l.image.width;
-        o += l.width;
-        y += 1;
+    for y in 0..l.height {
+        let row = from + y * l.image.width + l.left;
+        copy_run(out, at + y * l.width, src, row, l.width);
     }
 }
 
@@ -45,36 +41,33 @@ fn copy_planes(src: &[f32], out: &mut [f32], l: Layout, n: usize)
     ensures { out.new ≡ planes_fill l.width l.height
         0 l.width 0 l.height (inner l src.now) out.old n }
 {
-    let mut c = 0;
-    while c < n {
+    for c in 0..n {
         let from = (c * l.image.height + l.top) * l.image.width;
         let at = c * l.height * l.width;
         copy_rows(src, from, out, at, l);
-        c += 1;
     }
 }
 
 // The layout with the result region in place of the filter region.
+#[tactic(auto, unfolding(crate::specs::Part::part_of))]
 fn part_of(l: Layout) -> Layout
     ensures { result ≡ part_of l }
 {
     if !l.full {
         return l;
     }
-    let image = l.image;
     Layout {
-        image,
         left: 0,
         top: 0,
-        width: image.width,
-        height: image.height,
-        full: true,
+        width: l.image.width,
+        height: l.image.height,
+        ..l
     }
 }
 
-fn copy_result(s: Setup, src: &[f32], out: &mut [f32])
-    requires { SetupFits s × (length src.now ≡ set_length 3 s) × (length out.old ≡ result_length 3 s) }
-    ensures { out.new ≡ result_of 3 (layout s) src.now }
+fn copy_result(s: &Setup, src: &[f32], out: &mut [f32])
+    requires { SetupFits s.now × (length src.now ≡ set_length 3 s.now) × (length out.old ≡ result_length 3 s.now) }
+    ensures { out.new ≡ result_of 3 (layout s.now) src.now }
 {
     let full = flag_set(s.preserve_outside);
     let l = layout_of(s.image, s.filter, full).unwrap();
@@ -82,26 +75,26 @@ fn copy_result(s: Setup, src: &[f32], out: &mut [f32])
     copy_planes(src, out, part, PLANES)
 }
 
-// Copies the result of a finished run to `out`, from the set that the next pass would read. A refused call (7, 9 or
-// 11) writes nothing.
-pub fn result(run: Run, first: &[f32], second: &[f32], out: &mut [f32]) -> u32
-    ensures { ◌≡◌ {A = ResultOutcome} (record { number = result; out = out.new })
-        (result_outcome 3 run first.now second.now out.old) }
+// Refuses a result call: for the sets, the slice, then the record.
+fn check(run: &Run, first: &[f32], second: &[f32], out: &[f32]) -> Result<(), Refusal>
+    ensures { number_of result ≡ result_number 3 run.now first.now second.now out.now }
 {
-    if bad_sets(run.setup, first.len(), second.len()) {
-        return WRONG_LENGTH;
-    }
-    if bad_slice(run.setup, out.len()) {
-        return WRONG_LENGTH;
-    }
-    let number = result_number(run);
-    if number != ACCEPTED {
-        return number;
-    }
+    check_sets(&run.setup, first, second)?;
+    check_slice(&run.setup, out)?;
+    run.check_result()
+}
+
+// Copies the result of a finished run to `out`, from the set that the next pass would read. A refused call writes
+// nothing.
+pub fn result(run: &Run, first: &[f32], second: &[f32], out: &mut [f32]) -> Result<(), Refusal>
+    ensures { ◌≡◌ {A = ResultOutcome} (record { number = number_of result; out = out.new })
+        (result_outcome 3 run.now first.now second.now out.old) }
+{
+    check(run, first, second, out)?;
     if run.pass % 2 == 0 {
-        copy_result(run.setup, first, out);
-        return ACCEPTED;
+        copy_result(&run.setup, first, out);
+        return Ok(());
     }
-    copy_result(run.setup, second, out);
-    ACCEPTED
+    copy_result(&run.setup, second, out);
+    Ok(())
 }

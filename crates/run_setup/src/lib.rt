@@ -1,9 +1,10 @@
 // The setup of a run: which values are in range, and the rows and bands of the result region.
 #![tactic(auto)]
 
-ghost use Rattle.std.specs.Prelude.{◌≡◌, ◌<◌};
+ghost use Rattle.std.specs.Prelude.{◌≡◌};
+ghost use Rattle.run_setup.specs.Makers.{no_setup};
 ghost use Rattle.run_setup.specs.Setup.{row_count, size_fits, band_count, blocks_fit, height_fits};
-ghost use Rattle.run_setup.specs.Setup.{numbers_fit, setup_fits};
+ghost use Rattle.run_setup.specs.Setup.{numbers_fit, result_region, setup_fits};
 
 use limits::{MAX_AREA_U32, MAX_SIDE_U32};
 use refusals::{flag_fits, flag_set};
@@ -28,85 +29,97 @@ pub struct Setup {
 }
 
 // Whether a region's sides are 1 to 16,384 and its area at most 16,777,216 (Specification 4.3).
+#[tactic(auto, unfolding(crate::specs::Setup::size_fits))]
 pub fn size_fits(r: Region) -> bool
     ensures { result ≡ size_fits r }
 {
-    if MAX_SIDE_U32 < r.width {
+    if MAX_SIDE_U32 < r.width || MAX_SIDE_U32 < r.height {
         return false;
     }
-    if MAX_SIDE_U32 < r.height {
-        return false;
-    }
-    if r.width < 1 {
-        return false;
-    }
-    if r.height < 1 {
-        return false;
-    }
-    r.width * r.height <= MAX_AREA_U32
+    1 <= r.width && 1 <= r.height && r.width * r.height <= MAX_AREA_U32
 }
 
-// The number of rows of the result region.
-pub fn row_count(s: Setup) -> usize
-    ensures { (result ≡ row_count s) × (result < 4294967296) }
-{
-    if flag_set(s.preserve_outside) {
-        return s.image.height as usize;
+impl Setup {
+    // The region whose samples the run gives: the image region or the filter region.
+    pub fn result_region(&self) -> Region
+        ensures { result ≡ result_region self.now }
+    {
+        if flag_set(self.preserve_outside) {
+            return self.image;
+        }
+        self.filter
     }
-    s.filter.height as usize
+
+    // The number of rows of the result region.
+    #[tactic(auto, unfolding(planes_layout::specs::Outcome::layout_of))]
+    pub fn row_count(&self) -> u32
+        ensures { result ≡ row_count self.now }
+    {
+        self.result_region().height
+    }
+
+    // The number of bands of a pass.
+    #[tactic(auto, unfolding(crate::specs::Setup::band_count))]
+    pub fn band_count(&self) -> usize
+        ensures { result ≡ band_count self.now }
+    {
+        let height = self.band_height as usize;
+        if height == 0 {
+            return 0;
+        }
+        (self.row_count() as usize + height - 1) / height
+    }
+
+    fn blocks_fit(&self) -> bool
+        ensures { result ≡ blocks_fit self.now }
+    {
+        self.settings.epf.iters == 0 || on_blocks(self.filter)
+    }
+
+    fn height_fits(&self) -> bool
+        ensures { result ≡ height_fits self.now }
+    {
+        1 <= self.band_height && self.band_height <= MAX_SIDE_U32
+    }
+
+    // Whether the iterations, both flags, the band height and the number of bands are in range.
+    #[tactic(auto, unfolding(crate::specs::Setup::numbers_fit))]
+    pub fn numbers_fit(&self) -> bool
+        ensures { result ≡ numbers_fit self.now }
+    {
+        self.settings.epf.iters <= MAX_ITERS
+            && flag_fits(self.preserve_outside)
+            && flag_fits(self.settings.gabor.enabled)
+            && self.height_fits()
+            && self.band_count() <= MAX_BANDS
+    }
+
+    // Whether start would not refuse the setup under 4, 5, 6 or 9.
+    #[tactic(auto, using(crate::proofs::Tests::setup_rules))]
+    pub fn fits(&self) -> bool
+        ensures { result ≡ setup_fits self.now }
+    {
+        if placed(self.image, self.filter).is_err() {
+            return false;
+        }
+        if !self.blocks_fit() {
+            return false;
+        }
+        self.numbers_fit()
+    }
 }
 
-// The number of bands of a pass.
-pub fn band_count(s: Setup) -> usize
-    ensures { result ≡ band_count s }
-{
-    let height = s.band_height as usize;
-    if height == 0 {
-        return 0;
-    }
-    (row_count(s) + height - 1) / height
-}
+// Zeros: regions without samples, and both filters are off. By hand for the same reason as `Settings`.
+impl Default for Setup {
+    ghost is_default = { λ s. s ≡ no_setup };
 
-fn blocks_fit(s: Setup) -> bool
-    ensures { result ≡ blocks_fit s }
-{
-    if s.settings.epf.iters == 0 {
-        return true;
+    fn default() -> Setup {
+        Setup {
+            image: Region::default(),
+            filter: Region::default(),
+            preserve_outside: 0,
+            settings: Settings::default(),
+            band_height: 0,
+        }
     }
-    on_blocks(s.filter)
-}
-
-fn height_fits(s: Setup) -> bool
-    ensures { result ≡ height_fits s }
-{
-    if s.band_height < 1 {
-        return false;
-    }
-    s.band_height <= MAX_SIDE_U32
-}
-
-// Whether the iterations, both flags, the band height and the number of bands are in range.
-pub fn numbers_fit(s: Setup) -> bool
-    ensures { result ≡ numbers_fit s }
-{
-    if MAX_ITERS < s.settings.epf.iters {
-        return false;
-    }
-    if !flag_fits(s.preserve_outside) {
-        return false;
-    }
-    if !flag_fits(s.settings.gabor.enabled) {
-        return false;
-    }
-    if !height_fits(s) {
-        return false;
-    }
-    band_count(s) <= MAX_BANDS
-}
-
-// Whether start would not refuse the setup under 4, 5, 6 or 9.
-pub fn setup_fits(s: Setup) -> bool
-    ensures { result ≡ setup_fits s }
-{
-    placed(s.image, s.filter).is_ok() && (blocks_fit(s) && numbers_fit(s))
 }

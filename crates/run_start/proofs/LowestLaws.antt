@@ -8,6 +8,7 @@ use native.Mathlib.Omega.{arith}
 use borrow.Author.Tests.{leb-true, ltb-false, le-ltb, ne_eqb}
 use lib.Dec.{eqb, leb, ltb}
 use Rattle.refusals.specs.Checks.{Check, applies, first_of}
+use Rattle.refusals.proofs.Outcomes.{number-positive}
 use Rattle.planes.proofs.Stored.{and_first, and_second}
 use Rattle.run_start.specs.Lowest.{lowest}
 
@@ -110,3 +111,6 @@ taken k (right {c} h) p e =
 
 pub first-lowest : {cs ls rs : List Check} → Parted cs ls rs → ascending 1 cs ≡ true → first_of cs ≡ lowest (first_of ls) (first_of rs)
 first-lowest h e = (taken 1 h (omega arith) e).lower
+
+-- for the lower of two refusals
+pub ruleset lowest_rules = (number-positive)

@@ -4,7 +4,7 @@ use mathlib.Core.Bool.{Bool, true, false, cond, not, ◌&&◌}
 use mathlib.Core.List.{List, [], ◌∷◌}
 use Prim.Native.Nat.{ℕ, ◌*◌, ◌/◌, ◌≤◌}
 use native.Mathlib.Omega.{arith}
-use borrow.Author.Tests.{le-leb, le-ltb, ne_eqb, not-false}
+use borrow.Author.Tests.{le-ltb, ne_eqb, not-false}
 use lib.Dec.{T, eqb}
 use lib.ListN.{length}
 use lib.Ieee.{Float}
@@ -27,10 +27,9 @@ use Rattle.sigma.specs.Outcome.{SigmasOutcome, left_in, sigmas_outcome}
 use Rattle.region_placement.specs.Blocks.{clamp_to_zero}
 use Rattle.region_placement.proofs.BlockLaws.{clamp-small}
 use Rattle.run_setup.specs.declared.Setup.{Setup}
-use Rattle.run_record.specs.declared.Run.{Run}
 use Rattle.run_setup.specs.Setup.{layout, epf_on, iters_fit, size_fits}
 use Rattle.run_record.specs.Record.{started}
-use Rattle.run_setup.proofs.Tests.{size-by-area}
+use Rattle.run_setup.proofs.Laws.{picture-size}
 use Rattle.run_outcomes.proofs.Tests.{blocks-same}
 use Rattle.run_outcomes.specs.Start.{Handed, StartOutcome, blocks_of, runs_epf, region_sides, filter_inside, filter_on_blocks, set_lengths, sigmas_length, blocks_held, iters_in_range, picture_checks, start_number, start_leaves, sigmas_filled, no_run, start_outcome}
 use Rattle.refusals.proofs.Rows.{here, below, row-passed, or-zero}
@@ -46,9 +45,7 @@ module _ (r : Region) (e : picture_fits r ≡ true) where
   fits = subst T (sym e) tt
 
   is-size : size_fits r ≡ true
-  is-size =
-      let m = picture-bounds r fits in
-      sym (size-by-area r (bounds-width r m) (bounds-height r m) (picture-width r fits) (picture-height r fits)) ∙ le-leb _ 16777216 (picture-area r fits)
+  is-size = picture-size r fits
 
 blocks-good : (s : Setup) → picture_fits s.filter ≡ true → bad_blocks (blocks_of s) ≡ false
 unfolding bad_blocks
@@ -187,10 +184,10 @@ module _ (n : ℕ) (h : Handed) where
     number_is : start_number n h ≡ k
     number_is = number_same ∙ sym e
 
-    pub refused : (k ≡ 0 → ⊥) → (r : Run) → r ≡ no_run
-        → ◌≡◌ {A = StartOutcome} (record { answer = record { number = k; run = r }; first = h.first; sigmas = h.sigmas }) (start_outcome n h)
+    pub refused : (k ≡ 0 → ⊥)
+        → ◌≡◌ {A = StartOutcome} (record { answer = record { number = k; run = no_run }; first = h.first; sigmas = h.sigmas }) (start_outcome n h)
     unfolding start_outcome
-    refused z r q = rw (number_is, ne_eqb k 0 z, q)
+    refused z = rw (number_is, ne_eqb k 0 z)
 
     module _ (z : k ≡ 0) where
       -- every part's number is 0
@@ -204,12 +201,14 @@ module _ (n : ℕ) (h : Handed) where
       sigmas-fit : groups_number (length h.sigmas) ≡ 0
       sigmas-fit = let a : length h.sigmas ≡ sigmas_asked s (length h.sigmas) = rw iters in ap groups_number a ∙ pieces.1
 
-      pub accepted : (m : ℕ) (filled : List Float)
-          → ◌≡◌ {A = SigmasOutcome} (record { number = m; sigmas = filled }) (sigmas_outcome (epf_flag s) f (blocks_of s) t h.grids s.settings.epf.sigma_for_modular h.sigmas)
-          → (r : Run) → r ≡ started s
-          → ◌≡◌ {A = StartOutcome} (record { answer = record { number = m; run = r }; first = h.first; sigmas = filled }) (start_outcome n h)
-      unfolding start_outcome start_leaves sigmas_filled
-      accepted m filled o r q =
-          let a : m ≡ 0 = ap (λ (o : SigmasOutcome). o.number) o ∙ sigmas-fit in
-          let l = ap (λ (o : SigmasOutcome). o.sigmas) o ∙ left_is _ (flag_set (epf_flag s)) (iters_fit s) (epf_on s) _ _ sigmas-fit (flag-set (runs_epf s)) iters in
-          rw (number_is, z, a, l, q)
+      module _ (m : ℕ) (filled : List Float)
+          (o : ◌≡◌ {A = SigmasOutcome} (record { number = m; sigmas = filled }) (sigmas_outcome (epf_flag s) f (blocks_of s) t h.grids s.settings.epf.sigma_for_modular h.sigmas)) where
+        -- the block sigmas are not refused
+        pub sigmas-accepted : m ≡ 0
+        sigmas-accepted = ap (λ (o : SigmasOutcome). o.number) o ∙ sigmas-fit
+
+        pub accepted : ◌≡◌ {A = StartOutcome} (record { answer = record { number = 0; run = started s }; first = h.first; sigmas = filled }) (start_outcome n h)
+        unfolding start_outcome start_leaves sigmas_filled
+        accepted =
+            let l = ap (λ (o : SigmasOutcome). o.sigmas) o ∙ left_is _ (flag_set (epf_flag s)) (iters_fit s) (epf_on s) _ _ sigmas-fit (flag-set (runs_epf s)) iters in
+            rw (number_is, z, l)

@@ -5,6 +5,7 @@ use native.Mathlib.Omega.{arith}
 use Rattle.refusals.specs.Checks.{first_of}
 use Rattle.region_interval.proofs.Flags.{yes}
 use Rattle.region.specs.Measures.{picture_fits, rectangle_fits}
+use Rattle.run_passes.proofs.PlanLaws.{margin-answered}
 use Rattle.loupe_region.specs.Outcome.{bad_wanted, off_blocks, widened_checks}
 use Rattle.loupe_region.proofs.Laws.{wanted-of}
 use Rattle.loupe_region.proofs.Answers.{whole-outside, wanted-outside, wanted-bad, whole-off-blocks, regions-pass, margin-number, margin-given, refused-answer, accepted-answer}
@@ -43,8 +44,8 @@ returns-then-reach-ne-ACCEPTED c =
     let wanted-in : rectangle_fits s.wanted ≡ true = sym c.rectangle_fits.ensures ∙ c.if-not-rectangle_fits.false in
     let wanted-good : bad_wanted s.whole s.wanted ≡ false = sym c.bad_wanted.ensures ∙ c.if-bad_wanted.false in
     let on-blocks : off_blocks s ≡ false = sym c.off_blocks.ensures ∙ c.if-off_blocks.false in
-    let settings-number : first_of (widened_checks s) ≡ c.margin-reach.result.number = regions-pass s whole_in wanted-in wanted-good on-blocks ∙ sym (margin-number s.settings c.margin-reach.result c.margin-reach.ensures) in
-    refused-answer s c.margin-reach.result.number _ c.if-reach-ne-ACCEPTED.true settings-number c.refused-then-reach-ne-ACCEPTED.ensures
+    let settings-number : first_of (widened_checks s) ≡ c.from-reach.result.number = regions-pass s whole_in wanted-in wanted-good on-blocks ∙ sym (margin-number s.settings c.from-reach.result (c.from-reach.ensures ∙ margin-answered s.settings _ c.margin.ensures)) in
+    refused-answer s c.from-reach.result.number _ c.if-reach-ne-ACCEPTED.true settings-number c.refused-then-reach-ne-ACCEPTED.ensures
 
 pub widened-requires : goal.widened-requires
 widened-requires c =
@@ -61,6 +62,6 @@ returns c =
     let wanted-in : rectangle_fits s.wanted ≡ true = sym c.rectangle_fits.ensures ∙ c.if-not-rectangle_fits.false in
     let wanted-good : bad_wanted s.whole s.wanted ≡ false = sym c.bad_wanted.ensures ∙ c.if-bad_wanted.false in
     let on-blocks : off_blocks s ≡ false = sym c.off_blocks.ensures ∙ c.if-off_blocks.false in
-    let settings-number : first_of (widened_checks s) ≡ c.margin-reach.result.number = regions-pass s whole_in wanted-in wanted-good on-blocks ∙ sym (margin-number s.settings c.margin-reach.result c.margin-reach.ensures) in
+    let settings-number : first_of (widened_checks s) ≡ c.from-reach.result.number = regions-pass s whole_in wanted-in wanted-good on-blocks ∙ sym (margin-number s.settings c.from-reach.result (c.from-reach.ensures ∙ margin-answered s.settings _ c.margin.ensures)) in
     let z = c.if-reach-ne-ACCEPTED.false in
-    rw (c.widened.ensures, margin-given s.settings c.margin-reach.result c.margin-reach.ensures z) (accepted-answer s (settings-number ∙ z))
+    rw (c.widened.ensures, margin-given s.settings c.from-reach.result (c.from-reach.ensures ∙ margin-answered s.settings _ c.margin.ensures) z) (accepted-answer s (settings-number ∙ z))

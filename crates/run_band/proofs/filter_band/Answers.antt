@@ -1,50 +1,43 @@
 -- `run_band::filter_band` meets its contract. Assumes nothing.
-use mathlib.Core.Path.{◌≡◌, ap, ◌∙◌}
-use Prim.Native.Nat.{◌+◌, ◌*◌, min}
+use mathlib.Core.Path.{◌≡◌}
 use native.Mathlib.Omega.{arith}
 use Rattle.run_setup.specs.Setup.{band_to}
 use Rattle.run_outcomes.specs.Band.{State}
 use Rattle.run_band.proofs.Accepted.{Room, room, first_rows, second-rows, second-written, first-written}
 use Rattle.run_band.proofs.filter_band.Goals as goal
 
-pub returns-then-run-eq0 : goal.returns-then-run-eq0
-returns-then-run-eq0 c =
-    let lent : State = record { run = c.args.run; sigmas = c.args.sigmas.now; first = c.args.first.now; second = c.args.second.now } in
-    let to_is : c.min_u32-to.result ≡ band_to c.args.run.setup c.args.k = c.min_u32-to.ensures ∙ ap (min (c.args.k * c.args.run.setup.band_height + c.args.run.setup.band_height)) c.row_count.ensures.0 in
-    second-written lent c.args.k c.if-run-eq0.true _ (rw to_is at c.pass_rows.ensures)
-
-pub returns : goal.returns
-returns c =
-    let lent : State = record { run = c.args.run; sigmas = c.args.sigmas.now; first = c.args.first.now; second = c.args.second.now } in
-    let to_is : c.min_u32-to.result ≡ band_to c.args.run.setup c.args.k = c.min_u32-to.ensures ∙ ap (min (c.args.k * c.args.run.setup.band_height + c.args.run.setup.band_height)) c.row_count.ensures.0 in
-    first-written lent c.args.k c.if-run-eq0.false _ (rw to_is at c.pass_rows-2.ensures)
-
 pub overflow_mul-from : goal.overflow_mul-from
 overflow_mul-from c =
-    let lent : State = record { run = c.args.run; sigmas = c.args.sigmas.now; first = c.args.first.now; second = c.args.second.now } in
+    let lent : State = record { run = c.args.run.now; sigmas = c.args.sigmas.now; first = c.args.first.now; second = c.args.second.now } in
     let fits : Room lent c.args.k c.requires = room lent c.args.k c.requires in
     record { fits = omega (arith, fits.from) }
 
 pub overflow_add-from : goal.overflow_add-from
 overflow_add-from c =
-    let lent : State = record { run = c.args.run; sigmas = c.args.sigmas.now; first = c.args.first.now; second = c.args.second.now } in
+    let lent : State = record { run = c.args.run.now; sigmas = c.args.sigmas.now; first = c.args.first.now; second = c.args.second.now } in
     let fits : Room lent c.args.k c.requires = room lent c.args.k c.requires in
     record { fits = omega (arith, fits.from, fits.height) }
 
-pub overflow_cast-row_count : goal.overflow_cast-row_count
-overflow_cast-row_count c =
-    let lent : State = record { run = c.args.run; sigmas = c.args.sigmas.now; first = c.args.first.now; second = c.args.second.now } in
-    let fits : Room lent c.args.k c.requires = room lent c.args.k c.requires in
-    omega (arith, fits.rows, c.row_count.ensures)
-
 pub pass_rows-requires : goal.pass_rows-requires
 pass_rows-requires c =
-    let lent : State = record { run = c.args.run; sigmas = c.args.sigmas.now; first = c.args.first.now; second = c.args.second.now } in
-    let to_is : c.min_u32-to.result ≡ band_to c.args.run.setup c.args.k = c.min_u32-to.ensures ∙ ap (min (c.args.k * c.args.run.setup.band_height + c.args.run.setup.band_height)) c.row_count.ensures.0 in
+    let lent : State = record { run = c.args.run.now; sigmas = c.args.sigmas.now; first = c.args.first.now; second = c.args.second.now } in
+    let to_is : c.min-to.result ≡ band_to c.args.run.now.setup c.args.k = omega (arith, c.min-to.ensures, c.row_count.ensures) in
     rw to_is (first_rows lent c.args.k c.requires)
+
+pub returns-then-run-eq0 : goal.returns-then-run-eq0
+returns-then-run-eq0 c =
+    let lent : State = record { run = c.args.run.now; sigmas = c.args.sigmas.now; first = c.args.first.now; second = c.args.second.now } in
+    let to_is : c.min-to.result ≡ band_to c.args.run.now.setup c.args.k = omega (arith, c.min-to.ensures, c.row_count.ensures) in
+    second-written lent c.args.k c.if-run-eq0.true _ (rw to_is at c.pass_rows.ensures)
 
 pub pass_rows-requires-2 : goal.pass_rows-requires-2
 pass_rows-requires-2 c =
-    let lent : State = record { run = c.args.run; sigmas = c.args.sigmas.now; first = c.args.first.now; second = c.args.second.now } in
-    let to_is : c.min_u32-to.result ≡ band_to c.args.run.setup c.args.k = c.min_u32-to.ensures ∙ ap (min (c.args.k * c.args.run.setup.band_height + c.args.run.setup.band_height)) c.row_count.ensures.0 in
+    let lent : State = record { run = c.args.run.now; sigmas = c.args.sigmas.now; first = c.args.first.now; second = c.args.second.now } in
+    let to_is : c.min-to.result ≡ band_to c.args.run.now.setup c.args.k = omega (arith, c.min-to.ensures, c.row_count.ensures) in
     rw to_is (second-rows lent c.args.k c.requires)
+
+pub returns : goal.returns
+returns c =
+    let lent : State = record { run = c.args.run.now; sigmas = c.args.sigmas.now; first = c.args.first.now; second = c.args.second.now } in
+    let to_is : c.min-to.result ≡ band_to c.args.run.now.setup c.args.k = omega (arith, c.min-to.ensures, c.row_count.ensures) in
+    first-written lent c.args.k c.if-run-eq0.false _ (rw to_is at c.pass_rows-2.ensures)

@@ -1,5 +1,5 @@
 use mathlib.Core.Path.{refl, ◌∙◌}
-use Prim.Native.Nat.{ℕ, ◌+◌, ◌-◌, ◌*◌, ◌≤◌, ◌<◌}
+use Prim.Native.Nat.{ℕ, ◌+◌, ◌*◌, ◌≤◌, ◌<◌}
 use native.Mathlib.Nat.{suc-mul, mul-le-mul, mul-le-mul_right, add-mul}
 use native.Mathlib.Omega.{arith}
 use Rattle.planes.specs.declared.Layout.{Layout}
@@ -12,7 +12,7 @@ use Rattle.run_result.proofs.copy_planes.Goals as goal
 
 pub loop-c-init : goal.loop-c-init
 unfolding planes_fill
-loop-c-init c = (omega arith, refl, refl)
+loop-c-init c = (refl, refl)
 
 record Room (c n : ℕ) (l : Layout) : Type 0 where
   pub read : PlaneRoom l n c
@@ -34,43 +34,17 @@ room c n l p q f =
       stored = omega (arith, add-mul (c * l.height) l.height l.width, mul-le-mul_right l.width k);
     }
 
-pub overflow_mul-from : goal.overflow_mul-from
-overflow_mul-from c =
-    let here : Room c.loop-c.c c.args.n c.args.l = room c.loop-c.c c.args.n c.args.l c.loop-c-test.true c.requires.n_bound.0 c.requires.layout_fits in
-    omega (arith, here)
-
-pub overflow_add-from : goal.overflow_add-from
-overflow_add-from c =
-    let here : Room c.loop-c.c c.args.n c.args.l = room c.loop-c.c c.args.n c.args.l c.loop-c-test.true c.requires.n_bound.0 c.requires.layout_fits in
-    omega (arith, here)
-
-pub overflow_mul-from-in-loop-c : goal.overflow_mul-from-in-loop-c
-overflow_mul-from-in-loop-c c =
-    let here : Room c.loop-c.c c.args.n c.args.l = room c.loop-c.c c.args.n c.args.l c.loop-c-test.true c.requires.n_bound.0 c.requires.layout_fits in
-    omega (arith, here)
-
-pub overflow_mul-at : goal.overflow_mul-at
-overflow_mul-at c =
-    let here : Room c.loop-c.c c.args.n c.args.l = room c.loop-c.c c.args.n c.args.l c.loop-c-test.true c.requires.n_bound.0 c.requires.layout_fits in
-    omega (arith, here)
-
-pub overflow_mul-at-in-loop-c : goal.overflow_mul-at-in-loop-c
-overflow_mul-at-in-loop-c c =
-    let here : Room c.loop-c.c c.args.n c.args.l = room c.loop-c.c c.args.n c.args.l c.loop-c-test.true c.requires.n_bound.0 c.requires.layout_fits in
-    omega (arith, here)
-
 pub copy_rows-requires : goal.copy_rows-requires
 copy_rows-requires c =
     let here : Room c.loop-c.c c.args.n c.args.l = room c.loop-c.c c.args.n c.args.l c.loop-c-test.true c.requires.n_bound.0 c.requires.layout_fits in
     (c.requires.layout_fits, omega (arith, here), omega (arith, here))
 
 pub returns : goal.returns
-returns c = let inv = c.loop-c.invariant in planes-end _ _ _ _ _ _ _ _ _ _ _ inv.2 inv.0 c.loop-c-test.false
+returns c = planes-end _ _ _ _ _ _ _ _ _ _ _ c.loop-c.invariant.1 (omega arith) c.loop-c-test.false
 
 pub loop-c-preserved : goal.loop-c-preserved
 loop-c-preserved c =
     let inv = c.loop-c.invariant in (
-      omega arith,
-      c.copy_rows.auto.out ∙ inv.1,
-      plane-next _ _ _ _ _ _ _ _ inv.2 refl refl c.copy_rows.ensures,
+      c.copy_rows.auto.out ∙ inv.0,
+      plane-next _ _ _ _ _ _ _ _ inv.1 refl refl c.copy_rows.ensures,
     )

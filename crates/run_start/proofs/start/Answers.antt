@@ -1,20 +1,22 @@
 -- `run_start::start` meets its contract. Assumes nothing.
-use mathlib.Core.Path.{ap, ◌∙◌}
-use Prim.Native.Nat.{ℕ}
-use Rattle.sigma.specs.Outcome.{SigmasOutcome}
+use mathlib.Core.Path.{refl, ◌∙◌}
+use Rattle.refusals.proofs.Outcomes.{number-nonzero}
 use Rattle.run_outcomes.specs.Start.{Handed}
-use Rattle.run_start.proofs.Tests.{same-sigmas}
-use Rattle.run_start.proofs.Number.{refused, accepted}
+use Rattle.run_start.proofs.Tests.{same-sigmas, refusal-answered}
+use Rattle.run_start.proofs.Number.{refused, sigmas-accepted, accepted}
 use Rattle.run_start.proofs.start.Goals as goal
 
-pub returns-then-number-ne-ACCEPTED : goal.returns-then-number-ne-ACCEPTED
-returns-then-number-ne-ACCEPTED c =
+pub returns-in_err-check_picture : goal.returns-in_err-check_picture
+returns-in_err-check_picture c =
     let handed : Handed = record { setup = c.args.setup; frame = c.args.frame; table = c.args.table.now; grids = c.args.grids.now; first = c.args.first.now; second = c.args.second.now; sigmas = c.args.sigmas.now } in
-    refused 3 handed _ c.picture_number-number.ensures c.if-number-ne-ACCEPTED.true _ c.no_run.ensures
+    rw (refusal-answered _ _ c.from_residual.ensures.1) (refused 3 handed _ c.in_err-check_picture.ensures (number-nonzero _))
+
+pub returns-in_err-block_sigmas : goal.returns-in_err-block_sigmas
+returns-in_err-block_sigmas c =
+    let handed : Handed = record { setup = c.args.setup; frame = c.args.frame; table = c.args.table.now; grids = c.args.grids.now; first = c.args.first.now; second = c.args.second.now; sigmas = c.args.sigmas.now } in
+    absurd (number-nonzero _ (sigmas-accepted 3 handed 0 c.in_ok-check_picture.ensures refl _ _ (c.in_err-block_sigmas.ensures ∙ same-sigmas handed _ _ c.epf_flag-on.ensures c.blocks_of.ensures)))
 
 pub returns : goal.returns
 returns c =
     let handed : Handed = record { setup = c.args.setup; frame = c.args.frame; table = c.args.table.now; grids = c.args.grids.now; first = c.args.first.now; second = c.args.second.now; sigmas = c.args.sigmas.now } in
-    let with_number : ℕ → SigmasOutcome = λ k. record { number = k; sigmas = c.block_sigmas-filled.new.sigmas } in
-    accepted 3 handed _ c.picture_number-number.ensures c.if-number-ne-ACCEPTED.false _ _
-    (ap with_number c.number_of.ensures ∙ c.block_sigmas-filled.ensures ∙ same-sigmas handed _ _ c.epf_flag-on.ensures c.blocks_of.ensures) _ c.started.ensures
+    rw c.started.ensures (accepted 3 handed 0 c.in_ok-check_picture.ensures refl _ _ (c.in_ok-block_sigmas.ensures ∙ same-sigmas handed _ _ c.epf_flag-on.ensures c.blocks_of.ensures))
