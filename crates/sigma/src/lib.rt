@@ -11,12 +11,13 @@ ghost use Rattle.sigma.specs.Sigma.{missing, sigma_in, block_sigmas};
 ghost use Rattle.sigma.specs.Outcome.{SigmasOutcome, sigmas_outcome};
 ghost use Rattle.sigma.specs.Runs.{above_in, row_sigma, RunFits, RunOf, GridsOf, RowFits};
 
-use frame::{Frame, SoundFrame};
+use frame::Frame;
 use limits::min_u32;
 use planes::copy_run;
 use refusals::Refusal;
 use sigma_grids::{cells_before, grid_of};
 use sigma_groups::blocks::{Blocks, SoundBlocks};
+use sigma_groups::checked;
 use sigma_groups::groups::Groups;
 
 // The sigma of a block whose grid is missing, from `sigma_for_modular` and the sigma of the block above.
@@ -166,12 +167,10 @@ pub fn block_sigmas(
         (sigmas_outcome on frame blocks table.now grids.now sigma_for_modular
         sigmas.old) }
 {
-    sigma_groups::check(on, frame, blocks, table, grids, sigmas.len())?;
+    let (groups, region) = checked(on, frame, blocks, table, grids, sigmas.len())?;
     if !refusals::flag_set(on) {
         return Ok(());
     }
-    let region = SoundBlocks::new(blocks)?;
-    let groups = Groups::new(SoundFrame::new(frame)?, table)?;
     let grids = Grids {
         groups,
         grids,

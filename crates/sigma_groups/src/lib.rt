@@ -4,7 +4,7 @@
 pub mod blocks;
 pub mod groups;
 
-ghost use Rattle.std.specs.Prelude.{◌≡◌, not, ◌&&◌, eqb};
+ghost use Rattle.std.specs.Prelude.{◌≡◌, not, ◌&&◌, eqb, IfOk};
 ghost use Rattle.refusals.specs.Flags.{flag_fits, flag_set};
 ghost use Rattle.refusals.specs.Refusals.{number_of};
 ghost use Rattle.sigma_groups.specs.Outcome.{sigma_count, sigma_number};
@@ -37,16 +37,17 @@ fn bad_grids(faulty: bool, cells: usize, len: usize) -> bool
     !faulty && len != cells
 }
 
-// Refuses what `block_sigmas` refuses, for a frame and a filter region in range.
-fn check_table(
+// The groups of a frame in range, or what `block_sigmas` refuses for them and a filter region in range.
+fn checked_groups<'a>(
     on: u32,
     frame: SoundFrame,
     region: SoundBlocks,
-    table: &[u32],
+    table: &'a [u32],
     grids: &[f32],
     sigmas_len: usize,
-) -> Result<(), Refusal>
-    ensures { number_of result ≡ sigma_number on frame.frame region.blocks table.now grids.now sigmas_len }
+) -> Result<Groups<'a>, Refusal>
+    ensures number { number_of result ≡ sigma_number on frame.frame region.blocks table.now grids.now sigmas_len }
+    ensures groups { IfOk result (λ g. (g.frame.frame ≡ frame.frame) × (g.table.now ≡ table.now)) }
 {
     let groups = Groups::new(frame, table)?;
     let cells = sigma_grids::grid_start(table, groups.sizes.num_groups)?;
@@ -66,10 +67,38 @@ fn check_table(
     if !refusals::flag_fits(on) {
         return Err(Refusal::OutOfRange);
     }
-    Ok(())
+    Ok(groups)
 }
 
-// Refuses what `block_sigmas` refuses, for a slice of `sigmas_len` sigmas.
+// The groups and the filter region of an accepted call, or what `block_sigmas` refuses, for a slice of `sigmas_len`
+// sigmas.
+pub fn checked<'a>(
+    on: u32,
+    frame: Frame,
+    blocks: Blocks,
+    table: &'a [u32],
+    grids: &[f32],
+    sigmas_len: usize,
+) -> Result<(Groups<'a>, SoundBlocks), Refusal>
+    ensures number { number_of result ≡ sigma_number on frame blocks table.now grids.now sigmas_len }
+    ensures inputs { IfOk result (λ a. (a.0.frame.frame ≡ frame) × (a.0.table.now ≡ table.now)
+        × (a.1.blocks ≡ blocks)) }
+{
+    if frame::bad_sides(frame) {
+        return Err(Refusal::OutOfLimits);
+    }
+    let region = SoundBlocks::new(blocks)?;
+    match SoundFrame::new(frame) {
+        Ok(sound) => {
+            let groups = checked_groups(on, sound, region, table, grids, sigmas_len)?;
+            Ok((groups, region))
+        }
+        Err(_) if bad_count(on, region, sigmas_len) => Err(Refusal::WrongLength),
+        Err(refusal) => Err(refusal),
+    }
+}
+
+// The same with no value.
 pub fn check(
     on: u32,
     frame: Frame,
@@ -80,13 +109,6 @@ pub fn check(
 ) -> Result<(), Refusal>
     ensures { number_of result ≡ sigma_number on frame blocks table.now grids.now sigmas_len }
 {
-    if frame::bad_sides(frame) {
-        return Err(Refusal::OutOfLimits);
-    }
-    let region = SoundBlocks::new(blocks)?;
-    match SoundFrame::new(frame) {
-        Ok(sound) => check_table(on, sound, region, table, grids, sigmas_len),
-        Err(_) if bad_count(on, region, sigmas_len) => Err(Refusal::WrongLength),
-        Err(refusal) => Err(refusal),
-    }
+    checked(on, frame, blocks, table, grids, sigmas_len)?;
+    Ok(())
 }

@@ -1,4 +1,4 @@
--- `sigma_groups::check_table` meets its contract: each return has the number of the first check that applies. Assumes nothing.
+-- `sigma_groups::checked_groups` meets its contract: each return has the number of the first check that applies. Assumes nothing.
 use Rattle.std.proofs.Common.{◌≡◌, Bool, true, false, not, ◌&&◌, cond, List, ℕ, ◌*◌, ◌<◌, ◌≤◌, eqb, length, refl, sym, ap, ◌∙◌, arith}
 use Rattle.std.proofs.lemmas.Result.{err_from_is_err_and}
 use borrow.Author.Tests.{eqb-true}
@@ -17,7 +17,7 @@ use Rattle.sigma_grids.specs.Start.{start_outcome}
 use Rattle.sigma_groups.specs.Held.{some_not_held}
 use Rattle.sigma_groups.specs.Outcome.{table_fits, some_group, grids_fit}
 use Rattle.sigma_groups.proofs.Number as number
-use Rattle.sigma_groups.proofs.check_table.Goals as goal
+use Rattle.sigma_groups.proofs.checked_groups.Goals as goal
 
 right : (a : Bool) → 0 ≡ cond a accepted wrong_length → a ≡ true
 right true e = refl
@@ -54,8 +54,8 @@ module _ (f : Frame) (t : List ℕ) (grids : List Float) (sound : Sound f) (size
   unfolding grids_fit
   grids-are bad w cells p s e = e ∙ rw (p, s, num)
 
-pub returns-in_err-cells : goal.returns-in_err-cells
-returns-in_err-cells c =
+pub returns-in_err-cells-clause-number : goal.returns-in_err-cells-clause-number
+returns-in_err-cells-clause-number c =
     let a = c.args in
     let f : Frame = a.frame.frame in
     let t : List ℕ = a.table.now in
@@ -68,8 +68,8 @@ returns-in_err-cells c =
     ∙ number.grid-out a.on f a.region.blocks t grids a.sigmas_len a.frame.sides a.region.within a.frame.settings
     (table-right f t grids a.frame.sound c.in_ok-groups.groups.sizes h.1.1 h.0) bad.0)
 
-pub returns-then-bad_grids : goal.returns-then-bad_grids
-returns-then-bad_grids c =
+pub returns-then-bad_grids-clause-number : goal.returns-then-bad_grids-clause-number
+returns-then-bad_grids-clause-number c =
     let a = c.args in
     let f : Frame = a.frame.frame in
     let t : List ℕ = a.table.now in
@@ -83,8 +83,8 @@ returns-then-bad_grids c =
     number.grids-wrong a.on f a.region.blocks t grids a.sigmas_len a.frame.sides a.region.within a.frame.settings right-table sides-good
     (sym length-is ∙ c.if-bad_grids.true)
 
-pub returns-then-touched_not_held : goal.returns-then-touched_not_held
-returns-then-touched_not_held c =
+pub returns-then-touched_not_held-clause-number : goal.returns-then-touched_not_held-clause-number
+returns-then-touched_not_held-clause-number c =
     let a = c.args in
     let f : Frame = a.frame.frame in
     let t : List ℕ = a.table.now in
@@ -101,8 +101,8 @@ returns-then-touched_not_held c =
     (sym c.bad_count.ensures ∙ c.if-bad_count.false)
     (sym held-is ∙ c.if-touched_not_held.true)
 
-pub returns-then-not-flag_fits : goal.returns-then-not-flag_fits
-returns-then-not-flag_fits c =
+pub returns-then-not-flag_fits-clause-number : goal.returns-then-not-flag_fits-clause-number
+returns-then-not-flag_fits-clause-number c =
     let a = c.args in
     let f : Frame = a.frame.frame in
     let t : List ℕ = a.table.now in
@@ -121,8 +121,8 @@ returns-then-not-flag_fits c =
     (sym presences-are ∙ c.if-bad_presence.false)
     (sym c.flag_fits.ensures ∙ c.if-not-flag_fits.true)
 
-pub returns : goal.returns
-returns c =
+pub returns-clause-number : goal.returns-clause-number
+returns-clause-number c =
     let a = c.args in
     let f : Frame = a.frame.frame in
     let t : List ℕ = a.table.now in
