@@ -5,7 +5,7 @@ use lib.ListN.{length}
 use Rattle.epf_rects.specs.Rects.{RectFits}
 use Rattle.epf_rects.proofs.Rects.{rect-facts}
 use Rattle.epf_interior.specs.Inside.{lies_inside}
-use Rattle.epf_interior.proofs.Inside.{no-rect, no_source, many-columns, at_edge, inside-facts, inside-done}
+use Rattle.epf_interior.proofs.Inside.{no-rect, no_source, many-columns, at_edge, inside-done}
 use Rattle.epf_interior.proofs.filter_inside.Goals as goal
 
 pub returns-then-not-fits : goal.returns-then-not-fits
@@ -19,12 +19,6 @@ returns-then-rect-gt-COLUMNS c = many-columns _ _ _ _ _ _ _ c.if-rect-gt-COLUMNS
 
 pub returns-then-not-lies_inside : goal.returns-then-not-lies_inside
 returns-then-not-lies_inside c = at_edge _ _ _ _ _ _ _ (sym c.lies_inside.ensures ∙ c.if-not-lies_inside.true)
-
-pub rows_of-requires : goal.rows_of-requires
-rows_of-requires c =
-    let fits : RectFits c.args.l 3 c.args.rect (length c.args.dst.now) = rect-facts c.args.l 3 c.args.rect (length c.args.dst.now) (sym c.fits.ensures ∙ c.if-not-fits.false) in
-    let lies : lies_inside c.args.l c.args.rect ≡ true = sym c.lies_inside.ensures ∙ c.if-not-lies_inside.false in
-    (inside-facts _ _ lies, fits, c.if-src-dst.false, c.if-rect-gt-COLUMNS.false)
 
 pub returns : goal.returns
 returns c =

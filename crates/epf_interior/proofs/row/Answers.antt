@@ -1,7 +1,7 @@
 use mathlib.Core.Path.{refl}
 use native.Mathlib.Omega.{arith}
 use lib.ListN.{length-set}
-use Rattle.epf_rects.proofs.Three.{three-none, three-turn, three-end}
+use Rattle.epf_rects.proofs.Three.{three-none, three-turn}
 use Rattle.epf_interior.proofs.Inside.{lane-at}
 use Rattle.epf_interior.proofs.row.Goals as goal
 
@@ -17,12 +17,3 @@ loop-i-preserved c =
 
 pub loop-i-init : goal.loop-i-init
 loop-i-init c = (omega arith, refl, three-none _ _ _ _)
-
-pub bounds-dst-at-in-loop-i : goal.bounds-dst-at-in-loop-i
-bounds-dst-at-in-loop-i c = simp length-set (omega arith)
-
-pub bounds-dst-at-in-loop-i-2 : goal.bounds-dst-at-in-loop-i-2
-bounds-dst-at-in-loop-i-2 c = simp length-set (omega arith)
-
-pub returns : goal.returns
-returns c = let inv = c.loop-i.invariant in three-end _ _ _ _ _ _ _ inv.2 inv.0 c.loop-i-test.false
