@@ -1,8 +1,8 @@
-use Prim.Native.Nat.{ℕ, ◌+◌, ◌-◌}
+use Prim.Native.Nat.{ℕ, ◌+◌}
 use native.Mathlib.Omega.{arith}
 use lib.Ieee.{Float}
 use Rattle.planes.specs.Samples.{◌⊕◌, ◌⊗◌}
-use Rattle.planes.proofs.Loop.{written_none, written_all}
+use Rattle.planes.proofs.Loop.{written_none}
 use Rattle.epf_distances.proofs.Runs.{run_more}
 use Rattle.epf_distances.specs.Seen.{nearby, apart_by}
 use Rattle.epf_distances.proofs.add_single.Goals as goal
@@ -13,6 +13,3 @@ loop-i-preserved c = run_more (λ (x : Float) (j : ℕ). x ⊕ c.args.scale ⊗ 
 
 pub loop-i-init : goal.loop-i-init
 loop-i-init c = written_none _ _ _ _
-
-pub returns : goal.returns
-returns c = written_all c.loop-i.invariant c.loop-i-test.false

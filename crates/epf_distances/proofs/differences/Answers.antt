@@ -1,6 +1,5 @@
-use Prim.Native.Nat.{◌-◌}
 use native.Mathlib.Omega.{arith}
-use Rattle.planes.proofs.Loop.{written_none, written-more, written_all}
+use Rattle.planes.proofs.Loop.{written_none, written-more}
 use Rattle.epf_distances.specs.Seen.{apart_by}
 use Rattle.epf_distances.proofs.differences.Goals as goal
 
@@ -10,6 +9,3 @@ loop-i-preserved c = written-more c.loop-i.invariant (omega arith) c.difference.
 
 pub loop-i-init : goal.loop-i-init
 loop-i-init c = written_none _ _ _ _
-
-pub returns : goal.returns
-returns c = written_all c.loop-i.invariant c.loop-i-test.false

@@ -1,4 +1,3 @@
-use Prim.Native.Nat.{◌-◌}
 use native.Mathlib.Omega.{arith}
 use Rattle.epf_distances.proofs.Fields.{channel-none, channel-turn, channel-end}
 use Rattle.epf_distances.proofs.field.Goals as goal

@@ -1,11 +1,11 @@
 use mathlib.Core.Path.{◌≡◌, refl}
-use Prim.Native.Nat.{ℕ, ◌-◌, ◌≤◌, ◌<◌}
+use Prim.Native.Nat.{ℕ, ◌≤◌, ◌<◌}
 use native.Mathlib.Omega.{arith}
 use Rattle.epf_step.specs.Steps.{scaled}
 use Rattle.epf_distances.specs.Taps.{half, shift}
 use Rattle.epf_distances.proofs.Taps.{half_le, shift-bounds}
 use Rattle.epf_distances.specs.Fields.{fields_fill}
-use Rattle.epf_distances.proofs.Fields.{field-turn, field_end}
+use Rattle.epf_distances.proofs.Fields.{field-turn}
 use Rattle.epf_distances.proofs.fill_fields.Goals as goal
 
 pub loop-h-init : goal.loop-h-init
@@ -26,41 +26,3 @@ loop-h-preserved c = (
   c.field.ensures.1,
   field-turn c.args.step (scaled c.args.planes c.args.scales.now) c.args.win.now c.args.rows _ _ _ c.loop-h.h _ c.loop-h.invariant.2 c.shift-k.ensures c.field.ensures.0,
 )
-
-pub overflow_sub-from : goal.overflow_sub-from
-overflow_sub-from c =
-    let here : Among c.loop-h.h c.shift-k.result = among c.args.step c.half-count.result c.loop-h.h c.shift-k.result c.half-count.ensures c.loop-h-test.true c.shift-k.ensures in
-    omega (arith, here)
-
-pub overflow_mul-run : goal.overflow_mul-run
-overflow_mul-run c =
-    let here : Among c.loop-h.h c.shift-k.result = among c.args.step c.half-count.result c.loop-h.h c.shift-k.result c.half-count.ensures c.loop-h-test.true c.shift-k.ensures in
-    omega (arith, here)
-
-pub overflow_add-run : goal.overflow_add-run
-overflow_add-run c =
-    let here : Among c.loop-h.h c.shift-k.result = among c.args.step c.half-count.result c.loop-h.h c.shift-k.result c.half-count.ensures c.loop-h-test.true c.shift-k.ensures in
-    omega (arith, here)
-
-pub overflow_mul-run-in-loop-h : goal.overflow_mul-run-in-loop-h
-overflow_mul-run-in-loop-h c =
-    let here : Among c.loop-h.h c.shift-k.result = among c.args.step c.half-count.result c.loop-h.h c.shift-k.result c.half-count.ensures c.loop-h-test.true c.shift-k.ensures in
-    omega (arith, here)
-
-pub overflow_add-run-in-loop-h : goal.overflow_add-run-in-loop-h
-overflow_add-run-in-loop-h c =
-    let here : Among c.loop-h.h c.shift-k.result = among c.args.step c.half-count.result c.loop-h.h c.shift-k.result c.half-count.ensures c.loop-h-test.true c.shift-k.ensures in
-    omega (arith, here)
-
-pub overflow_sub-run : goal.overflow_sub-run
-overflow_sub-run c =
-    let here : Among c.loop-h.h c.shift-k.result = among c.args.step c.half-count.result c.loop-h.h c.shift-k.result c.half-count.ensures c.loop-h-test.true c.shift-k.ensures in
-    omega (arith, here)
-
-pub field-requires : goal.field-requires
-field-requires c =
-    let here : Among c.loop-h.h c.shift-k.result = among c.args.step c.half-count.result c.loop-h.h c.shift-k.result c.half-count.ensures c.loop-h-test.true c.shift-k.ensures in
-    omega (arith, here)
-
-pub returns : goal.returns
-returns c = field_end _ _ _ _ _ _ _ _ c.loop-h.invariant.2 (omega (arith, c.loop-h.invariant.0, c.half-count.ensures)) (omega (arith, c.half-count.ensures))

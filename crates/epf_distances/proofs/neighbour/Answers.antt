@@ -8,26 +8,14 @@ use Rattle.epf_distances.proofs.neighbour.Goals as goal
 among : (s q h : ℕ) → h ≡ field_of s q → h < 6
 among s q h e = rw e (field_below s q)
 
-pub backward_tap-requires : goal.backward_tap-requires
-backward_tap-requires c = among c.args.step c.args.q _ c.field_of-h.ensures
-
 pub returns-then-q-lt-PAIRS : goal.returns-then-q-lt-PAIRS
 returns-then-q-lt-PAIRS c = first-backward c.args.step c.args.q _ _ c.field_of-h.ensures c.if-step-eq0.true c.if-q-lt-PAIRS.true c.backward_tap.ensures
-
-pub forward_tap-requires : goal.forward_tap-requires
-forward_tap-requires c = among c.args.step c.args.q _ c.field_of-h.ensures
 
 pub returns-then-step-eq0 : goal.returns-then-step-eq0
 returns-then-step-eq0 c = first-forward c.args.step c.args.q _ _ c.field_of-h.ensures c.if-step-eq0.true c.if-q-lt-PAIRS.false c.forward_tap.ensures
 
-pub forward_tap-requires-then-q-eq1 : goal.forward_tap-requires-then-q-eq1
-forward_tap-requires-then-q-eq1 c = among c.args.step c.args.q _ c.field_of-h.ensures
-
 pub returns-then-q-eq1 : goal.returns-then-q-eq1
 returns-then-q-eq1 c = other-forward c.args.step c.args.q _ _ c.field_of-h.ensures c.if-step-eq0.false c.if-q-eq1.true c.forward_tap-then-q-eq1.ensures
-
-pub backward_tap-requires-2 : goal.backward_tap-requires-2
-backward_tap-requires-2 c = among c.args.step c.args.q _ c.field_of-h.ensures
 
 pub returns : goal.returns
 returns c = other-backward c.args.step c.args.q _ _ c.field_of-h.ensures c.if-step-eq0.false c.if-q-eq1.false c.backward_tap-2.ensures

@@ -12,34 +12,6 @@ returns-then-not-fits c = not-copied _ _ _ _ _ (sym c.fits.ensures ∙ c.if-not-
 pub returns-then-src-dst : goal.returns-then-src-dst
 returns-then-src-dst c = other_length _ _ _ _ _ c.if-src-dst.true
 
-pub overflow_add-from : goal.overflow_add-from
-overflow_add-from c =
-    let fits : RectFits c.args.l c.args.n c.args.rect (length c.args.dst.now) = rect-facts c.args.l c.args.n c.args.rect (length c.args.dst.now) (sym c.fits.ensures ∙ c.if-not-fits.false) in
-    omega (arith, fits, fits.layout)
-
-pub overflow_mul-from : goal.overflow_mul-from
-overflow_mul-from c =
-    let fits : RectFits c.args.l c.args.n c.args.rect (length c.args.dst.now) = rect-facts c.args.l c.args.n c.args.rect (length c.args.dst.now) (sym c.fits.ensures ∙ c.if-not-fits.false) in
-    let room : SourceRoom c.args.l c.args.n c.args.rect (length c.args.dst.now) = source-room c.args.l c.args.n c.args.rect _ fits in
-    omega (arith, room)
-
-pub overflow_add-from-2 : goal.overflow_add-from-2
-overflow_add-from-2 c =
-    let fits : RectFits c.args.l c.args.n c.args.rect (length c.args.dst.now) = rect-facts c.args.l c.args.n c.args.rect (length c.args.dst.now) (sym c.fits.ensures ∙ c.if-not-fits.false) in
-    omega (arith, fits, fits.layout)
-
-pub overflow_add-from-3 : goal.overflow_add-from-3
-overflow_add-from-3 c =
-    let fits : RectFits c.args.l c.args.n c.args.rect (length c.args.dst.now) = rect-facts c.args.l c.args.n c.args.rect (length c.args.dst.now) (sym c.fits.ensures ∙ c.if-not-fits.false) in
-    let room : SourceRoom c.args.l c.args.n c.args.rect (length c.args.dst.now) = source-room c.args.l c.args.n c.args.rect _ fits in
-    omega (arith, room, fits, fits.layout)
-
-pub overflow_mul-l : goal.overflow_mul-l
-overflow_mul-l c =
-    let fits : RectFits c.args.l c.args.n c.args.rect (length c.args.dst.now) = rect-facts c.args.l c.args.n c.args.rect (length c.args.dst.now) (sym c.fits.ensures ∙ c.if-not-fits.false) in
-    let room : SourceRoom c.args.l c.args.n c.args.rect (length c.args.dst.now) = source-room c.args.l c.args.n c.args.rect _ fits in
-    omega (arith, room)
-
 pub store_planes-requires : goal.store_planes-requires
 store_planes-requires c =
     let fits : RectFits c.args.l c.args.n c.args.rect (length c.args.dst.now) = rect-facts c.args.l c.args.n c.args.rect (length c.args.dst.now) (sym c.fits.ensures ∙ c.if-not-fits.false) in

@@ -3,7 +3,6 @@ use Prim.Native.Nat.{ℕ, ◌+◌, ◌*◌, ◌≤◌, ◌<◌}
 use native.Mathlib.Omega.{arith}
 use lib.ListN.{length}
 use Rattle.planes.specs.Rect.{planes_fill}
-use Rattle.planes.proofs.Rect.{planes-end}
 use Rattle.epf_rects.proofs.Rects.{PlaneRoom, plane-room, plane-next}
 use Rattle.epf_rects.proofs.store_planes.Goals as goal
 
@@ -13,32 +12,6 @@ loop-c-init c = (omega arith, refl, refl)
 
 pub loop-c-preserved : goal.loop-c-preserved
 loop-c-preserved c = (omega arith, c.store_rows.auto.dst ∙ c.loop-c.invariant.1, plane-next c.args.l c.args.src.now _ _ _ c.args.from c.args.step c.args.plane c.args.rect c.loop-c.c _ _ c.loop-c.invariant.2 refl refl c.store_rows.ensures)
-
-pub overflow_add-top : goal.overflow_add-top
-overflow_add-top c = omega (arith, c.requires.rect_fits, c.requires.rect_fits.layout)
-
-pub overflow_add-left : goal.overflow_add-left
-overflow_add-left c = omega (arith, c.requires.rect_fits, c.requires.rect_fits.layout)
-
-pub overflow_mul-at : goal.overflow_mul-at
-overflow_mul-at c =
-    let room : PlaneRoom c.args.l c.loop-c.c c.args.rect (length c.args.dst.now) = plane-room c.args.l c.args.n c.loop-c.c c.args.rect (length c.args.dst.now) c.requires.rect_fits c.loop-c-test.true in
-    omega (arith, room)
-
-pub overflow_add-at : goal.overflow_add-at
-overflow_add-at c =
-    let room : PlaneRoom c.args.l c.loop-c.c c.args.rect (length c.args.dst.now) = plane-room c.args.l c.args.n c.loop-c.c c.args.rect (length c.args.dst.now) c.requires.rect_fits c.loop-c-test.true in
-    omega (arith, room)
-
-pub overflow_mul-at-in-loop-c : goal.overflow_mul-at-in-loop-c
-overflow_mul-at-in-loop-c c =
-    let room : PlaneRoom c.args.l c.loop-c.c c.args.rect (length c.args.dst.now) = plane-room c.args.l c.args.n c.loop-c.c c.args.rect (length c.args.dst.now) c.requires.rect_fits c.loop-c-test.true in
-    omega (arith, room)
-
-pub overflow_add-at-in-loop-c : goal.overflow_add-at-in-loop-c
-overflow_add-at-in-loop-c c =
-    let room : PlaneRoom c.args.l c.loop-c.c c.args.rect (length c.args.dst.now) = plane-room c.args.l c.args.n c.loop-c.c c.args.rect (length c.args.dst.now) c.requires.rect_fits c.loop-c-test.true in
-    omega (arith, room, c.requires.rect_fits.across, c.requires.rect_fits.layout)
 
 pub overflow_mul-c : goal.overflow_mul-c
 overflow_mul-c c =
@@ -51,9 +24,6 @@ overflow_add-from c =
     let source : (r : ℕ) → r < c.args.rect.rows → c.args.from + c.loop-c.c * c.args.plane + r * c.args.step + c.args.rect.cols ≤ length c.args.src.now = λ r h. c.requires.lies c.loop-c.c r c.loop-c-test.true h in
     let first : c.args.from + c.loop-c.c * c.args.plane ≤ length c.args.src.now = omega (arith, source 0 c.requires.rect_fits.rows-pos) in
     omega (arith, first)
-
-pub returns : goal.returns
-returns c = planes-end _ _ _ _ _ _ _ _ _ _ _ c.loop-c.invariant.2 c.loop-c.invariant.0 c.loop-c-test.false
 
 pub store_rows-requires-clause-by_index : goal.store_rows-requires-clause-by_index
 store_rows-requires-clause-by_index c =

@@ -4,7 +4,7 @@ use native.Mathlib.Omega.{arith}
 use lib.ListN.{length}
 use Rattle.planes.proofs.Copy.{copied-run}
 use Rattle.planes.specs.Rect.{rows_fill}
-use Rattle.planes.proofs.Rect.{rows-turn, rows_end}
+use Rattle.planes.proofs.Rect.{rows-turn}
 use Rattle.epf_rects.proofs.store_rows.Goals as goal
 
 pub loop-r-init : goal.loop-r-init
@@ -16,26 +16,3 @@ loop-r-preserved c =
     let target : c.args.at + c.loop-r.r * c.args.stride + c.args.n ≤ length c.args.dst.now = c.requires.by_index c.loop-r.r c.loop-r-test.true in
     let source : c.args.from + c.loop-r.r * c.args.step + c.args.n ≤ length c.args.src.now = c.requires.by_index_2 c.loop-r.r c.loop-r-test.true in
     (omega arith, c.copy_run.auto.dst ∙ c.loop-r.invariant.1, rows-turn _ _ _ _ _ _ _ _ _ c.loop-r.invariant.2 refl (c.copy_run.ensures ∙ copied-run _ _ _ _ _ (omega (arith, target, c.loop-r.invariant.1)) source))
-
-pub overflow_mul-r : goal.overflow_mul-r
-overflow_mul-r c =
-    let target : c.args.at + c.loop-r.r * c.args.stride + c.args.n ≤ length c.args.dst.now = c.requires.by_index c.loop-r.r c.loop-r-test.true in
-    omega (arith, target)
-
-pub overflow_add-at : goal.overflow_add-at
-overflow_add-at c =
-    let target : c.args.at + c.loop-r.r * c.args.stride + c.args.n ≤ length c.args.dst.now = c.requires.by_index c.loop-r.r c.loop-r-test.true in
-    omega (arith, target)
-
-pub overflow_mul-r-in-loop-r : goal.overflow_mul-r-in-loop-r
-overflow_mul-r-in-loop-r c =
-    let source : c.args.from + c.loop-r.r * c.args.step + c.args.n ≤ length c.args.src.now = c.requires.by_index_2 c.loop-r.r c.loop-r-test.true in
-    omega (arith, source)
-
-pub overflow_add-from : goal.overflow_add-from
-overflow_add-from c =
-    let source : c.args.from + c.loop-r.r * c.args.step + c.args.n ≤ length c.args.src.now = c.requires.by_index_2 c.loop-r.r c.loop-r-test.true in
-    omega (arith, source)
-
-pub returns : goal.returns
-returns c = rows_end _ _ _ _ _ _ _ _ c.loop-r.invariant.2 c.loop-r.invariant.0 c.loop-r-test.false

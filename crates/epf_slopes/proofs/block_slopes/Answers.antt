@@ -1,5 +1,5 @@
 use native.Mathlib.Omega.{arith}
-use Rattle.planes.proofs.Loop.{written_none, written-more, written_all}
+use Rattle.planes.proofs.Loop.{written_none, written-more}
 use Rattle.epf_slopes.proofs.block_slopes.Goals as goal
 
 pub loop-i-init : goal.loop-i-init
@@ -7,6 +7,3 @@ loop-i-init c = written_none _ _ _ _
 
 pub loop-i-preserved : goal.loop-i-preserved
 loop-i-preserved c = written-more c.loop-i.invariant (omega arith) (rw c.multiplier.ensures)
-
-pub returns : goal.returns
-returns c = written_all c.loop-i.invariant c.loop-i-test.false

@@ -1,7 +1,7 @@
 use mathlib.Core.Path.{refl}
 use native.Mathlib.Omega.{arith}
 use Rattle.planes.specs.Fill.{fill}
-use Rattle.epf_slopes.proofs.Slopes.{block-next, blocks_end}
+use Rattle.epf_slopes.proofs.Slopes.{block-next}
 use Rattle.epf_slopes.proofs.row_slopes.Goals as goal
 
 pub loop-b-init : goal.loop-b-init
@@ -10,6 +10,3 @@ loop-b-init c = (omega arith, refl)
 
 pub loop-b-preserved : goal.loop-b-preserved
 loop-b-preserved c = (omega arith, block-next _ _ _ _ _ _ _ _ _ _ _ c.loop-b.invariant.1 c.slope-s.ensures c.block_slopes.ensures)
-
-pub returns : goal.returns
-returns c = blocks_end _ _ _ _ _ _ _ _ _ _ c.loop-b.invariant.1 c.loop-b.invariant.0 c.loop-b-test.false

@@ -27,12 +27,6 @@ returns-then-cols-lt-LEFT c = few-columns _ _ _ _ _ _ _ _ _ c.if-cols-lt-LEFT.tr
 pub returns-then-cols-gt-STRIDE : goal.returns-then-cols-gt-STRIDE
 returns-then-cols-gt-STRIDE c = many-columns _ _ _ _ _ _ _ _ _ c.if-cols-gt-STRIDE.true
 
-pub load_planes-requires : goal.load_planes-requires
-load_planes-requires c =
-    let fits : WindowFits c.args.l c.args.n (length c.args.src.now) c.args.x c.args.y c.args.top c.args.rows c.args.cols = window-fits c.args.l c.args.n c.args.src.now c.args.x c.args.y c.args.top c.args.rows c.args.cols c.args.win.now
-    (sym c.set_fits.ensures ∙ c.if-not-set_fits.false) (omega arith) (omega arith) (omega arith) (omega arith) (omega arith) (omega arith) in
-    fits
-
 pub returns : goal.returns
 returns c =
     let fits : WindowFits c.args.l c.args.n (length c.args.src.now) c.args.x c.args.y c.args.top c.args.rows c.args.cols = window-fits c.args.l c.args.n c.args.src.now c.args.x c.args.y c.args.top c.args.rows c.args.cols c.args.win.now

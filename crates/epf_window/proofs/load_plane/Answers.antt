@@ -8,7 +8,7 @@ use Rattle.mirror.specs.Mirror.{mirror}
 use Rattle.mirror.proofs.Laws.{mirror-lt}
 use Rattle.planes.specs.Fill.{fill}
 use Rattle.planes.specs.Rect.{rows_fill}
-use Rattle.planes.proofs.Rect.{rows-turn, rows_end}
+use Rattle.planes.proofs.Rect.{rows-turn}
 use Rattle.epf_window.specs.declared.PlaneRegion.{PlaneRegion}
 use Rattle.epf_window.specs.declared.WindowPart.{WindowPart}
 use Rattle.epf_window.specs.Window.{row_sample, plane_sample, part_sample, PlaneFits}
@@ -37,9 +37,6 @@ overflow_add-row c = omega (arith, fits _ _ _ _ _ _ c.requires c.mirrored-k.ensu
 
 pub copy-requires : goal.copy-requires
 copy-requires c = record { row-le = fits _ _ _ _ _ _ c.requires c.mirrored-k.ensures; width-le = c.requires.width-le; x_lt = c.requires.x_lt; target-le = omega (arith, c.requires.cols-le, c.requires.target-le); cols-ge = c.requires.cols-ge }
-
-pub returns : goal.returns
-returns c = rows_end _ _ _ _ _ _ _ _ c.loop-i.invariant.1 c.loop-i.invariant.0 c.loop-i-test.false
 
 pub loop-i-preserved : goal.loop-i-preserved
 loop-i-preserved c = (omega arith, rows-turn _ _ _ _ _ _ _ _ _ c.loop-i.invariant.1 refl (row_is c.args.region c.args.part c.args.src.now _ _ _ _ _ c.mirrored-k.ensures c.copy.ensures))

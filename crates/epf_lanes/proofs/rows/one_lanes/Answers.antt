@@ -1,7 +1,6 @@
 use mathlib.Core.Path.{refl}
-use Prim.Native.Nat.{◌-◌}
 use native.Mathlib.Omega.{arith}
-use Rattle.planes.proofs.Loop.{written_none, written-more, written_all}
+use Rattle.planes.proofs.Loop.{written_none, written-more}
 use Rattle.epf_lanes.proofs.Lanes.{lane-mixed}
 use Rattle.epf_lanes.proofs.rows.one_lanes.Goals as goal
 
@@ -10,6 +9,3 @@ loop-i-preserved g c = written-more c.loop-i.invariant (omega arith) (lane-mixed
 
 pub loop-i-init : goal.loop-i-init
 loop-i-init g c = written_none _ _ _ _
-
-pub returns : goal.returns
-returns g c = written_all c.loop-i.invariant c.loop-i-test.false

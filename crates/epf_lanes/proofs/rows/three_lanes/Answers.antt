@@ -1,8 +1,7 @@
 use mathlib.Core.Path.{refl}
-use Prim.Native.Nat.{◌-◌}
 use native.Mathlib.Omega.{arith}
 use lib.ListN.{length-set}
-use Rattle.epf_rects.proofs.Three.{three-none, three-turn, three-end}
+use Rattle.epf_rects.proofs.Three.{three-none, three-turn}
 use Rattle.epf_lanes.proofs.Lanes.{lane-mixed}
 use Rattle.epf_lanes.proofs.rows.three_lanes.Goals as goal
 
@@ -16,12 +15,3 @@ loop-i-preserved g c = (
 
 pub loop-i-init : goal.loop-i-init
 loop-i-init g c = (omega arith, refl, three-none _ _ _ _)
-
-pub bounds-dst-at-in-loop-i : goal.bounds-dst-at-in-loop-i
-bounds-dst-at-in-loop-i g c = simp length-set (omega arith)
-
-pub bounds-dst-at-in-loop-i-2 : goal.bounds-dst-at-in-loop-i-2
-bounds-dst-at-in-loop-i-2 g c = simp length-set (omega arith)
-
-pub returns : goal.returns
-returns g c = three-end _ _ _ _ _ _ _ c.loop-i.invariant.2 c.loop-i.invariant.0 c.loop-i-test.false

@@ -11,6 +11,3 @@ overflow_add-q-2 c = omega (arith, kernel-bounds c.args.step)
 
 pub overflow_add-q-3 : goal.overflow_add-q-3
 overflow_add-q-3 c = omega (arith, kernel-bounds c.args.step)
-
-pub returns : goal.returns
-returns c = rw (c.weight_of-d.ensures, c.weight_of-c.ensures, c.weight_of-b.ensures, c.weight_of-a.ensures)

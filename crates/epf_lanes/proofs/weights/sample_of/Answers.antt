@@ -1,15 +1,7 @@
 -- `epf_lanes::weights::sample_of` meets its contract. Assumes nothing.
-use mathlib.Core.Path.{ap}
-use Prim.Native.Nat.{◌+◌}
 use native.Mathlib.Omega.{arith}
-use lib.ListN.{get_or}
-use lib.Ieee.{nan}
-use Rattle.epf_distances.specs.declared.Tap.{Tap}
 use Rattle.epf_distances.proofs.Taps.{TapRoom, tap-room}
 use Rattle.epf_lanes.proofs.weights.sample_of.Goals as goal
-
-pub returns : goal.returns
-returns c = ap (λ (t : Tap). get_or c.args.win.now (c.args.p + t.index) nan) c.neighbour-index.ensures
 
 pub overflow_add-result : goal.overflow_add-result
 overflow_add-result c =

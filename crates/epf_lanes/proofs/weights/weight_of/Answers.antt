@@ -1,16 +1,7 @@
 -- `epf_lanes::weights::weight_of` meets its contract. Assumes nothing.
-use mathlib.Core.Path.{ap, ◌∙◌}
-use Prim.Native.Nat.{◌+◌}
 use native.Mathlib.Omega.{arith}
-use lib.ListN.{get_or}
-use lib.Ieee.{nan}
-use Rattle.epf_step.specs.Steps.{weight_by}
-use Rattle.epf_distances.specs.declared.Tap.{Tap}
 use Rattle.epf_distances.proofs.Taps.{TapRoom, tap-room}
 use Rattle.epf_lanes.proofs.weights.weight_of.Goals as goal
-
-pub returns : goal.returns
-returns c = c.weight.ensures.0 ∙ ap (λ (t : Tap). weight_by c.args.slope (get_or c.args.fields.now (t.start + c.args.j) nan)) c.neighbour-start.ensures
 
 pub overflow_add-start : goal.overflow_add-start
 overflow_add-start c =

@@ -3,9 +3,6 @@ use native.Mathlib.Omega.{arith}
 use Rattle.epf_distances.proofs.Taps.{kernel-bounds}
 use Rattle.epf_lanes.proofs.weights.with_four.Goals as goal
 
-pub returns : goal.returns
-returns c = rw (c.sample_of-d.ensures, c.sample_of-c.ensures, c.sample_of-b.ensures, c.sample_of-a.ensures)
-
 pub overflow_add-q : goal.overflow_add-q
 overflow_add-q c = omega (arith, kernel-bounds c.args.step)
 

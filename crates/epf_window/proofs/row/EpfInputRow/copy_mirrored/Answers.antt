@@ -4,7 +4,7 @@ use native.Mathlib.Omega.{arith}
 use lib.IntN.{ℤ}
 use Rattle.mirror.specs.Mirror.{mirror}
 use Rattle.mirror.proofs.Laws.{mirror-lt}
-use Rattle.planes.proofs.Loop.{written_none, written-more, written_all}
+use Rattle.planes.proofs.Loop.{written_none, written-more}
 use Rattle.epf_window.specs.Window.{row_sample}
 use Rattle.epf_window.proofs.row.EpfInputRow.copy_mirrored.Goals as goal
 
@@ -26,6 +26,3 @@ offset_bounds-self-self c = omega (arith, inside _ _ _ c.requires.2 c.mirrored-k
 
 pub bounds-self-self : goal.bounds-self-self
 bounds-self-self c = omega (arith, inside _ _ _ c.requires.2 c.mirrored-k.ensures)
-
-pub returns : goal.returns
-returns c = written_all c.loop-j.invariant c.loop-j-test.false
