@@ -17,7 +17,11 @@ fn region_at(n: &[i64], i: usize) -> Region
 }
 
 // Whether a row has the answer of a call: its number, and the value, or a zero in a refused call.
-fn has_answer<T: Copy + Default + PartialEq>(number: u32, value: T, answer: Result<T, Refusal>) -> bool {
+fn has_answer<T: Copy + Default + PartialEq>(
+    number: u32,
+    value: T,
+    answer: Result<T, Refusal>,
+) -> bool {
     number == number_of(answer.map(|_| ())) && value == answer.unwrap_or_default()
 }
 
