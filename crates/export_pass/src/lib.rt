@@ -23,7 +23,7 @@ use run_passes::GaborSettings;
 pub extern "C" fn restoration_mirror(offset: isize, len: usize) -> MirrorAnswer
     ensures { result ≡ mirror_outcome offset len }
 {
-    mirror::mirror(offset, len)
+    MirrorAnswer::from(mirror::mirror(offset, len))
 }
 
 // Applies the Gabor-like filter to rows `from` up to, not including, `to` of the result region. The result region is

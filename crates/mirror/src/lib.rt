@@ -4,11 +4,14 @@
 ghost use Rattle.std.specs.Prelude.{◌≡◌, pos};
 ghost use Rattle.std.specs.Int.Signed.{mag};
 ghost use Rattle.std.proofs.Math.IntN.{sub_ℕ};
-ghost use Rattle.refusals.specs.Numbers.{out_of_range};
+ghost use Rattle.refusals.specs.Checks.{first_of};
+ghost use Rattle.refusals.specs.Refusals.{number_of, IsOutcome};
+ghost use Rattle.refusals.specs.Answered.{value_or};
 ghost use Rattle.mirror.specs.Mirror.{mirror};
-ghost use Rattle.mirror.specs.Outcome.{mirror_answered, mirror_outcome};
+ghost use Rattle.mirror.specs.Outcome.{mirror_checks};
 
 use limits::MAX_SIDE;
+use refusals::{Refusal, number_of};
 
 const MIN_OFFSET: isize = -1_048_576;
 
@@ -20,6 +23,17 @@ const MAX_OFFSET: isize = 1_048_576;
 pub struct MirrorAnswer {
     pub number: u32,
     pub index: usize,
+}
+
+impl From<Result<usize, Refusal>> for MirrorAnswer {
+    ghost from_gives = { λ r a. a ≡ record { number = number_of r; index = value_or 0 r } };
+
+    fn from(answer: Result<usize, Refusal>) -> MirrorAnswer {
+        MirrorAnswer {
+            number: number_of(answer.map(|_| ())),
+            index: answer.unwrap_or_default(),
+        }
+    }
 }
 
 // The mirrored index of a number that is not negative. Runs of n indices ascend and descend alternately.
@@ -57,33 +71,15 @@ fn unsigned(offset: isize) -> usize
     offset as usize
 }
 
-fn refused() -> MirrorAnswer
-    ensures { result ≡ mirror_answered out_of_range 0 }
-{
-    MirrorAnswer {
-        number: refusals::OUT_OF_RANGE,
-        index: 0,
-    }
-}
-
 // The mirrored index of an offset among len samples, or refusal 9 outside the limits of Specification 4.1.
-pub fn mirror(offset: isize, len: usize) -> MirrorAnswer
-    ensures { result ≡ mirror_outcome offset len }
+pub fn mirror(offset: isize, len: usize) -> Result<usize, Refusal>
+    ensures { IsOutcome result (first_of (mirror_checks offset len)) (mirror offset len) }
 {
-    if len < 1 {
-        return refused();
+    if len < 1 || MAX_SIDE < len {
+        return Err(Refusal::OutOfRange);
     }
-    if MAX_SIDE < len {
-        return refused();
+    if offset < MIN_OFFSET || MAX_OFFSET < offset {
+        return Err(Refusal::OutOfRange);
     }
-    if offset < MIN_OFFSET {
-        return refused();
-    }
-    if MAX_OFFSET < offset {
-        return refused();
-    }
-    MirrorAnswer {
-        number: refusals::ACCEPTED,
-        index: reflected(unsigned(offset), len),
-    }
+    Ok(reflected(unsigned(offset), len))
 }

@@ -2,9 +2,10 @@
 // sizes. Block split rows: block, group size shift, refusal number, group, inner cell.
 use crate::forms::{has_form, isize_at, u32_at, usize_at};
 use frame::{Frame, GroupSizes};
+use mirror::MirrorAnswer;
 
 pub fn mirror(n: &[i64]) -> bool {
-    let a = mirror::mirror(isize_at(n, 0), usize_at(n, 1));
+    let a = MirrorAnswer::from(mirror::mirror(isize_at(n, 0), usize_at(n, 1)));
     has_form(n, b"szuz") && u32_at(n, 2) == a.number && usize_at(n, 3) == a.index
 }
 
