@@ -1,6 +1,6 @@
 // One sample of the Gabor-like filter (Specification 10.4). The digit in a function's name is the number of samples
 // that it reads: t is the row above, c the row itself, b the row below, and a the adjacent row where there is only one.
-#![tactic(auto)]
+#![tactic(auto, unfolding(crate::specs::Gabor::gabor_by, crate::specs::Gabor::alone, crate::specs::Formula::evaluate, crate::specs::Formula::formula, crate::specs::Nine::nine, crate::specs::Nine::pick))]
 
 ghost use Rattle.std.specs.Prelude.{◌≡◌, ℤ};
 ghost use Rattle.std.specs.Float.{nan};
@@ -10,7 +10,7 @@ ghost use Rattle.gabor_kernel.specs.Gabor.{kernel_of, gabor_by};
 ghost use Rattle.gabor_kernel.specs.Nine.{same, ending, nine};
 
 // The weight of the side neighbours, that of the diagonal ones, and the reciprocal of the sum of the kernel.
-#[derive(Clone, Copy)]
+#[derive(Clone, Copy, Debug, PartialEq)]
 pub struct Kernel {
     pub w0: f32,
     pub w1: f32,
@@ -18,7 +18,7 @@ pub struct Kernel {
 }
 
 // Three samples of a row, next to each other.
-#[derive(Clone, Copy)]
+#[derive(Clone, Copy, Debug, PartialEq)]
 pub struct Row3 {
     pub left: f32,
     pub centre: f32,
