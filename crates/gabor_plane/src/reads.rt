@@ -1,5 +1,7 @@
 // Rows of the Gabor-like filter, by the indices where they and the rows next to them start in a slice: only indices, no
 // formulas.
+#![tactic(auto, unfolding(crate::specs::Rows::inner_sample, gabor_kernel::specs::Gabor::gabor_by, gabor_kernel::specs::Gabor::alone, gabor_kernel::specs::Formula::evaluate, gabor_kernel::specs::Formula::formula, gabor_kernel::specs::Nine::nine, gabor_kernel::specs::Nine::pick))]
+
 ghost use Rattle.std.specs.Prelude.{◌≡◌, ℕ, ◌+◌, ◌<◌, ◌≤◌, length};
 ghost use Rattle.gabor_kernel.specs.Ends.{End, only, first, last, inner};
 ghost use Rattle.gabor_kernel.specs.Gabor.{gabor_by};
@@ -65,7 +67,6 @@ impl Row for InnerRow {
 
     ghost stands = { inner };
 
-    #[tactic(auto, unfolding(crate::specs::Rows::inner_sample))]
     fn inner_column(self, src: &[f32], j: usize, k: Kernel) -> f32 {
         let above = three_at(src, self.above, j, j + 1, j + 2);
         let here = three_at(src, self.here, j, j + 1, j + 2);
@@ -101,7 +102,6 @@ impl Row for EdgeRow {
 
     ghost stands = { first };
 
-    #[tactic(auto, unfolding(crate::specs::Rows::inner_sample))]
     fn inner_column(self, src: &[f32], j: usize, k: Kernel) -> f32 {
         let adjacent = three_at(src, self.adjacent, j, j + 1, j + 2);
         let here = three_at(src, self.here, j, j + 1, j + 2);
@@ -134,7 +134,6 @@ impl Row for SingleRow {
 
     ghost stands = { only };
 
-    #[tactic(auto, unfolding(crate::specs::Rows::inner_sample))]
     fn inner_column(self, src: &[f32], j: usize, k: Kernel) -> f32 {
         solo3(three_at(src, self.here, j, j + 1, j + 2), k)
     }
