@@ -94,6 +94,7 @@ pub extern "C" fn restoration_region_contains(r: Region, target: Region) -> Bool
 // Numbers: 0; 4 if the region or the moved region is outside the limits (see `restoration_region_is_empty`). A
 // refused call returns the region 0, 0, 0, 0.
 #[unsafe(no_mangle)]
+#[tactic(auto, unfolding(region_arithmetic::specs::Answers::region_answer))]
 pub extern "C" fn restoration_region_translate(r: Region, x: i32, y: i32) -> RegionAnswer
     ensures { result ≡ translate_outcome r x y }
 {
@@ -104,6 +105,7 @@ pub extern "C" fn restoration_region_translate(r: Region, x: i32, y: i32) -> Reg
 // Numbers: 0; 4 if either region is outside the limits (see `restoration_region_is_empty`). A refused call returns
 // the region 0, 0, 0, 0.
 #[unsafe(no_mangle)]
+#[tactic(auto, unfolding(region_arithmetic::specs::Answers::region_answer))]
 pub extern "C" fn restoration_region_intersection(a: Region, b: Region) -> RegionAnswer
     ensures { result ≡ intersection_outcome a b }
 {
@@ -114,6 +116,7 @@ pub extern "C" fn restoration_region_intersection(a: Region, b: Region) -> Regio
 // Numbers: 0; 4 if the region or the padded region is outside the limits (see `restoration_region_is_empty`). A
 // refused call returns the region 0, 0, 0, 0.
 #[unsafe(no_mangle)]
+#[tactic(auto, unfolding(region_arithmetic::specs::Answers::region_answer))]
 pub extern "C" fn restoration_region_pad(r: Region, size: u32) -> RegionAnswer
     ensures { result ≡ pad_outcome r size }
 {
@@ -126,6 +129,7 @@ pub extern "C" fn restoration_region_pad(r: Region, size: u32) -> RegionAnswer
 // and the result is outside them; 9 if the factor is over 16. If several apply, the lowest is returned. A refused
 // call returns the region 0, 0, 0, 0.
 #[unsafe(no_mangle)]
+#[tactic(auto, unfolding(region_arithmetic::specs::Answers::region_answer))]
 pub extern "C" fn restoration_region_downsample(r: Region, factor: u32) -> RegionAnswer
     ensures { result ≡ downsample_outcome r factor }
 {
@@ -137,6 +141,7 @@ pub extern "C" fn restoration_region_downsample(r: Region, factor: u32) -> Regio
 // and the result is outside them; 9 if `grid_dim` is not a power of two from 1 to 8,192. If several apply, the lowest
 // is returned. A refused call returns the region 0, 0, 0, 0.
 #[unsafe(no_mangle)]
+#[tactic(auto, unfolding(region_arithmetic::specs::Answers::region_answer))]
 pub extern "C" fn restoration_region_container_aligned(r: Region, grid_dim: u32) -> RegionAnswer
     ensures { result ≡ aligned_outcome r grid_dim }
 {
