@@ -95,17 +95,10 @@ impl Setup {
     }
 
     // Whether start would not refuse the setup under 4, 5, 6 or 9.
-    #[tactic(auto, using(crate::proofs::Tests::setup_rules))]
     pub fn fits(&self) -> bool
         ensures { result ≡ setup_fits self.now }
     {
-        if placed(self.image, self.filter).is_err() {
-            return false;
-        }
-        if !self.blocks_fit() {
-            return false;
-        }
-        self.numbers_fit()
+        placed(self.image, self.filter).is_ok() && (self.blocks_fit() && self.numbers_fit())
     }
 }
 
