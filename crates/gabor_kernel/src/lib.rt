@@ -1,5 +1,6 @@
 // One sample of the Gabor-like filter (Specification 10.4). The digit in a function's name is the number of samples
 // that it reads: t is the row above, c the row itself, b the row below, and a the adjacent row where there is only one.
+// Each is a formula of its own, with other sums and roundings, so none is another one at another size.
 #![tactic(auto, unfolding(crate::specs::Gabor::gabor_by, crate::specs::Gabor::alone, crate::specs::Formula::evaluate, crate::specs::Formula::formula, crate::specs::Nine::nine, crate::specs::Nine::pick))]
 
 ghost use Rattle.std.specs.Prelude.{◌≡◌, ℤ};

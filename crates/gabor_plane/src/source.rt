@@ -127,7 +127,7 @@ impl Source<'_> {
     {
         let mut i = 0;
         let mut o = self.region.at + from * self.region.stride;
-        // An iteration does one row or two.
+        // An iteration does one row or two, so no range counts them.
         while i < n {
             let m = self.filter_next(dst, from + i, n - i, o);
             o += m * self.region.stride;
