@@ -94,15 +94,15 @@ module _ (h : ℕ) where
   unfolding half_of
   by-fields x t ex et = rw (← ex, ← et, sign h)
 
-  pub half-normal : 0 < h / 1024 % 32 → h / 1024 % 32 < 31 → of_fields binary32 (leb 1 (h / 32768)) (h / 1024 % 32 + 112) (h % 1024 * 8192) ≡ half_of h
-  half-normal p q = normal (leb 1 (h / 32768)) (h / 1024 % 32) (h % 1024) p q ∙ by-fields (h / 1024 % 32) (h % 1024) refl refl
+  pub half_normal : 0 < h / 1024 % 32 → h / 1024 % 32 < 31 → of_fields binary32 (leb 1 (h / 32768)) (h / 1024 % 32 + 112) (h % 1024 * 8192) ≡ half_of h
+  half_normal p q = normal (leb 1 (h / 32768)) (h / 1024 % 32) (h % 1024) p q ∙ by-fields (h / 1024 % 32) (h % 1024) refl refl
 
-  pub half-zero : h / 1024 % 32 ≡ 0 → h % 1024 ≡ 0 → of_fields binary32 (leb 1 (h / 32768)) 0 0 ≡ half_of h
-  half-zero p q = zeroed (leb 1 (h / 32768)) ∙ by-fields 0 0 p q
+  pub half_zero : h / 1024 % 32 ≡ 0 → h % 1024 ≡ 0 → of_fields binary32 (leb 1 (h / 32768)) 0 0 ≡ half_of h
+  half_zero p q = zeroed (leb 1 (h / 32768)) ∙ by-fields 0 0 p q
 
-  pub half-subnormal : h / 1024 % 32 ≡ 0 → 0 < h % 1024
+  pub half_subnormal : h / 1024 % 32 ≡ 0 → 0 < h % 1024
       → of_fields binary32 (leb 1 (h / 32768)) (113 - (count_leading_zeros 32 (h % 1024) - 21)) (((h % 1024 * 2 ^ (count_leading_zeros 32 (h % 1024) - 21)) % 4294967296 - 1024) * 8192) ≡ half_of h
-  half-subnormal p q =
+  half_subnormal p q =
       let n = count_leading_zeros 32 (h % 1024) - 21 in
       let m : Moved (h % 1024) n = moved (h % 1024) q (omega arith) in
       ap (λ (d : ℕ). of_fields binary32 (leb 1 (h / 32768)) (113 - n) ((d - 1024) * 8192)) m.whole

@@ -23,6 +23,7 @@ fn of_fields(sign: u32, exponent: u32, digits: u32) -> f32
 
 // A finite half as a binary32 number, exactly. A subnormal half is normal in binary32: its highest digit is shifted up
 // to become the leading one.
+#[tactic(auto, using(crate::proofs::Widened::half_normal, crate::proofs::Widened::half_zero, crate::proofs::Widened::half_subnormal))]
 fn widen(half: u32) -> f32
     requires { (half < 65536) × (exponent_of half < 31) }
     ensures { result ≡ half_of half }
