@@ -25,6 +25,7 @@ pub struct HalfAnswer {
     pub next: usize,
 }
 
+// A match for each struct: C names their second fields apart, so one generic struct can't stand for the four.
 impl From<Result<(f32, usize), Refusal>> for HalfAnswer {
     ghost from_gives = { λ reading answer. answer ≡ half_answer (parsed reading) };
 

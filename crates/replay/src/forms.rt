@@ -1,5 +1,5 @@
 // The numbers of a row, converted to their types. The form of a row has one letter per number: i for i32, u for u32, s
-// for isize, z for usize, b for bool, y for a byte, f for the bits of an f32.
+// for isize, z for usize, b for bool, y for a byte, f for the bits of an f32. Letters, since a row's form is one word.
 
 fn has_kind(x: i64, kind: u8) -> bool {
     match kind {

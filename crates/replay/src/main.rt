@@ -80,7 +80,8 @@ fn room() -> [u8; ROOM]
     [0; ROOM]
 }
 
-// Reads until `out` is full or the input ends. The number is how many bytes at the start of `out` were read.
+// Reads until `out` is full or the input ends, which `read_exact` would refuse. The number is how many bytes at the
+// start of `out` were read.
 fn read_full<R: Read>(input: &mut R, out: &mut [u8]) -> io::Result<usize>
     ensures { IfOk result (λ n. n ≤ length out.new) }
 {

@@ -32,7 +32,7 @@ pub fn end_of(text: &[u8], at: usize, byte: u8) -> usize
     }
 }
 
-// The value of a hexadecimal digit, 16 for any other byte.
+// The value of a hexadecimal digit, 16 for any other byte: so one comparison with a base refuses that too.
 #[tactic(auto, using(std::proofs::lemmas::Bool::Decides::nat_tests), unfolding(crate::specs::Numbers::digit_of))]
 fn digit(byte: u8) -> u64
     ensures { result ≡ digit_of byte }
