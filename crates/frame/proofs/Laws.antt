@@ -145,12 +145,9 @@ fitting-sound f sides settings =
       shift_le = ltb-false 3 f.group_size_shift l.1;
     }
 
--- So does a frame to which no check applies.
+-- a frame to which no check applies
 pub frame-fits : (f : Frame) → first_of (frame_checks f) ≡ 0 → (bad_sides f ≡ false) × (bad_settings f ≡ false)
 frame-fits f e = none (bad_sides f) (bad_settings f) e
-
-pub frame-sound : (f : Frame) → first_of (frame_checks f) ≡ 0 → Sound f
-frame-sound f e = let n = frame-fits f e in fitting-sound f n.0 n.1
 
 -- the bounds of a frame's sizes
 pub record Bounded (g : GroupSizes) : Type 0 where

@@ -1,4 +1,4 @@
--- The number of the first check that applies, from the tests in order. Assumes nothing.
+-- The number of the first check that applies, from the tests in order, where the check of the code does not find it alone. Assumes nothing.
 use mathlib.Core.Path.{◌≡◌}
 use mathlib.Core.Bool.{Bool, true, false, not, ◌&&◌}
 use mathlib.Core.List.{List}
@@ -20,47 +20,21 @@ module _ (on : ℕ) (f : Frame) (b : Blocks) (t : List ℕ) (grids : List Float)
   abbrev pub bad_count : Bool
   bad_count = flag_fits on && not (eqb n (sigma_count (flag_set on) b))
 
-  pub sides-out : bad_sides f ≡ true → out_of_limits ≡ sigma_number on f b t grids n
-  sides-out s = rw s
+  module _ (s : bad_sides f ≡ false) (k : bad_blocks b ≡ false) (q : bad_settings f ≡ false) (l : table_fits f t ≡ true) where
+    pub grid-out : some_group f (bad_grid t) ≡ true → out_of_limits ≡ sigma_number on f b t grids n
+    grid-out g = rw (s, k, q, l, g)
 
-  pub blocks-out : bad_sides f ≡ false → bad_blocks b ≡ true → out_of_limits ≡ sigma_number on f b t grids n
-  blocks-out s k = rw (s, k)
+    module _ (g : some_group f (bad_grid t) ≡ false) where
+      pub grids-wrong : (not (some_group f (bad_presence t)) && not (grids_fit f t grids)) ≡ true → wrong_length ≡ sigma_number on f b t grids n
+      grids-wrong w = rw (s, k, q, l, g, w)
 
-  -- settings out of range: of the lengths, only that of the sigmas is checked
-  module _ (s : bad_sides f ≡ false) (k : bad_blocks b ≡ false) (q : bad_settings f ≡ true) where
-    pub count-wrong : bad_count ≡ true → wrong_length ≡ sigma_number on f b t grids n
-    count-wrong c = rw (s, k, q, c)
+      module _ (w : (not (some_group f (bad_presence t)) && not (grids_fit f t grids)) ≡ false) (c : bad_count ≡ false) where
+        pub block_out : (flag_set on && some_not_held f b t) ≡ true → block_not_held ≡ sigma_number on f b t grids n
+        block_out h = rw (s, k, q, l, g, w, c, h)
 
-    pub settings-out : bad_count ≡ false → out_of_range ≡ sigma_number on f b t grids n
-    settings-out c = rw (s, k, q, c)
+        module _ (h : (flag_set on && some_not_held f b t) ≡ false) (p : some_group f (bad_presence t) ≡ false) where
+          pub flag-out : flag_fits on ≡ false → out_of_range ≡ sigma_number on f b t grids n
+          flag-out o = rw (s, k, q, l, g, w, c, h, p, o)
 
-  module _ (s : bad_sides f ≡ false) (k : bad_blocks b ≡ false) (q : bad_settings f ≡ false) where
-    pub table-wrong : table_fits f t ≡ false → wrong_length ≡ sigma_number on f b t grids n
-    table-wrong l = rw (s, k, q, l)
-
-    module _ (l : table_fits f t ≡ true) where
-      pub grid-out : some_group f (bad_grid t) ≡ true → out_of_limits ≡ sigma_number on f b t grids n
-      grid-out g = rw (s, k, q, l, g)
-
-      module _ (g : some_group f (bad_grid t) ≡ false) where
-        pub grids-wrong : (not (some_group f (bad_presence t)) && not (grids_fit f t grids)) ≡ true → wrong_length ≡ sigma_number on f b t grids n
-        grids-wrong w = rw (s, k, q, l, g, w)
-
-        module _ (w : (not (some_group f (bad_presence t)) && not (grids_fit f t grids)) ≡ false) where
-          pub sigmas-wrong : bad_count ≡ true → wrong_length ≡ sigma_number on f b t grids n
-          sigmas-wrong c = rw (s, k, q, l, g, w, c)
-
-          module _ (c : bad_count ≡ false) where
-            pub block_out : (flag_set on && some_not_held f b t) ≡ true → block_not_held ≡ sigma_number on f b t grids n
-            block_out h = rw (s, k, q, l, g, w, c, h)
-
-            module _ (h : (flag_set on && some_not_held f b t) ≡ false) where
-              pub presence-out : some_group f (bad_presence t) ≡ true → out_of_range ≡ sigma_number on f b t grids n
-              presence-out p = rw (s, k, q, l, g, w, c, h, p)
-
-              module _ (p : some_group f (bad_presence t) ≡ false) where
-                pub flag-out : flag_fits on ≡ false → out_of_range ≡ sigma_number on f b t grids n
-                flag-out o = rw (s, k, q, l, g, w, c, h, p, o)
-
-                pub none_out : flag_fits on ≡ true → accepted ≡ sigma_number on f b t grids n
-                none_out o = rw (s, k, q, l, g, w, c, h, p, o)
+          pub none_out : flag_fits on ≡ true → accepted ≡ sigma_number on f b t grids n
+          none_out o = rw (s, k, q, l, g, w, c, h, p, o)
