@@ -5,8 +5,8 @@ use Rattle.run_setup.proofs.Laws.{placed-accepted}
 use Rattle.run_result.proofs.Part.{setup-part, source-length, target-length, setup-copied}
 use Rattle.run_result.proofs.copy_result.Goals as goal
 
-pub unwrap-requires : goal.unwrap-requires
-unwrap-requires c = outcome_is_ok c.layout_of.result _ _ c.layout_of.ensures (placed-accepted c.args.s.now c.requires.0)
+pub unwrap-l-requires : goal.unwrap-l-requires
+unwrap-l-requires c = outcome_is_ok c.layout_of.result _ _ c.layout_of.ensures (placed-accepted c.args.s.now c.requires.0)
 
 pub copy_planes-requires : goal.copy_planes-requires
 copy_planes-requires c = let u = c.flag_set-full in
