@@ -8,6 +8,7 @@ ghost use Rattle.loupe.specs.Whole.{WholeEqual};
 
 use frame::Frame;
 use loupe_region::LoupeSetup;
+use refusals::number_of;
 use region_arithmetic::RegionAnswer;
 
 // Returns the widened rectangle, whose samples `restoration_loupe_smooth` needs: the wanted one, extended on each side
@@ -21,7 +22,7 @@ use region_arithmetic::RegionAnswer;
 pub extern "C" fn restoration_loupe_widened(setup: LoupeSetup) -> RegionAnswer
     ensures { result ≡ widened_outcome setup }
 {
-    loupe_region::loupe_widened(setup)
+    RegionAnswer::from(loupe_region::loupe_widened(setup))
 }
 
 // Filters the wanted rectangle of a picture: writes to `out` what a run over the whole gives there, if the samples and
@@ -74,5 +75,5 @@ pub extern "C" fn restoration_loupe_smooth(
       out = out.old;
     }) result out.new }
 {
-    loupe::loupe_smooth(setup, frame, table, grids, first, second, sigmas, out)
+    number_of(loupe::loupe_smooth(setup, frame, table, grids, first, second, sigmas, out))
 }

@@ -1,25 +1,18 @@
 -- What `loupe_smooth` returns and writes at each of its ends is the outcome of the call. Assumes nothing.
 use mathlib.Core.Path.{◌≡◌, sym, ap, ◌∙◌}
 use Prim.Native.Nat.{ℕ}
-use Rattle.refusals.specs.Checks.{first_of}
 use Rattle.region.specs.declared.Region.{Region}
-use Rattle.region_arithmetic.specs.declared.RegionAnswer.{RegionAnswer}
 use Rattle.run_setup.specs.declared.Setup.{Setup}
 use Rattle.run_setup.specs.Makers.{setup_with}
 use Rattle.run_record.specs.Record.{pass_count}
 use Rattle.run_outcomes.specs.Start.{StartOutcome, start_outcome}
 use Rattle.run_calls.specs.Calls.{left_by_start}
-use Rattle.loupe_region.specs.declared.LoupeSetup.{LoupeSetup}
-use Rattle.loupe_region.specs.Outcome.{widened_checks, widened_region, widened_outcome}
+use Rattle.loupe_region.specs.Outcome.{widened_region}
 use Rattle.loupe.specs.Outcome.{LoupeHanded, LoupeOutcome, all_rows, run_setup_of, as_run, loupe_refused, loupe_outcome}
 use Rattle.loupe.specs.Pieces.{passed_outcome}
 use Rattle.loupe.specs.Whole.{WholeEqual}
 use Rattle.loupe.proofs.Numbers.{early}
-use Rattle.loupe.proofs.Theorem.{place-known, accepted-outcome, refused-early, refused-start, answer-whole}
-
-pub place-number : (s : LoupeSetup) (place : RegionAnswer) → place ≡ widened_outcome s → place.number ≡ first_of (widened_checks s)
-unfolding widened_outcome
-place-number s place e = ap (λ (a : RegionAnswer). a.number) e
+use Rattle.loupe.proofs.Theorem.{accepted-outcome, refused-early, refused-start, answer-whole}
 
 -- an answer that is the outcome has both parts of the contract
 abbrev pub Answered : ℕ → LoupeHanded → LoupeOutcome → Type 0
@@ -28,19 +21,12 @@ Answered n h o = (o ≡ loupe_outcome n h) × WholeEqual n h o.number o.out
 answered : (n : ℕ) (h : LoupeHanded) (o : LoupeOutcome) → o ≡ loupe_outcome n h → Answered n h o
 answered n h o e = (e, answer-whole n h o e)
 
-module _ (n : ℕ) (h : LoupeHanded) (number : ℕ) (is_number : number ≡ early n h) where
-  pub answered-early : (number ≡ 0 → ⊥) → Answered n h (loupe_refused number h)
-  answered-early f = answered n h (loupe_refused number h) (rw is_number (refused-early n h (λ z. f (is_number ∙ z))))
+module _ (n : ℕ) (h : LoupeHanded) where
+  pub answered-early : (number : ℕ) → number ≡ early n h → (number ≡ 0 → ⊥) → Answered n h (loupe_refused number h)
+  answered-early number e f = answered n h (loupe_refused number h) (rw e (refused-early n h (λ z. f (e ∙ z))))
 
-  module _ (none : number ≡ 0) (place : RegionAnswer) (is-place : place ≡ widened_outcome h.setup) where
-    known : early n h ≡ 0
-    known = sym is_number ∙ none
-
-    region-is : place.region ≡ widened_region h.setup
-    unfolding widened_outcome
-    region-is = ap (λ (a : RegionAnswer). a.region) is-place ∙ rw (place-known n h known)
-
-    module _ (setup : Setup) (is-setup : setup ≡ setup_with place.region place.region 0 h.setup.settings all_rows) (start : StartOutcome)
+  module _ (known : early n h ≡ 0) (widened : Region) (region-is : widened ≡ widened_region h.setup) where
+    module _ (setup : Setup) (is-setup : setup ≡ setup_with widened widened 0 h.setup.settings all_rows) (start : StartOutcome)
         (is-start : start ≡ start_outcome n (record { setup = setup; frame = h.frame; table = h.table; grids = h.grids; first = h.first; second = h.second; sigmas = h.sigmas })) where
       started-is : start ≡ start_outcome n (as_run h)
       started-is =
@@ -55,6 +41,6 @@ module _ (n : ℕ) (h : LoupeHanded) (number : ℕ) (is_number : number ≡ earl
       answered-start f = answered n h _ (rw started-is (refused-start n h known (λ z. f (number_is ∙ z))))
 
       pub answered-accepted : start.answer.number ≡ 0 → (passes : ℕ) → passes ≡ pass_count (run_setup_of h.setup) → (end : LoupeOutcome)
-          → end ≡ passed_outcome n passes (left_by_start start h.second) place.region h.setup.wanted h.out → Answered n h end
+          → end ≡ passed_outcome n passes (left_by_start start h.second) widened h.setup.wanted h.out → Answered n h end
       answered-accepted z passes is-passes end is-end =
           answered n h end (is-end ∙ rw (is-passes, region-is, started-is) (accepted-outcome n h known (sym number_is ∙ z)))

@@ -2,13 +2,14 @@
 // widened rectangle gives the samples; its calls are used by their contracts alone.
 #![tactic(auto)]
 
-ghost use Rattle.std.specs.Prelude.{◌≡◌, ◌*◌, T};
+ghost use Rattle.std.specs.Prelude.{◌≡◌, ◌*◌, T, eqb};
 ghost use Rattle.refusals.specs.Checks.{first_of};
+ghost use Rattle.refusals.specs.Refusals.{number, number_of, IsOutcome};
 ghost use Rattle.region.specs.Measures.{picture_fits};
 ghost use Rattle.run_setup.specs.Makers.{setup_with};
 ghost use Rattle.run_record.specs.Record.{started};
 ghost use Rattle.run_outcomes.specs.Band.{State};
-ghost use Rattle.loupe_region.specs.Outcome.{widened_checks};
+ghost use Rattle.loupe_region.specs.Outcome.{widened_region};
 ghost use Rattle.loupe.specs.Outcome.{LoupeOutcome, all_rows, after_pass, after_passes, loupe_outcome};
 ghost use Rattle.loupe.specs.Pieces.{groups_checks, settings_number, early_checks, copy_setup, copied, passed_outcome};
 ghost use Rattle.loupe.specs.Whole.{WholeEqual};
@@ -17,13 +18,10 @@ use frame::Frame;
 use limits::MAX_SIDE_U32;
 use loupe_region::{LoupeSetup, loupe_widened};
 use planes::PLANES;
-use refusals::{
-    ACCEPTED, NOT_ON_BLOCKS, OUT_OF_LIMITS, OUT_OF_RANGE, WANTED_OUTSIDE, WRONG_LENGTH,
-};
+use refusals::Refusal;
 use region::Region;
 use run_advance::advance;
 use run_band::band;
-use run_outcomes::RunAnswer;
 use run_passes::Settings;
 use run_record::Run;
 use run_result::result;
@@ -45,11 +43,11 @@ fn one_block() -> Blocks
     }
 }
 
-// The number of a frame, its group table and its grids alone: 4, 7, 9 or 0.
-fn groups_number(frame: Frame, table: &[u32], grids: &[f32]) -> u32
-    ensures { result ≡ first_of (groups_checks frame table.now grids.now) }
+// Refuses a frame, its group table and its grids alone, with 4, 7 or 9.
+fn check_groups(frame: Frame, table: &[u32], grids: &[f32]) -> Result<(), Refusal>
+    ensures { number_of result ≡ first_of (groups_checks frame table.now grids.now) }
 {
-    refusals::number_of(check(NO, frame, one_block(), table, grids, 0))
+    check(NO, frame, one_block(), table, grids, 0)
 }
 
 fn wanted_length(wanted: Region) -> usize
@@ -59,55 +57,63 @@ fn wanted_length(wanted: Region) -> usize
     PLANES * wanted.height as usize * wanted.width as usize
 }
 
-// The number of a call whose settings leave the margin unknown: 7 or 9. `groups` is that of `groups_number`, not 4.
-fn settings_number(groups: u32, iters: u32, sigmas: usize) -> u32
-    ensures { result ≡ settings_number groups iters sigmas }
+// Whether a call is refused with this refusal.
+fn is_refused<T: Copy>(answer: Result<T, Refusal>, refusal: Refusal) -> bool
+    ensures { result ≡ eqb (number_of answer) (number refusal) }
 {
-    if groups == WRONG_LENGTH {
-        return WRONG_LENGTH;
+    match answer {
+        Ok(_) => false,
+        Err(found) => u32::from(found) == u32::from(refusal),
     }
-    if iters == 0 {
-        if sigmas != 0 {
-            return WRONG_LENGTH;
-        }
-    }
-    OUT_OF_RANGE
 }
 
-// The first number of the checks that `start` does not make; of all checks if the margin is unknown, since `start` is
-// not called then. `place` is the number of `loupe_widened`.
-fn early_number(
-    place: u32,
+// The refusal of a call whose settings leave the margin unknown: 7 or 9. `groups` is the answer of `check_groups`, not 4.
+fn settings_refusal(groups: Result<(), Refusal>, iters: u32, sigmas: usize) -> Refusal
+    ensures { number result ≡ settings_number (number_of groups) iters sigmas }
+{
+    if is_refused(groups, Refusal::WrongLength) {
+        return Refusal::WrongLength;
+    }
+    if iters == 0 && sigmas != 0 {
+        return Refusal::WrongLength;
+    }
+    Refusal::OutOfRange
+}
+
+// The widened rectangle, or the first refusal of the checks that `start` does not make; of all checks if the margin is
+// unknown, since `start` is not called then.
+fn checked_place(
     s: LoupeSetup,
     frame: Frame,
     table: &[u32],
     grids: &[f32],
     sigmas: usize,
     out: usize,
-) -> u32
-    requires { place ≡ first_of (widened_checks s) }
-    ensures { result ≡ first_of (early_checks 3 s frame table.now grids.now sigmas out) }
+) -> Result<Region, Refusal>
+    ensures { IsOutcome result
+        (first_of (early_checks 3 s frame table.now grids.now sigmas out)) (widened_region s) }
 {
-    if place == OUT_OF_LIMITS {
-        return OUT_OF_LIMITS;
+    let place = loupe_widened(s);
+    if is_refused(place, Refusal::OutOfLimits) {
+        return place;
     }
-    let groups = groups_number(frame, table, grids);
-    if groups == OUT_OF_LIMITS {
-        return OUT_OF_LIMITS;
+    let groups = check_groups(frame, table, grids);
+    if is_refused(groups, Refusal::OutOfLimits) {
+        return Err(Refusal::OutOfLimits);
     }
-    if place == WANTED_OUTSIDE {
-        return WANTED_OUTSIDE;
+    if is_refused(place, Refusal::WantedOutside) {
+        return place;
     }
-    if place == NOT_ON_BLOCKS {
-        return NOT_ON_BLOCKS;
+    if is_refused(place, Refusal::NotOnBlocks) {
+        return place;
     }
     if out != wanted_length(s.wanted) {
-        return WRONG_LENGTH;
+        return Err(Refusal::WrongLength);
     }
-    if place == ACCEPTED {
-        return ACCEPTED;
+    if place.is_ok() {
+        return place;
     }
-    settings_number(groups, s.settings.epf.iters, sigmas)
+    Err(settings_refusal(groups, s.settings.epf.iters, sigmas))
 }
 
 // A run over the widened rectangle: image and filter region alike, and one band.
@@ -124,37 +130,31 @@ fn run_setup(widened: Region, settings: Settings) -> Setup
 }
 
 // A pass: its only band, and an advance.
-fn one_pass(run: Run, sigmas: &[f32], first: &mut [f32], second: &mut [f32]) -> Run
+fn one_pass(run: &mut Run, sigmas: &[f32], first: &mut [f32], second: &mut [f32])
     ensures { ◌≡◌ {A = State} (record {
-      run = result;
+      run = run.new;
       sigmas = sigmas.now;
       first = first.new;
       second = second.new;
     }) (after_pass 3
-        (record { run = run; sigmas = sigmas.now; first = first.old; second = second.old })) }
+        (record { run = run.old; sigmas = sigmas.now; first = first.old; second = second.old })) }
 {
-    let mut r = run;
-    let _ = band(&mut r, sigmas, first, second, 0);
-    let _ = advance(&mut r);
-    r
+    let _ = band(run, sigmas, first, second, 0);
+    let _ = advance(run);
 }
 
-fn all_passes(run: Run, passes: u32, sigmas: &[f32], first: &mut [f32], second: &mut [f32]) -> Run
+fn all_passes(run: &mut Run, passes: u32, sigmas: &[f32], first: &mut [f32], second: &mut [f32])
     ensures { ◌≡◌ {A = State} (record {
-      run = result;
+      run = run.new;
       sigmas = sigmas.now;
       first = first.new;
       second = second.new;
     }) (after_passes 3 passes
-        (record { run = run; sigmas = sigmas.now; first = first.old; second = second.old })) }
+        (record { run = run.old; sigmas = sigmas.now; first = first.old; second = second.old })) }
 {
-    let mut r = run;
-    let mut k = 0;
-    while k < passes {
-        r = one_pass(r, sigmas, first, second);
-        k += 1;
+    for _k in 0..passes {
+        one_pass(run, sigmas, first, second);
     }
-    r
 }
 
 // A run without passes over the widened rectangle: its result is the wanted rectangle of a set.
@@ -189,9 +189,9 @@ fn finish(
     first: &mut [f32],
     second: &mut [f32],
     out: &mut [f32],
-) -> u32
+)
     ensures { ◌≡◌ {A = LoupeOutcome} (record {
-      number = result;
+      number = 0;
       first = first.new;
       second = second.new;
       sigmas = sigmas.now;
@@ -200,16 +200,16 @@ fn finish(
         (record { run = run; sigmas = sigmas.now; first = first.old; second = second.old })
         widened wanted out.old) }
 {
-    all_passes(run, passes, sigmas, first, second);
+    let mut run = run;
+    all_passes(&mut run, passes, sigmas, first, second);
     if passes % 2 == 0 {
         copy_wanted(widened, wanted, first, out);
-        return ACCEPTED;
+        return;
     }
     copy_wanted(widened, wanted, second, out);
-    ACCEPTED
 }
 
-// Filters the wanted rectangle and returns the number of the call. `first` has the samples of the widened rectangle
+// Filters the wanted rectangle. `first` has the samples of the widened rectangle
 // (`loupe_widened`).
 pub fn loupe_smooth(
     s: LoupeSetup,
@@ -220,9 +220,9 @@ pub fn loupe_smooth(
     second: &mut [f32],
     sigmas: &mut [f32],
     out: &mut [f32],
-) -> u32
+) -> Result<(), Refusal>
     ensures fact { ◌≡◌ {A = LoupeOutcome} (record {
-      number = result;
+      number = number_of result;
       first = first.new;
       second = second.new;
       sigmas = sigmas.new;
@@ -246,37 +246,12 @@ pub fn loupe_smooth(
       second = second.old;
       sigmas = sigmas.old;
       out = out.old;
-    }) result out.new }
+    }) (number_of result) out.new }
 {
-    let place = loupe_widened(s);
-    let number = early_number(
-        place.number,
-        s,
-        frame,
-        table,
-        grids,
-        sigmas.len(),
-        out.len(),
-    );
-    if number != ACCEPTED {
-        return number;
-    }
-    let settings = s.settings;
-    let setup = run_setup(place.region, settings);
-    let started = start(setup, frame, table, grids, first, second, sigmas);
-    let answer = RunAnswer::from(started);
-    if answer.number != ACCEPTED {
-        return answer.number;
-    }
-    let passes = settings.pass_count();
-    finish(
-        answer.run,
-        passes,
-        place.region,
-        s.wanted,
-        sigmas,
-        first,
-        second,
-        out,
-    )
+    let widened = checked_place(s, frame, table, grids, sigmas.len(), out.len())?;
+    let setup = run_setup(widened, s.settings);
+    let run = start(setup, frame, table, grids, first, second, sigmas)?;
+    let passes = s.settings.pass_count();
+    finish(run, passes, widened, s.wanted, sigmas, first, second, out);
+    Ok(())
 }

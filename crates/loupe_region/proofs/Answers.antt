@@ -1,4 +1,4 @@
--- The number of a call of `loupe_widened`, by the first check that applies, and its answer. Assumes nothing.
+-- The number of a call of `loupe_widened`, by the first check that applies. Assumes nothing.
 use mathlib.Core.Path.{◌≡◌, sym, ap, ◌∙◌}
 use mathlib.Core.Bool.{true, false}
 use Prim.Native.Nat.{ℕ}
@@ -13,20 +13,7 @@ use Rattle.run_passes.specs.Plan.{margin, margin_number, margin_outcome}
 use Rattle.loupe_region.specs.declared.LoupeSetup.{LoupeSetup}
 use Rattle.loupe_region.specs.Outcome.{bad_wanted, off_blocks, widened_checks, widened_region, widened_outcome}
 
--- ---- the margin's answer
-
-module _ (s : Settings) (a : MarginAnswer) (e : a ≡ margin_outcome s) where
-  pub margin-number : a.number ≡ margin_number s
-  unfolding margin_outcome
-  margin-number = ap (λ (b : MarginAnswer). b.number) e
-
-  pub margin-given : a.number ≡ 0 → a.margin ≡ margin s
-  unfolding margin_outcome
-  margin-given z = let n : margin_number s ≡ 0 = sym margin-number ∙ z in ap (λ (b : MarginAnswer). b.margin) e ∙ rw n
-
 module _ (s : LoupeSetup) where
-  -- ---- the number
-
   pub whole-outside : picture_fits s.whole ≡ false → first_of (widened_checks s) ≡ 4
   unfolding widened_checks
   whole-outside e = rw e
@@ -49,13 +36,3 @@ module _ (s : LoupeSetup) where
         pub regions-pass : off_blocks s ≡ false → first_of (widened_checks s) ≡ margin_number s.settings
         unfolding widened_checks
         regions-pass b = rw (e, f, g, b)
-
-  -- ---- the answer
-
-  pub refused-answer : (n : ℕ) (a : RegionAnswer) → (n ≡ 0 → ⊥) → first_of (widened_checks s) ≡ n → a ≡ record { number = n; region = zero_region } → a ≡ widened_outcome s
-  unfolding widened_outcome
-  refused-answer n a h e q = q ∙ rw (e, ne_eqb n 0 h)
-
-  pub accepted-answer : first_of (widened_checks s) ≡ 0 → ◌≡◌ {A = RegionAnswer} (record { number = 0; region = widened_region s }) (widened_outcome s)
-  unfolding widened_outcome
-  accepted-answer e = rw e

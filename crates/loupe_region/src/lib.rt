@@ -2,20 +2,21 @@
 #![tactic(auto)]
 
 ghost use Rattle.std.specs.Prelude.{◌≡◌};
+ghost use Rattle.refusals.specs.Checks.{first_of};
+ghost use Rattle.refusals.specs.Refusals.{IsOutcome};
 ghost use Rattle.region_interval.specs.Interval.{span_of, reaching};
 ghost use Rattle.region_interval.specs.Overlap.{meet};
 ghost use Rattle.loupe_region.specs.Widened.{widened};
-ghost use Rattle.loupe_region.specs.Outcome.{bad_wanted, off_blocks, widened_outcome};
+ghost use Rattle.loupe_region.specs.Outcome.{bad_wanted, off_blocks, widened_checks, widened_region};
 ghost use Rattle.loupe_region.specs.Fits.{WantedFits};
 
-use refusals::{ACCEPTED, NOT_ON_BLOCKS, OUT_OF_LIMITS, WANTED_OUTSIDE};
+use refusals::Refusal;
 use region::Region;
-use region_arithmetic::{RegionAnswer, refused};
 use region_axis::check_span;
 use region_interval::overlap::meet;
 use region_interval::{Axis, Span};
 use region_placement::on_blocks;
-use run_passes::{MAX_ITERS, MarginAnswer, Settings};
+use run_passes::{MAX_ITERS, Settings};
 
 // What the loupe shows: the filter region of a whole picture, the wanted rectangle of it, and the settings of the
 // filters.
@@ -48,54 +49,44 @@ fn widened(whole: Region, wanted: Region, margin: u32) -> Region
     }
 }
 
-// Whether the wanted rectangle is empty or reaches outside the whole.
-fn bad_wanted(whole: Region, wanted: Region) -> bool
-    ensures { result ≡ bad_wanted whole wanted }
-{
-    if wanted.width == 0 {
-        return true;
+impl LoupeSetup {
+    // Whether the wanted rectangle is empty or reaches outside the whole.
+    fn bad_wanted(self) -> bool
+        ensures { result ≡ bad_wanted self.whole self.wanted }
+    {
+        if self.wanted.width == 0 || self.wanted.height == 0 {
+            return true;
+        }
+        !self.whole.surrounds(self.wanted)
     }
-    if wanted.height == 0 {
-        return true;
-    }
-    !whole.surrounds(wanted)
-}
 
-// Whether the EPF runs and the whole does not start at multiples of 8.
-fn off_blocks(s: LoupeSetup) -> bool
-    ensures { result ≡ off_blocks s }
-{
-    if MAX_ITERS < s.settings.epf.iters {
-        return false;
+    // Whether the EPF runs and the whole does not start at multiples of 8.
+    fn off_blocks(self) -> bool
+        ensures { result ≡ off_blocks self }
+    {
+        if MAX_ITERS < self.settings.epf.iters {
+            return false;
+        }
+        self.settings.epf.iters != 0 && !on_blocks(self.whole)
     }
-    if s.settings.epf.iters == 0 {
-        return false;
-    }
-    !on_blocks(s.whole)
 }
 
 // The rectangle whose planes `loupe_smooth` takes, or refusal 4, 15, 6 or 9.
-pub fn loupe_widened(s: LoupeSetup) -> RegionAnswer
-    ensures { result ≡ widened_outcome s }
+pub fn loupe_widened(s: LoupeSetup) -> Result<Region, Refusal>
+    ensures { IsOutcome result (first_of (widened_checks s)) (widened_region s) }
 {
     if !s.whole.picture_fits() {
-        return refused(OUT_OF_LIMITS);
+        return Err(Refusal::OutOfLimits);
     }
     if !s.wanted.rectangle_fits() {
-        return refused(OUT_OF_LIMITS);
+        return Err(Refusal::OutOfLimits);
     }
-    if bad_wanted(s.whole, s.wanted) {
-        return refused(WANTED_OUTSIDE);
+    if s.bad_wanted() {
+        return Err(Refusal::WantedOutside);
     }
-    if off_blocks(s) {
-        return refused(NOT_ON_BLOCKS);
+    if s.off_blocks() {
+        return Err(Refusal::NotOnBlocks);
     }
-    let reach = MarginAnswer::from(s.settings.margin());
-    if reach.number != ACCEPTED {
-        return refused(reach.number);
-    }
-    RegionAnswer {
-        number: ACCEPTED,
-        region: widened(s.whole, s.wanted, reach.margin),
-    }
+    let margin = s.settings.margin()?;
+    Ok(widened(s.whole, s.wanted, margin))
 }

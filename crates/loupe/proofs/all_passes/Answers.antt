@@ -7,17 +7,17 @@ use Rattle.loupe.proofs.all_passes.Goals as goal
 
 pub loop-k-init : goal.loop-k-init
 unfolding after_passes
-loop-k-init c = (omega arith, refl, refl, refl)
+loop-k-init c = (refl, refl, refl)
 
 pub loop-k-preserved : goal.loop-k-preserved
 unfolding after_passes
 loop-k-preserved c =
     let i = c.loop-k.invariant in
-    let o = c.one_pass-r in
-    (omega arith, o.auto.first ∙ i.1, o.auto.second ∙ i.2, rw add-one (o.ensures ∙ ap (after_pass 3) i.3))
+    let o = c.one_pass in
+    (o.auto.first ∙ i.0, o.auto.second ∙ i.1, rw add-one (o.ensures ∙ ap (after_pass 3) i.2))
 
 pub returns : goal.returns
 returns c =
     let i = c.loop-k.invariant in
-    let e : c.loop-k.k ≡ c.args.passes = omega arith in
-    rw (← e) i.3
+    let e : c.loop-k._k ≡ c.args.passes = omega arith in
+    rw (← e) i.2

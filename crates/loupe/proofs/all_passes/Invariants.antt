@@ -1,5 +1,4 @@
--- `loupe::all_passes` meets its contract. The loop's invariant: the state is that after k passes, and both sets keep their lengths. The
--- measure is the number of passes left. Assumes nothing.
+-- `loupe::all_passes` meets its contract. The loop's invariant: the state is that after k passes, and both sets keep their lengths. Assumes nothing.
 use mathlib.Core.Path.{◌≡◌}
 use Prim.Native.Nat.{◌≤◌, ◌-◌}
 use lib.ListN.{length}
@@ -8,11 +7,7 @@ use Rattle.loupe.specs.Outcome.{after_passes}
 use Rattle.loupe.proofs.all_passes.Given as goal
 
 abbrev pub invariant-loop-k : goal.invariant-loop-k
-invariant-loop-k l = (l.k ≤ l.passes)
-    × (length l.first ≡ length l.initial.first)
+invariant-loop-k l = (length l.first ≡ length l.initial.first)
     × (length l.second ≡ length l.initial.second)
-    × (◌≡◌ {A = State} (record { run = l.r; sigmas = l.sigmas; first = l.first; second = l.second })
-    (after_passes 3 l.k (record { run = l.initial.r; sigmas = l.sigmas; first = l.initial.first; second = l.initial.second })))
-
-abbrev pub decreases-loop-k : goal.decreases-loop-k
-decreases-loop-k l = l.passes - l.k
+    × (◌≡◌ {A = State} (record { run = l.run; sigmas = l.sigmas; first = l.first; second = l.second })
+    (after_passes 3 l._k (record { run = l.initial.run; sigmas = l.sigmas; first = l.initial.first; second = l.initial.second })))

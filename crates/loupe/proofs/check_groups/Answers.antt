@@ -1,4 +1,4 @@
--- `loupe::groups_number` meets its contract: one block is within the limits, and with the EPF off neither sigmas nor blocks are asked for.
+-- `loupe::check_groups` meets its contract: one block is within the limits, and with the EPF off neither sigmas nor blocks are asked for.
 -- Assumes nothing.
 use mathlib.Core.Path.{◌≡◌, refl, ◌∙◌}
 use mathlib.Core.Bool.{Bool, true, false}
@@ -11,7 +11,7 @@ use Rattle.sigma_groups.specs.declared.blocks.Blocks.{Blocks}
 use Rattle.sigma_groups.specs.Measures.{bad_blocks}
 use Rattle.sigma_groups.specs.Outcome.{table_read, sigma_number}
 use Rattle.loupe.specs.Pieces.{groups_checks}
-use Rattle.loupe.proofs.groups_number.Goals as goal
+use Rattle.loupe.proofs.check_groups.Goals as goal
 
 abbrev one : Blocks
 one = record { left = 0; top = 0; width = 1; height = 1 }
@@ -27,4 +27,4 @@ one-alone f t grids = go (table_read f t) refl
 pub returns : goal.returns
 returns c =
     let a = c.args in
-    c.number_of.ensures ∙ c.check.ensures ∙ rw c.one_block.ensures (one-alone a.frame a.table.now a.grids.now)
+    c.check.ensures ∙ rw c.one_block.ensures (one-alone a.frame a.table.now a.grids.now)
