@@ -1,7 +1,7 @@
 -- The limits of Specification 4.1: for each, the last accepted value and the first refused one. Each row is an equation in the definitions
 -- that the contracts cite. Definitions only.
 use Rattle.std.specs.Prelude.{◌≡◌, true, false, List, [], ◌∷◌, ◌++◌, ℕ, ℤ, pos, negsuc, length, get_or, replicate, Float}
-use Rattle.refusals.specs.Checks.{Check}
+use Rattle.refusals.specs.Checks.{Check, first_of}
 use Rattle.header_bits.specs.Outcome.{accepted, refused}
 use Rattle.header_bits.specs.Bits.{field, u}
 use Rattle.region.specs.declared.Region.{Region}

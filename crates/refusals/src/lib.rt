@@ -33,37 +33,6 @@ pub enum Refusal {
 // The number of a call that is not refused.
 pub const ACCEPTED: u32 = 0;
 
-// The numbers, for crates that answer them.
-pub const BITS_RUN_OUT: u32 = 1;
-
-pub const HALF_NOT_FINITE: u32 = 2;
-
-pub const KERNEL_NEAR_ZERO: u32 = 3;
-
-pub const OUT_OF_LIMITS: u32 = 4;
-
-pub const NOT_INSIDE: u32 = 5;
-
-pub const NOT_ON_BLOCKS: u32 = 6;
-
-pub const WRONG_LENGTH: u32 = 7;
-
-pub const BLOCK_NOT_HELD: u32 = 8;
-
-pub const OUT_OF_RANGE: u32 = 9;
-
-pub const BAND_NOT_OPEN: u32 = 10;
-
-pub const PASS_NOT_DONE: u32 = 11;
-
-pub const NOT_A_CUT_FILE: u32 = 12;
-
-pub const BAD_ENTRY: u32 = 13;
-
-pub const WRONG_END: u32 = 14;
-
-pub const WANTED_OUTSIDE: u32 = 15;
-
 impl From<Refusal> for u32 {
     ghost from_gives = { λ r n. n ≡ number r };
 

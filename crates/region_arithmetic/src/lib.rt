@@ -37,21 +37,6 @@ impl From<Result<Region, Refusal>> for RegionAnswer {
     }
 }
 
-// The answer of a refused call, for callers that answer numbers.
-pub fn refused(number: u32) -> RegionAnswer
-    ensures { result ≡ record { number = number; region = zero_region } }
-{
-    RegionAnswer {
-        number,
-        region: Region {
-            left: 0,
-            top: 0,
-            width: 0,
-            height: 0,
-        },
-    }
-}
-
 const LARGEST_FACTOR: u32 = 16;
 
 // The region of these columns and rows if it is within the limits, or refusal 4.
