@@ -12,10 +12,9 @@ ghost use Rattle.sigma.specs.Outcome.{SigmasOutcome, sigmas_outcome};
 ghost use Rattle.sigma.specs.Runs.{above_in, row_sigma, RunFits, RunOf, GridsOf, RowFits};
 
 use frame::Frame;
-use limits::min_u32;
 use planes::copy_run;
 use refusals::Refusal;
-use sigma_grids::{cells_before, grid_of};
+use sigma_grids::{grid_of, grid_start};
 use sigma_groups::blocks::{Blocks, SoundBlocks};
 use sigma_groups::checked;
 use sigma_groups::groups::Groups;
@@ -84,11 +83,10 @@ impl<'a> Grids<'a> {
             (λ (i : ℕ). sigma_in self.entry.groups.table.now self.entry.grids.now self.entry.modular
             (above_in sigmas.old across self.entry.modular (at + i)) run.group (run.column + i) run.row) }
     {
-        let group = run.group as usize;
-        match grid_of(self.groups.table, group) {
+        match grid_of(self.groups.table, run.group) {
             None => fill_missing(self.modular, across, sigmas, at, run.n),
             Some(grid) => {
-                let first = cells_before(self.groups.table, group);
+                let first = grid_start(self.groups.table, run.group).unwrap();
                 let from = first + (run.row as usize * grid.width as usize + run.column as usize);
                 copy_run(sigmas, at, self.grids, from, run.n as usize);
             }
@@ -109,7 +107,7 @@ impl<'a> Grids<'a> {
         let column = shift.split(bx);
         let row = shift.split(by);
         let group = row.group * sizes.groups_per_row + column.group;
-        let n = min_u32(sizes.group_dim - column.inner, limit);
+        let n = (sizes.group_dim - column.inner).min(limit);
         Run {
             group,
             column: column.inner,
@@ -119,6 +117,7 @@ impl<'a> Grids<'a> {
     }
 
     // Writes the sigmas of a row of blocks at index o.
+    // Form: no range has the next index, since the run that is written says how far the loop goes on.
     fn fill_row(self, row: BlockRow, sigmas: &mut [f32], o: usize)
         requires { RowFits self.groups.frame.frame self.groups.table.now row × (o + row.across ≤ length sigmas.old) }
         ensures { sigmas.new ≡ fill sigmas.old o row.across

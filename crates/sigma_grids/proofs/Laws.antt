@@ -9,8 +9,18 @@ use native.Mathlib.Numerals.{add-one}
 use native.Mathlib.Decide.{ℕ_discrete}
 use native.Mathlib.Omega.{arith}
 use borrow.Author.Tests.{le-ltb, ltb-false, leb-false, eq-eqb, ne_eqb}
+use denote.Param.Members.{Mut}
 use lib.Dec.{ltb, leb}
-use lib.ListN.{length}
+use lib.ListN.{length, get_or}
+use Rattle.std.specs.Prelude.{Option}
+use Rattle.std.specs.Bool.{MatchBool}
+use Rattle.std.specs.Fn.{Called}
+use Rattle.std.specs.Iterator.{YieldsThen}
+use Rattle.std.specs.List.{range_with_len, HoldsAt, AllWithin, FoldsTo}
+use Rattle.std.specs.Option.{MatchOption}
+use Rattle.std.proofs.iter.Yields.{nat_range_steps}
+use Rattle.std.proofs.lemmas.Iterator.{cases_from_any, YieldsList-from_range}
+use Rattle.std.proofs.lemmas.List.FromFn.{length-range_with_len, get_or-range_with_len}
 use Rattle.refusals.specs.Numbers.{accepted, out_of_limits}
 use Rattle.sigma_grids.specs.Table.{presence, grid_width, grid_height, bad_grid_side, bad_grid, cells, grid_lacks_block, grid_start, some_below}
 use Rattle.sigma_grids.specs.Start.{no_entries, start_outcome}
@@ -43,6 +53,12 @@ some-found (suc n) k has l h =
     or-true true = refl
     or-true false = refl
 
+-- it does not if none of them has it;
+pub none-found : (n : ℕ) (has : ℕ → Bool) → ((k : ℕ) → k < n → has k ≡ false) → some_below n has ≡ false
+unfolding some_below
+none-found zero has h = refl
+none-found (suc n) has h = rw (none-found n has (λ k l. h k (omega arith)), h n (omega arith))
+
 -- if none has it so far: an iteration of the loop, and its end;
 pub some_turn : (n : ℕ) (has : ℕ → Bool) → some_below n has ≡ false → has n ≡ false → some_below (n + 1) has ≡ false
 unfolding some_below
@@ -64,6 +80,30 @@ none_below zero k has e l = absurd (omega arith)
 none_below (suc n) k has e l =
     let b = neither (some_below n has) (has n) e in
     ⊎_elim (λ (z : k ≡ n). rw z b.1) (λ (m : k < n). none_below n k has b.0 m) (eq-or-lt_of_le (le_of_suc-le-suc l))
+
+-- what `any` over them answers, where the closure answers `has`
+pub any_below : {F : Type 0} {g : Mut F (ℕ × Unit {0}) Bool} (u : _) (f : F) (n : ℕ) (has : ℕ → Bool) (r : Bool)
+    → (xs : List ℕ) × (o : Option ℕ) × (j : F) × YieldsThen nat_range_steps (record { start = 0; end = n }) xs o u × FoldsTo (λ p x q. Called g p (x, tt) false q) f xs j
+    × MatchOption o (r ≡ false) (λ x. (r ≡ true) × ((h : F) × Called g j (x, tt) true h))
+    → ((x : ℕ) (q : F) → Called g f (x, tt) true q → has x ≡ true)
+    → ((x : ℕ) (q : F) → Called g f (x, tt) false q → (q ≡ f) × (has x ≡ false))
+    → r ≡ some_below n has
+any_below u f n has r ran pass fail =
+    answered r (cases_from_any u f r (λ k. has k ≡ true) (λ k. has k ≡ false) ran (YieldsList-from_range 0 n n refl (omega arith)) pass fail)
+  where
+    numbers : List ℕ
+    numbers = range_with_len 0 n
+
+    counted : (k : ℕ) → k < n → get_or numbers k 0 ≡ k
+    counted k l = omega (arith, get_or-range_with_len 0 n k 0 l)
+
+    answered : (b : Bool)
+        → MatchBool b ((k : ℕ) × (k < length numbers) × HoldsAt (λ x. has x ≡ true) numbers k) (AllWithin (λ x. has x ≡ false) numbers 0 (length numbers))
+        → b ≡ some_below n has
+    answered true h =
+        let l : h.0 < n = omega (arith, h.1, length-range_with_len 0 n) in
+        sym (some-found n h.0 has l (rw (counted h.0 l) at (h.2 0)))
+    answered false h = sym (none-found n has (λ k l. rw (counted k l) at (h k 0 (omega arith) (omega (arith, length-range_with_len 0 n)))))
 
 -- ---- grids
 

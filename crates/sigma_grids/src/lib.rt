@@ -1,7 +1,7 @@
 // The group table of a frame, and where each group's grid starts in the grids slice (Specification 7.4).
 #![tactic(auto)]
 
-ghost use Rattle.std.specs.Prelude.{◌≡◌, true, false, ◌+◌, ◌*◌, ◌^◌, ◌<◌, ◌≤◌, length, MatchOption};
+ghost use Rattle.std.specs.Prelude.{◌≡◌, true, false, ◌+◌, ◌*◌, ◌≤◌, get_or, MatchOption};
 ghost use Rattle.refusals.specs.Refusals.{IsOutcome};
 ghost use Rattle.sigma_grids.specs.Table.{present, grid_width, grid_height, bad_grid_side, bad_grid};
 ghost use Rattle.sigma_grids.specs.Table.{cells, grid_start, some_below};
@@ -26,20 +26,26 @@ pub struct Grid {
     pub height: u32,
 }
 
-// The grid of a group, or `None` if it is missing. The table has an entry for the group.
-pub fn grid_of(table: &[u32], group: usize) -> Option<Grid>
-    requires { 3 * group + 3 ≤ length table.now }
+// A number of the table, 0 past its end.
+fn number_at(table: &[u32], i: usize) -> u32
+    ensures { result ≡ get_or table.now i 0 }
+{
+    table.get(i).copied().unwrap_or(0)
+}
+
+// The grid of a group, or `None` if it is missing or the table has no entry for it.
+pub fn grid_of(table: &[u32], group: u32) -> Option<Grid>
     ensures { MatchOption result (present table.now group ≡ false)
         (λ grid. (present table.now group ≡ true) × (grid.width ≡ grid_width table.now group)
         × (grid.height ≡ grid_height table.now group)) }
 {
-    let entry = ENTRY * group;
-    if table[entry] != PRESENT {
+    let entry = ENTRY * group as usize;
+    if number_at(table, entry) != PRESENT {
         return None;
     }
     Some(Grid {
-        width: table[entry + 1],
-        height: table[entry + 2],
+        width: number_at(table, entry + 1),
+        height: number_at(table, entry + 2),
     })
 }
 
@@ -51,8 +57,7 @@ fn bad_side(side: u32) -> bool
 
 // Whether a grid is present and has a side out of range.
 #[tactic(auto, unfolding(crate::specs::Table::bad_grid))]
-fn bad_grid(table: &[u32], group: usize) -> bool
-    requires { 3 * group + 3 ≤ length table.now }
+fn bad_grid(table: &[u32], group: u32) -> bool
     ensures { result ≡ bad_grid table.now group }
 {
     match grid_of(table, group) {
@@ -61,22 +66,16 @@ fn bad_grid(table: &[u32], group: usize) -> bool
     }
 }
 
-fn some_bad_grid(table: &[u32], groups: usize) -> bool
-    requires { 3 * groups ≤ length table.now }
+fn some_bad_grid(table: &[u32], groups: u32) -> bool
     ensures { result ≡ some_below groups (bad_grid table.now) }
 {
-    for g in 0..groups {
-        if bad_grid(table, g) {
-            return true;
-        }
-    }
-    false
+    (0..groups).any(|g| bad_grid(table, g))
 }
 
 // The number of cells of a group in the grids slice.
 #[tactic(auto, unfolding(crate::specs::Table::cells))]
-fn cells(table: &[u32], group: usize) -> usize
-    requires { (3 * group + 3 ≤ length table.now) × (bad_grid table.now group ≡ false) }
+fn cells(table: &[u32], group: u32) -> usize
+    requires { bad_grid table.now group ≡ false }
     ensures { result ≡ cells table.now group }
 {
     match grid_of(table, group) {
@@ -86,8 +85,9 @@ fn cells(table: &[u32], group: usize) -> usize
 }
 
 // The number of cells of all groups before this one, whose grids have sides in range: where this group's grid starts.
-pub fn cells_before(table: &[u32], group: usize) -> usize
-    requires { (3 * group ≤ length table.now) × (group ≤ 256) × (some_below group (bad_grid table.now) ≡ false) }
+// Form: `sum` would be no shorter, as its closure needs a `requires` for `cells` and for the sum.
+fn cells_before(table: &[u32], group: u32) -> usize
+    requires { (group ≤ 256) × (some_below group (bad_grid table.now) ≡ false) }
     ensures { result ≡ grid_start table.now group }
 {
     let mut start = 0;
@@ -99,23 +99,21 @@ pub fn cells_before(table: &[u32], group: usize) -> usize
 
 // Whether the table lacks an entry for a group before this one, or has more entries than a frame has groups.
 #[tactic(auto, unfolding(crate::specs::Start::no_entries))]
-fn no_entries(table: &[u32], group: usize) -> bool
-    requires { group < 2 ^ 32 }
+fn no_entries(table: &[u32], group: u32) -> bool
     ensures { result ≡ no_entries table.now group }
 {
-    MAX_TABLE < table.len() || table.len() < ENTRY * group
+    MAX_TABLE < table.len() || table.len() < ENTRY * group as usize
 }
 
 // The start of a group's grid in the grids slice, or refusal 4 or 7.
 pub fn grid_start(table: &[u32], group: u32) -> Result<usize, Refusal>
     ensures { IsOutcome result (start_outcome table.now group).number (grid_start table.now group) }
 {
-    let before = group as usize;
-    if no_entries(table, before) {
+    if no_entries(table, group) {
         return Err(Refusal::WrongLength);
     }
-    if some_bad_grid(table, before) {
+    if some_bad_grid(table, group) {
         return Err(Refusal::OutOfLimits);
     }
-    Ok(cells_before(table, before))
+    Ok(cells_before(table, group))
 }

@@ -80,5 +80,5 @@ fn bad_blocks(blocks: Blocks) -> bool
 pub fn blocks_along(side: u32) -> u32
     ensures { result ≡ divided_up side 8 }
 {
-    side / BLOCK_U32 + (side % BLOCK_U32 + (BLOCK_U32 - 1)) / BLOCK_U32
+    side.div_ceil(BLOCK_U32)
 }

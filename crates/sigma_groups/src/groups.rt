@@ -22,20 +22,20 @@ pub struct Groups<'a> {
     pub ghost entries: { TableOf frame.frame sizes table.now },
 }
 
-fn bad_presence(table: &[u32], group: usize) -> bool
-    requires { 3 * group + 3 ≤ length table.now }
+fn bad_presence(table: &[u32], group: u32) -> bool
     ensures { result ≡ bad_presence table.now group }
 {
-    PRESENT < table[ENTRY * group]
+    table
+        .get(ENTRY * group as usize)
+        .is_some_and(|presence| PRESENT < *presence)
 }
 
 // Whether a group's grid is present and lacks a cell.
 #[tactic(auto, unfolding(sigma_grids::specs::Table::grid_lacks_block))]
 fn grid_lacks_block(table: &[u32], group: u32, column: u32, row: u32) -> bool
-    requires { 3 * group + 3 ≤ length table.now }
     ensures { result ≡ grid_lacks_block table.now group column row }
 {
-    match grid_of(table, group as usize) {
+    match grid_of(table, group) {
         None => false,
         Some(grid) => grid.width <= column || grid.height <= row,
     }
@@ -62,12 +62,7 @@ impl<'a> Groups<'a> {
     pub(crate) fn some_bad_presence(self) -> bool
         ensures { result ≡ some_group self.entry.frame.frame (bad_presence self.entry.table.now) }
     {
-        for g in 0..self.sizes.num_groups as usize {
-            if bad_presence(self.table, g) {
-                return true;
-            }
-        }
-        false
+        (0..self.sizes.num_groups).any(|g| bad_presence(self.table, g))
     }
 
     // Whether a block's group is outside the frame, or its grid is present and lacks the block.
@@ -92,12 +87,7 @@ impl<'a> Groups<'a> {
         ensures { result ≡ some_below across
             (λ (x : ℕ). not_held self.entry.frame.frame self.entry.table.now (left + x) by) }
     {
-        for x in 0..across {
-            if self.not_held(left + x, by) {
-                return true;
-            }
-        }
-        false
+        (0..across).any(|x| self.not_held(left + x, by))
     }
 
     // Whether a block of the filter region is not held.
@@ -105,12 +95,11 @@ impl<'a> Groups<'a> {
         ensures { result ≡ some_not_held self.entry.frame.frame region.blocks self.entry.table.now }
     {
         let across = region.across();
-        for y in 0..region.down() {
-            if self.row_not_held(region.blocks.left, region.blocks.top + y, across) {
-                return true;
-            }
-        }
-        false
+        (0..region.down()).any(|y| self.row_not_held(
+            region.blocks.left,
+            region.blocks.top + y,
+            across,
+        ))
     }
 
     // The same if the EPF is on; false if it is off.

@@ -52,9 +52,9 @@ returns c =
           (group-is _ _ _ _ c.split-column.ensures c.shift-shift.ensures);
       column-is = column-inner;
       row_is = inner-is _ _ _ _ c.split-row.ensures c.shift-shift.ensures;
-      n_pos = omega (arith, c.min_u32-n.ensures, inner-in, c.requires.limit);
-      n-le = omega (arith, c.min_u32-n.ensures);
-      one-group = omega (arith, c.min_u32-n.ensures, inner-in, dim-is);
+      n_pos = omega (arith, c.min-n.ensures, inner-in, c.requires.limit);
+      n-le = omega (arith, c.min-n.ensures);
+      one-group = omega (arith, c.min-n.ensures, inner-in, dim-is);
     }
 
 pub overflow_mul-group : goal.overflow_mul-group

@@ -40,9 +40,6 @@ returns c =
     ∙ rw (c.split-column.ensures, c.split-row.ensures)
     (in_frame _ _ _ c.args.self.entries _ _ _ c.shift-shift.ensures (rw c.split-column.ensures at c.if-self-column.false) (rw c.split-row.ensures at c.if-self-row.false))
 
-pub grid_lacks_block-requires : goal.grid_lacks_block-requires
-grid_lacks_block-requires c = entry_lt _ _ _ c.args.self.entries _ _ c.if-self-column.false c.if-self-row.false
-
 pub overflow_mul-group : goal.overflow_mul-group
 overflow_mul-group c = omega (arith, entry_lt _ _ _ c.args.self.entries _ _ c.if-self-column.false c.if-self-row.false, entries-le _ _ _ c.args.self.entries)
 
