@@ -37,6 +37,8 @@ fn above(sigmas: &[f32], across: usize, modular: f32, at: usize) -> f32
     sigmas[at - across]
 }
 
+// The sigmas of `n` blocks of a missing group, from index `at` on.
+// Form: the whole slice and an index, since a block reads the sigma above it.
 fn fill_missing(modular: f32, across: u32, sigmas: &mut [f32], at: usize, n: u32)
     requires { (at + n ≤ length sigmas.old) × (n ≤ across) }
     ensures { sigmas.new ≡ fill sigmas.old at n
@@ -50,6 +52,7 @@ fn fill_missing(modular: f32, across: u32, sigmas: &mut [f32], at: usize, n: u32
 }
 
 // A part of a row of blocks that lies in one group: the group, the cell of the first block, the number of blocks.
+// Form: `Blocks` has four numbers too, a place and two sides.
 #[derive(Clone, Copy)]
 struct Run {
     group: u32,
@@ -59,6 +62,7 @@ struct Run {
 }
 
 // A row of blocks of the filter region: its first block (left, by) in the frame, and the number of blocks across.
+// Form: `SplitAnswer` has three numbers too, one of them a refusal's.
 #[derive(Clone, Copy)]
 struct BlockRow {
     left: u32,
@@ -77,6 +81,7 @@ struct Grids<'a> {
 
 impl<'a> Grids<'a> {
     // Writes the sigmas of a run at index `at`.
+    // Form: the whole slice and an index, since a block reads the sigma above it.
     fn fill_run(self, run: Run, across: u32, sigmas: &mut [f32], at: usize)
         requires { RunFits self.groups.table.now self.grids.now run × (at + run.n ≤ length sigmas.old) × (run.n ≤ across) }
         ensures { sigmas.new ≡ fill sigmas.old at run.n
@@ -117,7 +122,8 @@ impl<'a> Grids<'a> {
     }
 
     // Writes the sigmas of a row of blocks at index o.
-    // Form: no range has the next index, since the run that is written says how far the loop goes on.
+    // Form: no range has the next index, since the run that is written says how far the loop goes on. The whole slice and
+    // an index, since a block reads the sigma above it.
     fn fill_row(self, row: BlockRow, sigmas: &mut [f32], o: usize)
         requires { RowFits self.groups.frame.frame self.groups.table.now row × (o + row.across ≤ length sigmas.old) }
         ensures { sigmas.new ≡ fill sigmas.old o row.across
@@ -153,6 +159,7 @@ impl<'a> Grids<'a> {
 }
 
 // Writes the sigma of each block of the filter region, row of blocks by row (Specification 7.9).
+// Form: `on` is C's flag, and a number but 0 and 1 is refused after most other checks, so it is no bool before.
 pub fn block_sigmas(
     on: u32,
     frame: Frame,

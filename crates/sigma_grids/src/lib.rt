@@ -20,6 +20,7 @@ pub const PRESENT: u32 = 1;
 const MAX_TABLE: usize = 768;
 
 // The sides of a group's grid, in cells.
+// Form: a `Size` is that of a picture, in samples; `Place`, `Split` and the answers with two numbers have no sides.
 #[derive(Clone, Copy)]
 pub struct Grid {
     pub width: u32,
@@ -27,6 +28,7 @@ pub struct Grid {
 }
 
 // A number of the table, 0 past its end.
+// Form: `replay::at` reads 64-bit numbers of a line of text.
 fn number_at(table: &[u32], i: usize) -> u32
     ensures { result ≡ get_or table.now i 0 }
 {

@@ -13,6 +13,7 @@ use refusals::Refusal;
 const MAX_BLOCK: u32 = 131_072;
 
 // A filter region whose left and top are multiples of 8. Left and top are in blocks, width and height in samples.
+// Form: C's struct. Its left and top are numbers of blocks, those of `Region` signed samples; a `Run` of sigmas is part of a row.
 #[repr(C)]
 #[derive(Clone, Copy)]
 pub struct Blocks {

@@ -14,6 +14,8 @@ use frame::{Frame, SoundFrame};
 use groups::Groups;
 use refusals::Refusal;
 
+// The number of sigmas.
+// Form: `on` chooses a number and no work.
 fn sigma_count(on: bool, region: SoundBlocks) -> usize
     ensures { result ≡ sigma_count on region.blocks }
 {
@@ -24,6 +26,7 @@ fn sigma_count(on: bool, region: SoundBlocks) -> usize
 }
 
 // Whether the number of sigmas is wrong; false if the flag is out of range.
+// Form: C's flag, a number; the sigmas' length alone, as no sigma is read.
 fn bad_count(on: u32, region: SoundBlocks, sigmas: usize) -> bool
     ensures { result ≡ (flag_fits on && not (eqb sigmas (sigma_count (flag_set on) region.blocks))) }
 {
@@ -31,6 +34,7 @@ fn bad_count(on: u32, region: SoundBlocks, sigmas: usize) -> bool
 }
 
 // Whether the grids slice has the wrong length; false if a presence is out of range.
+// Form: a length, as no cell is read.
 fn bad_grids(faulty: bool, cells: usize, len: usize) -> bool
     ensures { result ≡ (not faulty && not (eqb len cells)) }
 {
@@ -38,6 +42,7 @@ fn bad_grids(faulty: bool, cells: usize, len: usize) -> bool
 }
 
 // The groups of a frame in range, or what `block_sigmas` refuses for them and a filter region in range.
+// Form: C's flag, a number; the sigmas' length alone, as no sigma is read.
 fn checked_groups<'a>(
     on: u32,
     frame: SoundFrame,
@@ -72,6 +77,7 @@ fn checked_groups<'a>(
 
 // The groups and the filter region of an accepted call, or what `block_sigmas` refuses, for a slice of `sigmas_len`
 // sigmas.
+// Form: the sigmas' length alone, as no sigma is read.
 pub fn checked<'a>(
     on: u32,
     frame: Frame,
@@ -99,6 +105,7 @@ pub fn checked<'a>(
 }
 
 // The same with no value.
+// Form: the sigmas' length alone, as no sigma is read.
 pub fn check(
     on: u32,
     frame: Frame,
