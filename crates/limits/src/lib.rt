@@ -3,22 +3,21 @@
 
 ghost use Rattle.std.specs.Prelude.{◌≡◌, min};
 
-// The longest side of a region or a frame, in samples.
-pub const MAX_SIDE: usize = 16_384;
+// Form: a value stands once, and has a second name as `usize`: sides of regions are `u32`, lengths and indices in planes
+// `usize`, and a cast at each use would be no plainer.
 
+// The longest side of a region or a frame, in samples.
 pub const MAX_SIDE_U32: u32 = 16_384;
 
-pub const MAX_SIDE_U64: u64 = 16_384;
+pub const MAX_SIDE: usize = MAX_SIDE_U32 as usize;
 
 // The largest area of a region, in samples.
 pub const MAX_AREA_U32: u32 = 16_777_216;
 
-pub const MAX_AREA_U64: u64 = 16_777_216;
-
 // Rows and columns of a block.
-pub const BLOCK: usize = 8;
-
 pub const BLOCK_U32: u32 = 8;
+
+pub const BLOCK: usize = BLOCK_U32 as usize;
 
 pub fn min(a: usize, b: usize) -> usize
     ensures { result ≡ min a b }

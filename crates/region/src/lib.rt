@@ -10,7 +10,7 @@ ghost use Rattle.region.specs.Measures.{bounds_fit, picture_fits, rectangle_fits
 ghost use Rattle.region.specs.Regions.{columns, rows, is_empty, inside, contains};
 ghost use Rattle.region.specs.Answers.{given_checks, pair_checks};
 
-use limits::MAX_AREA_U64;
+use limits::MAX_AREA_U32;
 use refusals::Refusal;
 use region_axis::span_fits;
 use region_interval::{Axis, Span, overlap};
@@ -75,7 +75,10 @@ impl Region {
     pub fn picture_fits(self) -> bool
         ensures { result ≡ picture_fits self }
     {
-        self.bounds_fit() && 1 <= self.width && 1 <= self.height && self.area() <= MAX_AREA_U64
+        self.bounds_fit()
+            && 1 <= self.width
+            && 1 <= self.height
+            && self.area() <= u64::from(MAX_AREA_U32)
     }
 
     // Whether the region is within the limits of a rectangle that a caller asks for: it may be empty.
@@ -83,7 +86,7 @@ impl Region {
     pub fn rectangle_fits(self) -> bool
         ensures { result ≡ rectangle_fits self }
     {
-        self.bounds_fit() && self.area() <= MAX_AREA_U64
+        self.bounds_fit() && self.area() <= u64::from(MAX_AREA_U32)
     }
 
     fn has_no_sample(self) -> bool

@@ -5,7 +5,7 @@
 ghost use Rattle.std.specs.Prelude.{◌≡◌, nat_abs, ◌-ℤ◌};
 ghost use Rattle.region_axis.specs.Measures.{corner_fits, span_fits, axis_of};
 
-use limits::MAX_SIDE_U64;
+use limits::MAX_SIDE_U32;
 use region_interval::{Axis, Span};
 
 const LOWEST_PLACE: i64 = -1_048_576;
@@ -24,7 +24,7 @@ fn corner_fits(x: i64) -> bool
 pub fn span_fits(s: Span) -> bool
     ensures { result ≡ span_fits s }
 {
-    corner_fits(s.start) && s.extent() <= MAX_SIDE_U64
+    corner_fits(s.start) && s.extent() <= u64::from(MAX_SIDE_U32)
 }
 
 // Start and length of a span within the limits.
