@@ -1,15 +1,7 @@
 -- From a boolean that a branch tests to the fact that it stands for. Assumes nothing.
-use mathlib.Core.Path.{◌≡◌, refl, sym}
-use mathlib.Core.Bool.{Bool, true, false, not}
+use mathlib.Core.Path.{◌≡◌, refl}
+use mathlib.Core.Bool.{Bool, true, false}
 use lib.Dec.{T}
-
-pub not-true : {x : Bool} → not x ≡ true → x ≡ false
-not-true {x = true} e = sym e
-not-true {x = false} e = refl
-
-pub not-false : {x : Bool} → not x ≡ false → x ≡ true
-not-false {x = true} e = refl
-not-false {x = false} e = sym e
 
 pub yes : {x : Bool} → x ≡ true → T x
 yes e = rw e tt

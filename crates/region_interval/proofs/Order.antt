@@ -9,8 +9,11 @@ use native.Mathlib.Omega.{arith}
 use lib.Dec.{T, ltb, leb→le, le→leb, lt→ltb}
 use borrow.Author.Tests.{ltb-true, ltb-false, lt-leb, le-leb}
 use lib.IntN.{ℤ, pos, negsuc, neg_ℤ, nat_abs, sub_ℕ, ◌+ℤ◌, ◌-ℤ◌}
-use lib.Signed.{le_z, lt_z, non_neg, mag}
+use lib.Signed.{le_z, lt_z, mag}
+use Rattle.std.specs.Int.{int_min, int_max}
 use Rattle.region_interval.specs.Integers.{least, greatest}
+use Rattle.region_interval.specs.Overlap.{meet}
+use Rattle.region_interval.specs.declared.Span.{Span}
 
 abbrev pub above : ℤ → ℕ
 above (pos n) = n
@@ -86,10 +89,6 @@ pub size_is : (z : ℤ) → nat_abs z ≡ above z + below z
 size_is (pos n) = omega arith
 size_is (negsuc n) = omega arith
 
-pub not_negative_lem : (z : ℤ) → below z ≡ 0 → T (non_neg z)
-not_negative_lem (pos n) h = tt
-not_negative_lem (negsuc n) h = absurd (omega arith)
-
 -- b - a is not negative if a ≤ b
 pub not-negative-difference : (a b : ℤ) → above a + below b ≤ above b + below a → below (b -ℤ a) ≡ 0
 not-negative-difference a b h = ⊎_elim (λ (l : above (b -ℤ a) ≡ 0). omega (arith, difference-is b a)) (λ (r : below (b -ℤ a) ≡ 0). r) (one_side (b -ℤ a))
@@ -97,13 +96,6 @@ not-negative-difference a b h = ⊎_elim (λ (l : above (b -ℤ a) ≡ 0). omega
 -- x is |x - a| above a if a ≤ x
 pub distance_is : (a x : ℤ) → T (le_z a x) → above a + below x + nat_abs (x -ℤ a) ≡ above x + below a
 distance_is a x h = let p = le-to a x h in omega (arith, p, size_is (x -ℤ a), difference-is x a, not-negative-difference a x p)
-
--- |a - b| is |b - a|
-pub same_size : (a b : ℤ) → nat_abs (a -ℤ b) ≡ nat_abs (b -ℤ a)
-same_size a b =
-    let e : a -ℤ b ≡ neg_ℤ (b -ℤ a) = eq_of (a -ℤ b) (neg_ℤ (b -ℤ a)) (omega (arith, difference-is a b, difference-is b a, neg-above (b -ℤ a), neg-below (b -ℤ a))) in
-    let s : nat_abs (a -ℤ b) ≡ nat_abs (neg_ℤ (b -ℤ a)) = ap nat_abs e in
-    omega (arith, size_is (neg_ℤ (b -ℤ a)), size_is (b -ℤ a), neg-above (b -ℤ a), neg-below (b -ℤ a))
 
 -- ---- minimum and maximum
 
@@ -119,20 +111,6 @@ greatest-left a b e = rw e
 pub greatest-right : (a b : ℤ) → le_z a b ≡ true → greatest a b ≡ b
 greatest-right a b e = rw e
 
-pub mag-least : (a b : ℤ) (n : ℕ) → mag a < n → mag b < n → mag (least a b) < n
-mag-least a b n h k = go (le_z a b) refl
-  where
-    go : (x : Bool) → le_z a b ≡ x → mag (least a b) < n
-    go true e = rw e h
-    go false e = rw e k
-
-pub mag-greatest : (a b : ℤ) (n : ℕ) → mag a < n → mag b < n → mag (greatest a b) < n
-mag-greatest a b n h k = go (le_z a b) refl
-  where
-    go : (x : Bool) → le_z a b ≡ x → mag (greatest a b) < n
-    go true e = rw e k
-    go false e = rw e h
-
 -- ---- less than, and its negation
 
 pub lt_not_le : (a b : ℤ) → lt_z a b ≡ true → le_z b a ≡ false
@@ -146,6 +124,25 @@ not-lt-le (pos a) (pos b) e = le-leb b a (ltb-false a b e)
 not-lt-le (pos a) (negsuc b) e = refl
 not-lt-le (negsuc a) (pos b) e = sym e
 not-lt-le (negsuc a) (negsuc b) e = le-leb a b (ltb-false b a e)
+
+-- the intersection by the library's maximum and minimum
+module _ (a b : ℤ) where
+  max_is : int_max a b ≡ greatest a b
+  max_is = go (lt_z b a) refl
+    where
+      go : (x : Bool) → lt_z b a ≡ x → int_max a b ≡ greatest a b
+      go true e = rw (e, lt_not_le b a e) refl
+      go false e = rw (e, not-lt-le b a e) refl
+
+  min_is : int_min a b ≡ least a b
+  min_is = go (lt_z b a) refl
+    where
+      go : (x : Bool) → lt_z b a ≡ x → int_min a b ≡ least a b
+      go true e = rw (e, lt_not_le b a e) refl
+      go false e = rw (e, not-lt-le b a e) refl
+
+pub meet_of : (a b : Span) (x y : ℤ) → x ≡ int_max a.start b.start → y ≡ int_min a.end b.end → ◌≡◌ {A = Span} (record { start = x; end = y }) (meet a b)
+meet_of a b x y e f = rw (e, f, max_is a.start b.start, min_is a.end b.end) refl
 
 -- ---- bounds on `mag` (z, or -1 - z if z is negative) of sums and negations
 
@@ -211,22 +208,6 @@ module _ (a b : ℤ) where
 -- e - s is at most b - a if a ≤ s ≤ e ≤ b
 pub between : (a s e b : ℤ) → T (le_z a s) → T (le_z s e) → T (le_z e b) → nat_abs (e -ℤ s) ≤ nat_abs (b -ℤ a)
 between a s e b h k l = omega (arith, le-to a s h, le-to e b l, distance_is s e k, distance_is a b (le_trans a s b h (le_trans s e b k l)))
-
-pub mag-side : (z : ℤ) → mag z ≤ above z + below z
-mag-side (pos n) = omega arith
-mag-side (negsuc n) = omega arith
-
-pub side-mag : (z : ℤ) → above z + below z ≤ mag z + 1
-side-mag (pos n) = omega arith
-side-mag (negsuc n) = omega arith
-
-pub above-mag : (z : ℤ) → above z ≤ mag z
-above-mag (pos n) = omega arith
-above-mag (negsuc n) = omega arith
-
-pub below-mag : (z : ℤ) → below z ≤ mag z + 1
-below-mag (pos n) = omega arith
-below-mag (negsuc n) = omega arith
 
 pub lt-to : (a b : ℤ) → T (lt_z a b) → above a + below b < above b + below a
 lt-to a b t = not-le b a (lt_not_le a b (true_of (lt_z a b) t))

@@ -3,7 +3,7 @@
 
 pub mod overlap;
 
-ghost use Rattle.std.specs.Prelude.{◌≡◌, ◌+◌, ◌≤◌, ◌<◌, ◌^◌, min, pos, neg_ℤ, ◌+ℤ◌, ◌*ℤ◌};
+ghost use Rattle.std.specs.Prelude.{◌≡◌, ◌+◌, ◌≤◌, ◌<◌, ◌^◌, min, pos, ◌+ℤ◌, ◌*ℤ◌};
 ghost use Rattle.std.specs.Int.Signed.{mag};
 ghost use Rattle.region_interval.specs.Integers.{floor_div, ceil_div};
 ghost use Rattle.region_interval.specs.Interval.{span_of, extent, moved, padded, reaching, shrunk, aligned};
@@ -36,37 +36,11 @@ pub const LARGEST_EXPONENT: u32 = 13;
 // A block is 2^3 samples wide.
 const BLOCK_EXPONENT: u32 = 3;
 
-fn wide(x: i32) -> i64
-    ensures { (result ≡ x) × (mag result < 0x8000_0000) }
-{
-    x as i64
-}
-
-fn length(n: u32) -> i64
-    ensures { (result ≡ pos n) × (mag result < 0x1_0000_0000) }
-{
-    n as i64
-}
-
-fn negated(x: i64) -> i64
-    requires { mag x < 0x10_0000_0000 }
-    ensures { (result ≡ neg_ℤ x) × (mag result ≤ mag x + 1) }
-{
-    -x
-}
-
-fn sum(a: i64, b: i64) -> i64
-    requires { (mag a < 0x8_0000_0000) × (mag b < 0x8_0000_0000) }
-    ensures { (result ≡ a +ℤ b) × (mag result ≤ mag a + mag b + 1) }
-{
-    a + b
-}
-
 // start + len
 fn end_of(start: i32, len: u32) -> i64
     ensures { (result ≡ start +ℤ pos len) × (mag result < 0x2_0000_0000) }
 {
-    sum(wide(start), length(len))
+    i64::from(start) + i64::from(len)
 }
 
 // x / 2^f, rounded toward minus infinity.
@@ -82,7 +56,7 @@ fn ceil_shift(x: i64, f: u32) -> i64
     requires { (f < 64) × (mag x < 0x8_0000_0000) }
     ensures { (result ≡ ceil_div x (2 ^ f)) × (mag result ≤ mag x + 2) }
 {
-    negated(floor_shift(negated(x), f))
+    -floor_shift(-x, f)
 }
 
 // q * 2^f
@@ -98,7 +72,7 @@ impl Axis {
         ensures { result ≡ span_of self.start self.len }
     {
         Span {
-            start: wide(self.start),
+            start: i64::from(self.start),
             end: end_of(self.start, self.len),
         }
     }
@@ -107,10 +81,10 @@ impl Axis {
     pub fn moved(self, d: i32) -> Span
         ensures { result ≡ moved d (span_of self.start self.len) }
     {
-        let by = wide(d);
+        let by = i64::from(d);
         Span {
-            start: sum(wide(self.start), by),
-            end: sum(end_of(self.start, self.len), by),
+            start: i64::from(self.start) + by,
+            end: end_of(self.start, self.len) + by,
         }
     }
 
@@ -118,10 +92,10 @@ impl Axis {
     pub fn padded(self, n: u32) -> Span
         ensures { result ≡ padded n (span_of self.start self.len) }
     {
-        let by = length(n);
+        let by = i64::from(n);
         Span {
-            start: sum(wide(self.start), negated(by)),
-            end: sum(end_of(self.start, self.len), by),
+            start: i64::from(self.start) - by,
+            end: end_of(self.start, self.len) + by,
         }
     }
 
@@ -129,9 +103,9 @@ impl Axis {
     pub fn reaching(self, n: u32) -> Span
         ensures { result ≡ reaching n 8 (span_of self.start self.len) }
     {
-        let by = length(n);
-        let from = sum(wide(self.start), negated(by));
-        let to = sum(end_of(self.start, self.len), by);
+        let by = i64::from(n);
+        let from = i64::from(self.start) - by;
+        let to = end_of(self.start, self.len) + by;
         Span {
             start: multiple(floor_shift(from, BLOCK_EXPONENT), BLOCK_EXPONENT),
             end: to,
@@ -144,7 +118,7 @@ impl Axis {
     {
         let by = f.min(63);
         Span {
-            start: floor_shift(wide(self.start), by),
+            start: floor_shift(i64::from(self.start), by),
             end: ceil_shift(end_of(self.start, self.len), by),
         }
     }
@@ -155,7 +129,7 @@ impl Axis {
     {
         let by = f.min(LARGEST_EXPONENT);
         Span {
-            start: multiple(floor_shift(wide(self.start), by), by),
+            start: multiple(floor_shift(i64::from(self.start), by), by),
             end: multiple(ceil_shift(end_of(self.start, self.len), by), by),
         }
     }

@@ -1,0 +1,6 @@
+-- `moved` meets its contract. Assumes nothing.
+use Rattle.std.proofs.Common.{rules}
+use Rattle.region_interval.proofs.Axis.moved.Goals as goal
+
+pub returns : goal.returns
+returns c = search rules
