@@ -6,7 +6,7 @@ use Rattle.refusals.specs.Numbers.{out_of_limits}
 use Rattle.refusals.specs.Checks.{first_of}
 use Rattle.region.specs.Measures.{bounds_fit}
 use Rattle.region.specs.declared.Region.{Region}
-use Rattle.region.specs.Answers.{given_checks, pair_checks}
+use Rattle.region.specs.Answers.{given_checks}
 
 -- ---- laws: the number, by the first check that applies
 module _ (r : Region) where
@@ -22,13 +22,3 @@ module _ (r : Region) where
 
   pub given_holds : bounds_fit r ≡ true → first_of (given_checks r) ≡ 0
   given_holds e = rw e
-
-module _ (a b : Region) where
-  pub pair-first : bounds_fit a ≡ false → first_of (pair_checks a b) ≡ out_of_limits
-  pair-first e = rw e
-
-  pub pair-second : bounds_fit a ≡ true → bounds_fit b ≡ false → first_of (pair_checks a b) ≡ out_of_limits
-  pair-second e f = rw (e, f)
-
-  pub pair-holds : bounds_fit a ≡ true → bounds_fit b ≡ true → first_of (pair_checks a b) ≡ 0
-  pair-holds e f = rw (e, f)

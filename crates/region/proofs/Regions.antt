@@ -8,16 +8,10 @@ use lib.Signed.{le_z}
 use Rattle.region_interval.specs.Overlap.{covers, In}
 use Rattle.region_interval.proofs.Laws.{covers-start}
 use Rattle.region_interval.proofs.Positions.{nth_in, offset-below, offsets-add, in-or-not, covers-itself, in-covering, part-fits}
-use Rattle.region_axis.proofs.Laws.{extent-back}
 use Rattle.region.specs.declared.Region.{Region}
-use Rattle.region.specs.Regions.{columns, rows, region_of, inside, Holds}
+use Rattle.region.specs.Regions.{columns, rows, inside, Holds}
 
 -- ---- one region
-
--- the region made of a region's columns and rows is that region
-pub region-back : (r : Region) → region_of (columns r) (rows r) ≡ r
-unfolding region_of
-region-back r = rw (extent-back r.left r.width, extent-back r.top r.height)
 
 -- the position at column x and row y
 pub nth-holds : (r : Region) (x y : ℕ) → x < r.width → y < r.height → Holds r (r.left +ℤ pos x) (r.top +ℤ pos y)

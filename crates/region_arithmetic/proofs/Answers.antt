@@ -5,44 +5,27 @@ use Rattle.refusals.specs.Refusals.{IsOutcome}
 use Rattle.refusals.specs.declared.Refusal.{Refusal}
 use Rattle.region.proofs.Answers.{given_passed}
 use mathlib.Core.Bool.{Bool, true, false}
-use Rattle.refusals.specs.Numbers.{out_of_limits, out_of_range}
 use Rattle.refusals.specs.Checks.{applies, first_of}
-use Rattle.refusals.proofs.Rows.{found, after, first-number, none, keep, drop, same_number}
+use Rattle.refusals.proofs.Rows.{none, keep, drop, same_number}
 use Rattle.region.specs.Measures.{bounds_fit}
 use Rattle.region.specs.Answers.{measured_check, given_checks}
 use Rattle.region.specs.declared.Region.{Region}
-use Rattle.region_arithmetic.specs.Answers.{made_check, setting_check, made_checks, setting_checks, region_number}
+use Rattle.region_arithmetic.specs.Answers.{made_checks, setting_checks, region_number}
 
 -- ---- rows
-
-too_large : (r : Region) → bounds_fit r ≡ false → applies (measured_check r) ≡ true
-too_large r e = rw e
 
 in-limits : (r : Region) → bounds_fit r ≡ true → applies (measured_check r) ≡ false
 in-limits r e = rw e
 
 -- ---- laws: the number, by the first check that applies
 module _ (r made : Region) where
-  pub result-fails : bounds_fit r ≡ false → first_of (made_checks r made) ≡ out_of_limits
-  result-fails e = first-number (made_checks r made) (measured_check r) (search (found, after, too_large) depth 20)
-
   pub result_checked : bounds_fit r ≡ true → first_of (made_checks r made) ≡ region_number made
   unfolding region_number
   result_checked e = same_number (made_checks r made) (given_checks made) (search (none, keep, drop, in-limits) depth 20)
 
-  module _ (sound : Bool) where
-    pub setting-given : bounds_fit r ≡ false → first_of (setting_checks r sound made) ≡ out_of_limits
-    setting-given e = first-number (setting_checks r sound made) (measured_check r) (search (found, after, too_large) depth 20)
-
-    pub setting-fails : bounds_fit r ≡ true → sound ≡ false → first_of (setting_checks r sound made) ≡ out_of_range
-    setting-fails e f =
-        let unjudged : applies (made_check sound made) ≡ false = rw f in
-        let fails : applies (setting_check sound) ≡ true = rw f in
-        first-number (setting_checks r sound made) (setting_check sound) (search (found, after, in-limits, unjudged, fails) depth 20)
-
-    pub setting_checked : bounds_fit r ≡ true → sound ≡ true → first_of (setting_checks r sound made) ≡ region_number made
-    unfolding region_number
-    setting_checked e f = rw f (same_number (setting_checks r true made) (given_checks made) (search (none, keep, drop, in-limits, refl) depth 20))
+  pub setting_checked : (sound : Bool) → bounds_fit r ≡ true → sound ≡ true → first_of (setting_checks r sound made) ≡ region_number made
+  unfolding region_number
+  setting_checked sound e f = rw f (same_number (setting_checks r true made) (given_checks made) (search (none, keep, drop, in-limits, refl) depth 20))
 
 -- ---- what a call returns that has checked its arguments and its setting
 

@@ -7,7 +7,7 @@ use borrow.Author.Tests.{le-leb}
 use lib.Dec.{T, leb, leb→le, le→leb}
 use Rattle.std.specs.Prelude.{Option, Some, None, FitsSigned}
 use mir.Syntax.{w32}
-use lib.Ieee.Fits.{and_l, and_r, and_i}
+use lib.Ieee.Fits.{and_l, and_r}
 use lib.IntN.{ℤ, pos, negsuc, ◌+ℤ◌}
 use lib.Signed.{le_z, mag}
 use Rattle.region_interval.proofs.Order.{above, below, sum_is, eq_of, distance_is}
@@ -41,10 +41,6 @@ pub bounds-extent : (s : Span) → T (span_fits s) → extent s ≤ 16384
 unfolding span_fits
 bounds-extent s t = side-size (extent s) (and_r (corner_fits s.start) (side_fits (extent s)) t)
 
-pub bounds_of : (s : Span) → T (corner_fits s.start) → extent s ≤ 16384 → T (span_fits s)
-unfolding span_fits
-bounds_of s p h = and_i (corner_fits s.start) (side_fits (extent s)) p (side-of (extent s) h)
-
 -- ---- the span of a start and a length
 
 pub extent-back : (z : ℤ) (n : ℕ) → extent (span_of z n) ≡ n
@@ -55,10 +51,6 @@ extent-back z n = nth-offset z n
 pub axis-yes : (s : Span) → span_fits s ≡ true → axis_of s ≡ Some (record { start = s.start; len = extent s })
 unfolding axis_of
 axis-yes s e = rw e
-
-pub axis-no : (s : Span) → span_fits s ≡ false → axis_of s ≡ None
-unfolding axis_of
-axis-no s e = rw e
 
 pub axis-in : (s : Span) → corner_fits s.start ≡ true → extent s ≤ 16384 → axis_of s ≡ Some (record { start = s.start; len = extent s })
 unfolding span_fits side_fits

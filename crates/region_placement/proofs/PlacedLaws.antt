@@ -13,18 +13,8 @@ use Rattle.region.specs.declared.Region.{Region}
 use Rattle.region_placement.specs.Placed.{picture_check, inside_check, placed_checks}
 
 -- ---- laws: the number, by the first check that applies
-module _ (image filter : Region) where
-  pub placed-image : picture_fits image ≡ false → first_of (placed_checks image filter) ≡ out_of_limits
-  placed-image e = rw e
-
-  pub placed-filter : picture_fits image ≡ true → picture_fits filter ≡ false → first_of (placed_checks image filter) ≡ out_of_limits
-  placed-filter e f = rw (e, f)
-
-  pub placed-outside : picture_fits image ≡ true → picture_fits filter ≡ true → inside image filter ≡ false → first_of (placed_checks image filter) ≡ not_inside
-  placed-outside e f g = rw (e, f, g)
-
-  pub placed-inside : picture_fits image ≡ true → picture_fits filter ≡ true → inside image filter ≡ true → first_of (placed_checks image filter) ≡ 0
-  placed-inside e f g = rw (e, f, g)
+pub placed-inside : (image filter : Region) → picture_fits image ≡ true → picture_fits filter ≡ true → inside image filter ≡ true → first_of (placed_checks image filter) ≡ 0
+placed-inside image filter e f g = rw (e, f, g)
 
 -- whether none applies
 pub placed_flag : (image filter : Region) → eqb (first_of (placed_checks image filter)) 0 ≡ ((picture_fits image && picture_fits filter) && inside image filter)

@@ -1,7 +1,7 @@
 -- The position of a filter region in an image region (Specification 3.1, numbers 4 and 5): its table of checks, and the place if none applies.
 use Rattle.std.specs.Prelude.{◌&&◌, not, List, [], ◌∷◌, nat_abs, ◌-ℤ◌}
 use Rattle.refusals.specs.Numbers.{out_of_limits, not_inside}
-use Rattle.refusals.specs.Checks.{Check, always, first_of}
+use Rattle.refusals.specs.Checks.{Check, always}
 use Rattle.region.specs.Measures.{picture_fits}
 use Rattle.region.specs.Regions.{inside}
 use Rattle.region.specs.declared.Region.{Region}
