@@ -82,12 +82,7 @@ fn common(a: Region, b: Region) -> Result<Region, Refusal>
     let x = meet(a.columns().span(), b.columns().span());
     let y = meet(a.rows().span(), b.rows().span());
     if vacant(x) || vacant(y) {
-        return Ok(Region {
-            left: 0,
-            top: 0,
-            width: 0,
-            height: 0,
-        });
+        return Ok(Region::default());
     }
     check_made(x, y)
 }
