@@ -1,5 +1,5 @@
 -- When a result is refused, read off the tables of checks. Assumes nothing.
-use mathlib.Core.Path.{◌≡◌, refl, sym, ◌∙◌}
+use mathlib.Core.Path.{◌≡◌, sym, ◌∙◌}
 use Rattle.std.specs.Prelude.{Result}
 use Rattle.refusals.specs.Refusals.{IsOutcome}
 use Rattle.refusals.specs.declared.Refusal.{Refusal}
@@ -25,7 +25,7 @@ module _ (r made : Region) where
 
   pub setting_checked : (sound : Bool) → bounds_fit r ≡ true → sound ≡ true → first_of (setting_checks r sound made) ≡ region_number made
   unfolding region_number
-  setting_checked sound e f = rw f (same_number (setting_checks r true made) (given_checks made) (search (none, keep, drop, in-limits, refl) depth 20))
+  setting_checked sound e f = rw f (same_number (setting_checks r true made) (given_checks made) (search (none, keep, drop, in-limits) depth 20))
 
 -- ---- what a call returns that has checked its arguments and its setting
 

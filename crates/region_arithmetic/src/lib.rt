@@ -39,6 +39,8 @@ impl From<Result<Region, Refusal>> for RegionAnswer {
 
 const LARGEST_FACTOR: u32 = 16;
 
+const LARGEST_ALIGNMENT: u32 = 1 << LARGEST_EXPONENT;
+
 // The region of these columns and rows if it is within the limits, or refusal 4.
 #[tactic(auto, using(region_axis::proofs::Laws::axis_none, region::proofs::Laws::bounds_spans), unfolding(crate::specs::Answers::region_number))]
 fn check_made(x: Span, y: Span) -> Result<Region, Refusal>
@@ -61,8 +63,7 @@ fn check_made(x: Span, y: Span) -> Result<Region, Refusal>
 fn is_alignment(grid_dim: u32) -> bool
     ensures { result ≡ is_alignment grid_dim }
 {
-    let exponent = grid_dim.trailing_zeros();
-    exponent <= LARGEST_EXPONENT && 1u32 << exponent == grid_dim
+    grid_dim.is_power_of_two() && grid_dim <= LARGEST_ALIGNMENT
 }
 
 // The region moved by (x, y), or refusal 4.

@@ -1,41 +1,52 @@
--- `is_alignment` meets its contract: a power of two is recognized by its trailing zero bits. Assumes nothing.
-use mathlib.Core.Path.{◌≡◌, refl, sym, ap, ◌∙◌}
-use mathlib.Core.Bool.{Bool, true, false}
-use Prim.Native.Nat.{ℕ, ◌^◌, ◌%◌, ◌<◌, ◌≤◌}
-use native.Mathlib.Nat.{one-mul, mod-eq_of_lt}
-use lib.Pow.{pow-lt}
-use borrow.Author.Tests.{eq-eqb, lt-leb}
+-- `is_alignment` meets its contract: the powers of two are the numbers with one bit set. Assumes nothing.
+use mathlib.Core.Path.{◌≡◌, refl, sym, ◌∙◌}
+use mathlib.Core.Bool.{Bool, true, false, false≢true}
+use Prim.Native.Nat.{ℕ, zero, suc, ◌+◌, ◌*◌, ◌/◌, ◌%◌, ◌^◌, ◌<◌, ◌≤◌}
+use native.Mathlib.Decide.{dec_lt, ℕ_discrete}
 use native.Mathlib.Omega.{arith}
-use lib.Count.{count_trailing_zeros}
-use lib.Dec.{eqb, eqb→eq}
-use Rattle.region_interval.proofs.Powers.{power-found, power_in}
+use lib.Pow.{pow_mono, pow-lt}
+use lib.Count.{ones, ones_step, ones-le, ones_cat}
+use lib.Dec.{leb, eqb→eq}
+use borrow.Author.Tests.{le-leb, lt-leb}
+use Rattle.std.proofs.lemmas.Nat.{zero_from_ones}
+use Rattle.region_interval.proofs.Powers.{power_in, power-out}
 use Rattle.region_interval.specs.Interval.{power_below}
 use Rattle.region_arithmetic.proofs.is_alignment.Goals as goal
 
-too_far : (d : ℕ) → 13 < count_trailing_zeros 32 d → false ≡ power_below 14 d
-too_far d h = go (power_below 14 d) refl
+one_bit : (b n : ℕ) → n ≤ b → ones n ≡ 1 → (k : ℕ) × (n ≡ 2 ^ k)
+one_bit zero n h e = absurd (omega (arith, ones-le 0 n (omega arith)))
+one_bit (suc b) n h e = go (λ l f. one_bit b (n / 2) l f) (ℕ_discrete (n % 2) 0)
   where
-    go : (x : Bool) → power_below 14 d ≡ x → false ≡ x
-    go true e = absurd (omega (arith, (power-found d e).0))
+    go : (n / 2 ≤ b → ones (n / 2) ≡ 1 → (k : ℕ) × (n / 2 ≡ 2 ^ k)) → Dec (n % 2 ≡ 0) → (k : ℕ) × (n ≡ 2 ^ k)
+    go half (yes z) = let s = ones_step n in let i = half (omega arith) (omega arith) in (suc i.0, omega (arith, i.1))
+    go half (no z) = let s = ones_step n in let i = zero_from_ones (n / 2) (omega arith) in (0, omega arith)
+
+bit_of-power : (k : ℕ) → ones (2 ^ k) ≡ 1
+unfolding ones
+bit_of-power k =
+    let e : 1 * 2 ^ k + 0 ≡ 2 ^ k = omega arith in
+    rw e at (ones_cat k 1 0 (omega (arith, pow_mono {i = 0} {j = k} (omega arith))))
+
+limited : (k : ℕ) → leb (2 ^ k) 8192 ≡ power_below 14 (2 ^ k)
+limited k = go (dec_lt k 14)
+  where
+    go : Dec (k < 14) → leb (2 ^ k) 8192 ≡ power_below 14 (2 ^ k)
+    go (yes l) = le-leb (2 ^ k) 8192 (pow_mono {i = k} {j = 13} (omega arith)) ∙ sym (power_in 14 k l)
+    go (no l) = lt-leb (2 ^ k) 8192 (omega (arith, pow_mono {i = 14} {j = k} (omega arith))) ∙ beyond (power_below 14 (2 ^ k)) refl
+      where
+        beyond : (x : Bool) → power_below 14 (2 ^ k) ≡ x → false ≡ x
+        beyond true e = let p = power-out 14 (2 ^ k) e in absurd (omega (arith, pow-lt {i = p.0} {j = k} (omega (arith, p.1)), p.2))
+        beyond false e = refl
+
+pub returns-then-is_power_of_two : goal.returns-then-is_power_of_two
+returns-then-is_power_of_two c =
+    let d = c.args.grid_dim in
+    let p = one_bit d d (omega arith) (eqb→eq (ones d) 1 (rw (sym c.if-is_power_of_two.ensures) tt)) in
+    rw p.1 (limited p.0)
+
+pub returns-else-is_power_of_two : goal.returns-else-is_power_of_two
+returns-else-is_power_of_two c = rw c.if-is_power_of_two.false (go (power_below 14 c.args.grid_dim) refl)
+  where
+    go : (x : Bool) → power_below 14 c.args.grid_dim ≡ x → false ≡ x
+    go true e = let p = power-out 14 c.args.grid_dim e in absurd (false≢true (rw (p.2, bit_of-power p.0) at c.if-is_power_of_two.ensures))
     go false e = refl
-
-decided : (d : ℕ) → count_trailing_zeros 32 d ≤ 13 → eqb (2 ^ count_trailing_zeros 32 d) d ≡ power_below 14 d
-decided d h = go (eqb (2 ^ count_trailing_zeros 32 d) d) refl (power_below 14 d) refl
-  where
-    go : (x : Bool) → eqb (2 ^ count_trailing_zeros 32 d) d ≡ x → (y : Bool) → power_below 14 d ≡ y → x ≡ y
-    go true e true f = refl
-    go false e false f = refl
-    go true e false f =
-        let z : 2 ^ count_trailing_zeros 32 d ≡ d = eqb→eq (2 ^ count_trailing_zeros 32 d) d (rw e tt) in
-        sym (power_in 14 (count_trailing_zeros 32 d) (omega arith)) ∙ ap (power_below 14) z ∙ f
-    go false e true f = sym e ∙ eq-eqb (2 ^ count_trailing_zeros 32 d) d (power-found d f).1
-
-pub returns-else-exponent-le-LARGEST_EXPONENT : goal.returns-else-exponent-le-LARGEST_EXPONENT
-returns-else-exponent-le-LARGEST_EXPONENT c = rw (lt-leb (count_trailing_zeros 32 c.args.grid_dim) 13 (omega (arith, c.if-exponent-le-LARGEST_EXPONENT.false))) (too_far c.args.grid_dim (omega (arith, c.if-exponent-le-LARGEST_EXPONENT.false)))
-
-pub returns-then-exponent-le-LARGEST_EXPONENT : goal.returns-then-exponent-le-LARGEST_EXPONENT
-returns-then-exponent-le-LARGEST_EXPONENT c =
-    let z = count_trailing_zeros 32 c.args.grid_dim in
-    let l : 2 ^ z < 2 ^ 14 = pow-lt {i = z} {j = 14} (omega (arith, c.if-exponent-le-LARGEST_EXPONENT.true)) in
-    let m : 2 ^ z % 4294967296 ≡ 2 ^ z = mod-eq_of_lt (omega arith) in
-    rw (one-mul (2 ^ z), m) (decided c.args.grid_dim (omega (arith, c.if-exponent-le-LARGEST_EXPONENT.true)))
