@@ -33,6 +33,7 @@ pub enum Refusal {
 // The number of a call that is not refused.
 pub const ACCEPTED: u32 = 0;
 
+// Form: the C interface answers numbers, and this is the step to them.
 impl From<Refusal> for u32 {
     ghost from_gives = { λ r n. n ≡ number r };
 
@@ -42,6 +43,7 @@ impl From<Refusal> for u32 {
 }
 
 // The number that a call answers on the C boundary: 0, or that of its refusal.
+// Form: the C interface answers numbers, and this is the step to them.
 pub fn number_of(answer: Result<(), Refusal>) -> u32
     ensures { result ≡ number_of answer }
 {
