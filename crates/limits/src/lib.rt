@@ -1,10 +1,9 @@
 // Limits of Specification 4.1, sizes that several crates use, and the minimum of two numbers; one per type.
+// Form: a limit's value stands once and has a second name as `usize`: sides of regions are `u32`, lengths and indices in
+// planes `usize`, and a cast at each use would be no plainer.
 #![tactic(auto)]
 
 ghost use Rattle.std.specs.Prelude.{◌≡◌, min};
-
-// Form: a value stands once, and has a second name as `usize`: sides of regions are `u32`, lengths and indices in planes
-// `usize`, and a cast at each use would be no plainer.
 
 // The longest side of a region or a frame, in samples.
 pub const MAX_SIDE_U32: u32 = 16_384;

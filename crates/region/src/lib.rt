@@ -16,6 +16,7 @@ use region_axis::span_fits;
 use region_interval::{Axis, Span, overlap};
 
 // A rectangle of samples: the column and row of its corner, and its sides. It is empty if a side is 0.
+// Form: `Blocks` of `sigma_groups` has fields of these names, but counts blocks of a frame, from 0.
 #[repr(C)]
 #[derive(Clone, Copy, Debug, Default, PartialEq, Eq)]
 pub struct Region {
@@ -25,6 +26,8 @@ pub struct Region {
     pub height: u32,
 }
 
+// Form: `columns` and `rows`, `right` and `bottom` differ in the fields that they read; one function for two of them
+// would be told the axis by a closure or an argument, and no caller has an axis at hand but by name.
 impl Region {
     pub fn columns(self) -> Axis
         ensures { result ≡ record { start = self.left; len = self.width } }

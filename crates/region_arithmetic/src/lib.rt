@@ -19,6 +19,7 @@ use region_interval::overlap::{meet, vacant};
 use region_interval::{LARGEST_EXPONENT, Span};
 
 // A region made from others; zeros in a refused call.
+// Form: C's answer, a number with zeros beside a refusal; Rust callers get the `Result`. `CutAnswer` has another name in C.
 #[repr(C)]
 #[derive(Clone, Copy)]
 pub struct RegionAnswer {
@@ -26,6 +27,8 @@ pub struct RegionAnswer {
     pub region: Region,
 }
 
+// The answer at the C boundary stands here, since definitions of the loupe name it.
+// Form: one impl for each of C's structs, since an impl that a macro writes is refused.
 impl From<Result<Region, Refusal>> for RegionAnswer {
     ghost from_gives = { λ made a. a ≡ record { number = number_of made; region = value_or zero_region made } };
 

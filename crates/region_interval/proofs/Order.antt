@@ -159,11 +159,6 @@ mag-add (pos a) (negsuc b) = omega (arith, mag-sub a (suc b))
 mag-add (negsuc a) (pos b) = omega (arith, mag-sub b (suc a))
 mag-add (negsuc a) (negsuc b) = omega arith
 
-pub mag-neg : (a : ℤ) → mag (neg_ℤ a) ≤ mag a + 1
-mag-neg (pos zero) = omega arith
-mag-neg (pos (suc a)) = omega arith
-mag-neg (negsuc a) = omega arith
-
 -- ---- the maximum is the least upper bound, the minimum the greatest lower bound
 
 pub le_refl : (a : ℤ) → T (le_z a a)
