@@ -5,7 +5,7 @@ use native.Mathlib.Nat.{mod-lt, mod-eq_of_lt, add-mod_right, mod-eq-sub-mod, add
 use native.Mathlib.Decide.{dec_lt, dec_le}
 use native.Mathlib.Omega.{arith}
 use borrow.Author.Tests.{lt-ltb, le-ltb}
-use lib.IntN.{ℤ, pos, negsuc, neg_ℤ, ◌+ℤ◌, ◌-ℤ◌, ◌*ℤ◌, sub_ℕ, +ℤ_comm, +ℤ_assoc, neg_ℤ-+ℤ}
+use lib.IntN.{ℤ, pos, negsuc, neg_ℤ, ◌+ℤ◌, ◌-ℤ◌, sub_ℕ, +ℤ_comm, +ℤ_assoc, neg_ℤ-+ℤ}
 use lib.Signed.{mag}
 use Rattle.mirror.specs.Mirror.{folded, mirror, modℤ}
 
@@ -16,18 +16,6 @@ pub modℤ-lt : (z : ℤ) (m : ℕ) → 0 < m → modℤ z m < m
 unfolding modℤ
 modℤ-lt (pos k) m p = mod-lt k p
 modℤ-lt (negsuc k) m p = omega (arith, mod-lt k p)
-
--- a number and its modulo differ by a multiple of the modulus
-pub modℤ-is : (z : ℤ) (m : ℕ) → 0 < m → (q : ℤ) × (z ≡ q *ℤ pos m +ℤ pos (modℤ z m))
-unfolding modℤ
-modℤ-is (pos k) m p = (pos (k / m), ap pos (sym (div-add-mod' k m)))
-modℤ-is (negsuc k) m p = (negsuc (k / m), rw whole (sym (below ∙ ap negsuc (omega (arith, mod-lt k p, div-add-mod' k m)))))
-  where
-    whole : suc (k / m) * m ≡ suc (k / m * m + (m - 1))
-    whole = omega (arith, suc-mul (k / m) m)
-
-    below : negsuc (k / m * m + (m - 1)) +ℤ pos (m - 1 - k % m) ≡ negsuc (k / m * m + (m - 1) - (m - 1 - k % m))
-    below = rw (lt-ltb (m - 1 - k % m) (suc (k / m * m + (m - 1))) (omega arith)) (ap negsuc (omega arith))
 
 -- adding the modulus changes nothing
 modℤ-more : (z : ℤ) (m : ℕ) → modℤ (z +ℤ pos m) m ≡ modℤ z m
@@ -183,10 +171,6 @@ mirror-odd n k p e =
     odd-run =
         let h : k / n ≡ suc (k / n / 2 * 2) = omega (arith, div-add-mod' (k / n) 2, mod-lt (k / n) {m = 2} (omega arith)) in
         ap (λ (q : ℕ). q * n) h ∙ suc-mul (k / n / 2 * 2) n ∙ ap (λ (t : ℕ). t + n) (mul_assoc (k / n / 2) 2 n)
-
--- x - back if it is not negative
-pub mirror-not-negative : (n x back : ℕ) → back ≤ x → mirror (pos (x - back)) n ≡ mirror (sub_ℕ x back) n
-mirror-not-negative n x back h = rw (le-ltb x back h)
 
 -- x - back if it is negative
 pub mirror-back : (n x back : ℕ) → x < back → mirror (pos (back - x - 1)) n ≡ mirror (sub_ℕ x back) n

@@ -18,6 +18,7 @@ const MIN_OFFSET: isize = -1_048_576;
 const MAX_OFFSET: isize = 1_048_576;
 
 // The mirrored place, counted from 0; 0 in a refused call.
+// Form: C's answer, a number with zeros beside a refusal; Rust callers get the `Result`. `LengthAnswer` has a file's length.
 #[repr(C)]
 #[derive(Clone, Copy)]
 pub struct MirrorAnswer {
@@ -25,6 +26,8 @@ pub struct MirrorAnswer {
     pub index: usize,
 }
 
+// The answer at the C boundary stands here, since `mirror_outcome` of specs/ names it.
+// Form: one impl for each of C's structs, since an impl that a macro writes is refused.
 impl From<Result<usize, Refusal>> for MirrorAnswer {
     ghost from_gives = { λ r a. a ≡ record { number = number_of r; index = value_or 0 r } };
 
@@ -37,6 +40,7 @@ impl From<Result<usize, Refusal>> for MirrorAnswer {
 }
 
 // The mirrored index of a number that is not negative. Runs of n indices ascend and descend alternately.
+// Form: `run` counts runs of indices and is no step.
 fn reflected(index: usize, n: usize) -> usize
     ensures { result ≡ mirror (pos index) n }
 {

@@ -1,6 +1,5 @@
 -- `mirror::reflected` meets its contract: inside the row by the identity, outside by the ascending and descending runs. Assumes nothing.
 use mathlib.Core.Path.{◌≡◌, sym}
-use native.Mathlib.Nat.{mod-lt}
 use native.Mathlib.Omega.{arith}
 use lib.IntN.{pos}
 use Rattle.mirror.proofs.Laws.{mirror-in, mirror-none, mirror-even, mirror-odd}
@@ -14,9 +13,6 @@ returns-then-n-eq0 c = sym (rw e (mirror-none (pos c.args.index)))
   where
     e : c.args.n ≡ 0
     e = omega arith
-
-pub overflow_sub-result-else-run-eq0 : goal.overflow_sub-result-else-run-eq0
-overflow_sub-result-else-run-eq0 c = omega (arith, mod-lt c.args.index {m = c.args.n} (omega arith))
 
 pub returns-then-run-eq0 : goal.returns-then-run-eq0
 returns-then-run-eq0 c = sym (mirror-even c.args.n c.args.index (omega arith) (omega arith))
