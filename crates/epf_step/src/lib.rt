@@ -11,6 +11,8 @@ ghost use Rattle.epf_step.specs.Bounds.{WeightBounded};
 pub const LAST_STEP: usize = 2;
 
 // NaN and negatives become 0.
+// Form: `f32::max` leaves open which of 0 and -0 it answers; the definition has 0 for -0.
+#[tactic(auto, unfolding(crate::specs::Steps::positive))]
 fn positive(x: f32) -> f32
     ensures { result ≡ positive_of x }
 {
@@ -33,6 +35,7 @@ pub fn slope(sigma: f32) -> f32
 }
 
 // Whether a block's samples are copied. NaN is not below the limit.
+#[tactic(auto, unfolding(crate::specs::Steps::copied))]
 pub fn copied(sigma: f32, limit: f32) -> bool
     ensures { result ≡ copied_of sigma limit }
 {
@@ -40,24 +43,20 @@ pub fn copied(sigma: f32, limit: f32) -> bool
 }
 
 // Whether a row or a column is at the border of a block.
+#[tactic(auto, unfolding(crate::specs::Steps::border))]
 pub fn at_border(p: usize) -> bool
     ensures { result ≡ border p }
 {
-    if p % 8 == 0 {
-        return true;
-    }
-    p % 8 == 7
+    p % 8 == 0 || p % 8 == 7
 }
 
 // The multiplier M of a sample (Specification 11.5); `edge` is `border_sad_mul`. `row` is the position's y, `col` is
 // counted from the filter region's left.
+#[tactic(auto, unfolding(crate::specs::Steps::multiplier))]
 pub fn multiplier(scale: f32, edge: f32, row: usize, col: usize) -> f32
     ensures { result ≡ multiplier_of scale edge row col }
 {
-    if at_border(row) {
-        return scale * edge;
-    }
-    if at_border(col) {
+    if at_border(row) || at_border(col) {
         return scale * edge;
     }
     scale
