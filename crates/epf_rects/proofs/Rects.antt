@@ -1,11 +1,11 @@
 -- When a rectangle fits, and the invariants of the loops that copy it. Assumes nothing.
 use mathlib.Core.Path.{◌≡◌, refl, ◌∙◌}
-use mathlib.Core.Bool.{true, false, ◌&&◌, and-false}
+use mathlib.Core.Bool.{true, ◌&&◌}
 use mathlib.Core.List.{List}
 use Prim.Native.Nat.{ℕ, ◌+◌, ◌*◌, ◌<◌, ◌≤◌}
 use native.Mathlib.Nat.{suc-mul, mul_assoc, mul-le-mul, mul-le-mul_right, add-mul}
 use native.Mathlib.Omega.{arith}
-use borrow.Author.Tests.{leb-true, le-leb, lt-leb, eq-eqb, ne_eqb}
+use borrow.Author.Tests.{leb-true, le-leb, eq-eqb}
 use lib.Dec.{leb}
 use lib.ListN.{length, get_or}
 use lib.Ieee.{Float, nan}
@@ -90,20 +90,8 @@ source-room l n q len f =
       lies = λ c r C R. rw (start-plane l q.x q.y _ _ c refl refl) ((plane-room l n c q len f C).rows-fit r R);
     }
 
--- ---- the code's tests
+-- ---- the code's test
 module _ (l : Layout) (n : ℕ) (q : Rect) (len : ℕ) where
-  pub no-set : set_fits l n len ≡ false → false ≡ rect_fits l n q len
-  no-set e = rw e
-
-  pub too_wide : l.width < q.x + q.cols → false ≡ rect_fits l n q len
-  too_wide h = simp (lt-leb (q.x + q.cols) l.width h, and-false)
-
-  pub too-high : l.height < q.y + q.rows → false ≡ rect_fits l n q len
-  too-high h = simp (lt-leb (q.y + q.rows) l.height h, and-false)
-
-  pub rows-decide : set_fits l n len ≡ true → q.x + q.cols ≤ l.width → q.y + q.rows ≤ l.height → leb 1 q.rows ≡ rect_fits l n q len
-  rows-decide e h k = rw (e, le-leb (q.x + q.cols) l.width h, le-leb (q.y + q.rows) l.height k)
-
   pub rect-facts : rect_fits l n q len ≡ true → RectFits l n q len
   rect-facts e =
       let lies = leb (q.y + q.rows) l.height && leb 1 q.rows in
@@ -130,14 +118,6 @@ module _ (l : Layout) (n : ℕ) (q : Rect) (len : ℕ) where
       )
 
 module _ (l : Layout) (n : ℕ) (q : Rect) (src d : List Float) where
-  pub not-copied : rect_fits l n q (length d) ≡ false → d ≡ copied_rect l n q src d
-  unfolding copied_rect
-  not-copied e = rw e
-
-  pub other_length : (length src ≡ length d → ⊥) → d ≡ copied_rect l n q src d
-  unfolding copied_rect
-  other_length h = simp (ne_eqb (length src) (length d) h, and-false)
-
   pub rect-copied : RectFits l n q (length d) → length src ≡ length d → copied_rect l n q src d ≡ rect_filled l n q (λ c i r. inner l src c (q.x + i) (q.y + r)) d
   unfolding copied_rect
   rect-copied f e = rw (rect-true l n q (length d) f, eq-eqb (length src) (length d) e)

@@ -1,7 +1,7 @@
 -- Three runs as a loop writes them, one sample in each plane at a time; rows of three such runs are a rectangle. Assumes nothing.
 use mathlib.Core.Path.{◌≡◌, refl, ap, ◌∙◌}
 use mathlib.Core.List.{List}
-use Prim.Native.Nat.{ℕ, zero, suc, ◌+◌, ◌*◌, ◌<◌, ◌≤◌}
+use Prim.Native.Nat.{ℕ, zero, suc, ◌+◌, ◌*◌, ◌<◌}
 use native.Mathlib.Nat.{add-mul, mul_assoc}
 use native.Mathlib.Numerals.{add-one}
 use native.Mathlib.Omega.{arith}
@@ -42,9 +42,6 @@ three-turn d a o plane n f x y z l e ex ey ez =
     let s2 : set d2 (o + n) (f 0 n) ≡ e2 = swap d1 (o + plane) n (f 1) (o + n) (f 0 n) (omega arith) in
     let s3 : set (fill e2 (o + 2 * plane) n (f 2)) (o + plane + n) (f 1 n) ≡ fill (set e2 (o + plane + n) (f 1 n)) (o + 2 * plane) n (f 2) = swap e2 (o + 2 * plane) n (f 2) (o + plane + n) (f 1 n) (omega arith) in
     rw (e, ex, ey, ez, add-one n, s1, s2, s3)
-
-pub three-end : (d a : List Float) (o plane i n : ℕ) (f : ℕ → ℕ → Float) → a ≡ three_fill d o plane i f → i ≤ n → n ≤ i → a ≡ three_fill d o plane n f
-three-end d a o plane i n f e p q = let z : i ≡ n = omega arith in rw (← z) e
 
 -- ---- as a row of three planes
 

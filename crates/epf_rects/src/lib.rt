@@ -9,6 +9,7 @@ ghost use Rattle.epf_rects.specs.Rects.{taken, Lies, rect_filled, rect_fits, Rec
 use planes::{Layout, copy_run, set_fits};
 
 // Columns x up to x + cols and rows y up to y + rows of the filter region.
+// Form: the fields are a rectangle in the filter region, those of `PlaneRegion` a plane's place and size among samples.
 #[derive(Clone, Copy, Debug, PartialEq, Eq)]
 pub struct Rect {
     pub x: usize,
@@ -20,29 +21,23 @@ pub struct Rect {
 impl Rect {
     // Whether the rectangle has at least one row and lies in the filter region, and `len` is the length of a set of n
     // planes.
+    // Form: `len` is a number and no slice, so that the test asks no more of its callers than it reads.
     pub fn fits(self, l: Layout, n: usize, len: usize) -> bool
         ensures { result ≡ rect_fits l n self len }
     {
-        if !set_fits(l, n, len) {
-            return false;
-        }
-        if l.width < self.cols {
-            return false;
-        }
-        if l.width - self.cols < self.x {
-            return false;
-        }
-        if l.height < self.rows {
-            return false;
-        }
-        if l.height - self.rows < self.y {
-            return false;
-        }
-        0 < self.rows
+        set_fits(l, n, len)
+            && self.cols <= l.width
+            && self.x <= l.width - self.cols
+            && self.rows <= l.height
+            && self.y <= l.height - self.rows
+            && 0 < self.rows
     }
 }
 
 // Copies rows of n samples that lie `stride` apart in `dst` and `step` apart in `src`.
+// Form: the rows lie apart in both lists, with other samples between them, so no slice is the rectangle; `n` counts columns
+// here and planes in `copy_rect`, so `src`, `dst` and `n` are no struct.
+#[tactic(auto, unfolding(planes::specs::Rect::rows_fill))]
 fn store_rows(
     dst: &mut [f32],
     at: usize,
@@ -64,6 +59,7 @@ fn store_rows(
 }
 
 // Copies a rectangle to each of n planes. In `src` the planes lie `plane` apart and the rows `step` apart.
+#[tactic(auto, unfolding(planes::specs::Rect::planes_fill))]
 fn store_planes(
     dst: &mut [f32],
     l: Layout,
@@ -93,6 +89,7 @@ fn store_planes(
 
 // Copies a rectangle of one set to the same positions of another. Does nothing if the rectangle or the sets do not
 // fit.
+#[tactic(auto, unfolding(crate::specs::Rects::copied_rect))]
 pub fn copy_rect(dst: &mut [f32], src: &[f32], l: Layout, n: usize, rect: Rect)
     ensures { dst.new ≡ copied_rect l n rect src.now dst.old }
 {

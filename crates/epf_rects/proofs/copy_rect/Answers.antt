@@ -3,20 +3,14 @@ use mathlib.Core.Path.{sym, ◌∙◌}
 use native.Mathlib.Omega.{arith}
 use lib.ListN.{length}
 use Rattle.epf_rects.specs.Rects.{RectFits}
-use Rattle.epf_rects.proofs.Rects.{SourceRoom, rect-facts, source-room, not-copied, other_length, rect-copied, copied-as}
+use Rattle.epf_rects.proofs.Rects.{SourceRoom, rect-facts, source-room, rect-copied, copied-as}
 use Rattle.epf_rects.proofs.copy_rect.Goals as goal
 
-pub returns-then-not-fits : goal.returns-then-not-fits
-returns-then-not-fits c = not-copied _ _ _ _ _ (sym c.fits.ensures ∙ c.if-not-fits.true)
-
-pub returns-then-src-dst : goal.returns-then-src-dst
-returns-then-src-dst c = other_length _ _ _ _ _ c.if-src-dst.true
-
-pub store_planes-requires : goal.store_planes-requires
-store_planes-requires c =
+pub store_planes-requires-clause-lies : goal.store_planes-requires-clause-lies
+store_planes-requires-clause-lies c =
     let fits : RectFits c.args.l c.args.n c.args.rect (length c.args.dst.now) = rect-facts c.args.l c.args.n c.args.rect (length c.args.dst.now) (sym c.fits.ensures ∙ c.if-not-fits.false) in
     let room : SourceRoom c.args.l c.args.n c.args.rect (length c.args.dst.now) = source-room c.args.l c.args.n c.args.rect _ fits in
-    record { rect_fits = fits; lies = (λ k r C R. omega (arith, room.lies k r C R, c.if-src-dst.false)) }
+    λ k r C R. omega (arith, room.lies k r C R, c.if-src-dst.false)
 
 pub returns : goal.returns
 returns c =

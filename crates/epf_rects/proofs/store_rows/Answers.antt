@@ -3,13 +3,8 @@ use Prim.Native.Nat.{◌+◌, ◌*◌, ◌≤◌}
 use native.Mathlib.Omega.{arith}
 use lib.ListN.{length}
 use Rattle.planes.proofs.Copy.{copied-run}
-use Rattle.planes.specs.Rect.{rows_fill}
 use Rattle.planes.proofs.Rect.{rows-turn}
 use Rattle.epf_rects.proofs.store_rows.Goals as goal
-
-pub loop-r-init : goal.loop-r-init
-unfolding rows_fill
-loop-r-init c = (omega arith, refl, refl)
 
 pub loop-r-preserved : goal.loop-r-preserved
 loop-r-preserved c =
