@@ -1,10 +1,10 @@
 -- The slopes that the loops store are those of the definition; loop invariants. Assumes nothing.
 use mathlib.Core.Path.{◌≡◌, refl, sym, ap, ◌∙◌}
-use mathlib.Core.Bool.{Bool, true, false, cond, and-false}
+use mathlib.Core.Bool.{Bool, true, false, cond}
 use mathlib.Core.List.{List}
 use Prim.Native.Nat.{ℕ, ◌+◌, ◌*◌, ◌/◌, ◌%◌, ◌<◌, ◌≤◌}
 use native.Mathlib.Omega.{arith}
-use borrow.Author.Tests.{le-leb, lt-leb}
+use borrow.Author.Tests.{le-leb}
 use lib.ListN.{length, get_or}
 use lib.Ieee.{Float, nan}
 use Rattle.planes.specs.Samples.{◌⊗◌, ◌⊘◌}
@@ -30,29 +30,12 @@ block-next sigmas d a b first at k scale edge s row ea es eb =
     let q : (k * 8 + i) / 8 ≡ k = omega arith in
     rw (es, q, multiplier-same scale edge row row i (k * 8 + i) refl (omega arith)))))
 
-pub blocks_end : (sigmas d a : List Float) (first at k n : ℕ) (scale edge : Float) (row : ℕ) → a ≡ fill d at (k * 8) (slope_at sigmas first scale edge row) → k ≤ n → n ≤ k
-    → a ≡ fill d at (n * 8) (slope_at sigmas first scale edge row)
-blocks_end sigmas d a first at k n scale edge row e p q = let z : k ≡ n = omega arith in rw (← z) e
-
--- ---- the code's tests
+-- ---- the slopes of a tile whose arguments fit
 module _ (sigmas : List Float) (first blocks : ℕ) (scale edge : Float) (d : List Float) where
-  pub many-blocks : 7 < blocks → d ≡ slopes_of sigmas first blocks scale edge d
-  unfolding slopes_of
-  many-blocks h = rw (lt-leb blocks 7 h)
-
-  pub few-sigmas : length sigmas < first + blocks → d ≡ slopes_of sigmas first blocks scale edge d
-  unfolding slopes_of
-  few-sigmas h = simp (lt-leb (first + blocks) (length sigmas) h, and-false)
-
   pub slopes-done : blocks ≤ 7 → first + blocks ≤ length sigmas
       → slopes_of sigmas first blocks scale edge d ≡ fill (fill d 0 (blocks * 8) (slope_at sigmas first scale edge 1)) 64 (blocks * 8) (slope_at sigmas first scale edge 0)
   unfolding slopes_of
   slopes-done h k = rw (le-leb blocks 7 h, le-leb (first + blocks) (length sigmas) k)
-
-  -- both kinds of slopes are stored
-  pub slopes-stored : (a b : List Float) → blocks ≤ 7 → first + blocks ≤ length sigmas → a ≡ fill d 0 (blocks * 8) (slope_at sigmas first scale edge 1)
-      → b ≡ fill a 64 (blocks * 8) (slope_at sigmas first scale edge 0) → b ≡ slopes_of sigmas first blocks scale edge d
-  slopes-stored a b h k ea eb = eb ∙ rw ea (sym (slopes-done h k))
 
 pub sloped : (sigmas d b : List Float) (first blocks : ℕ) (scale edge : Float) → blocks ≤ 7 → first + blocks ≤ length sigmas → length d ≡ 128
     → b ≡ slopes_of sigmas first blocks scale edge d → Sloped sigmas first blocks scale edge b

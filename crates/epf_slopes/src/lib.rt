@@ -54,6 +54,9 @@ fn block_slopes(
 }
 
 // Computes the slopes of all columns of the blocks, for rows like `row`.
+// Form: `slope_at` counts sigmas from the start of the list, and a slice of the tile's blocks would need a law that moves the
+// start. `scale` and `edge` are two settings of `epf_tiles::Step`, above this crate; a struct of both would serve it alone.
+#[tactic(auto, unfolding(planes::specs::Fill::fill))]
 fn row_slopes(
     slopes: &mut [f32; SLOPES],
     at: usize,
@@ -76,6 +79,7 @@ fn row_slopes(
 
 // Computes the slopes of at most seven blocks, whose sigmas start at index `first`; `edge` is `border_sad_mul`. Does
 // nothing if there are more blocks or sigmas are missing.
+#[tactic(auto, unfolding(crate::specs::Slopes::slopes_of))]
 pub fn tile_slopes(
     slopes: &mut [f32; SLOPES],
     sigmas: &[f32],
