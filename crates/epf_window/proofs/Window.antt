@@ -1,27 +1,29 @@
 -- When a window fits, and the invariants of the loops that load it. Assumes nothing.
 use mathlib.Core.Path.{◌≡◌, refl, ap, ◌∙◌}
-use mathlib.Core.Bool.{true, false, and-false}
 use mathlib.Core.List.{List}
 use Prim.Native.Nat.{ℕ, ◌+◌, ◌-◌, ◌*◌, ◌<◌, ◌≤◌}
 use native.Mathlib.Nat.{mul-le-mul_right, add-mul}
 use native.Mathlib.Omega.{arith}
-use borrow.Author.Tests.{le-ltb, lt-ltb, le-leb, lt-leb}
+use borrow.Author.Tests.{le-ltb, lt-ltb, le-leb}
 use lib.ListN.{length, get_or}
 use lib.IntN.{sub_ℕ}
 use lib.Ieee.{Float, nan}
 use Rattle.mirror.specs.Mirror.{mirror}
-use Rattle.mirror.proofs.Laws.{mirror-in}
+use Rattle.mirror.proofs.Laws.{mirror-in, mirror-lt}
 use Rattle.planes.specs.declared.Layout.{Layout}
 use Rattle.planes.specs.Sets.{of}
 use Rattle.planes.specs.Fill.{fill}
 use Rattle.planes.proofs.Fill.{fill-then}
 use Rattle.planes.specs.Rect.{rows_fill}
 use Rattle.planes.proofs.Rect.{planes-turn, rows-cong}
-use Rattle.planes.specs.Band.{inner, set_fits}
-use Rattle.planes.proofs.Room.{set-facts, set-true, region_start, region-index, plane-room}
+use Rattle.planes.specs.Band.{inner}
+use Rattle.planes.proofs.Room.{set-true, region_start, region-index, plane-room}
 use Rattle.epf_window.specs.declared.PlaneRegion.{PlaneRegion}
 use Rattle.epf_window.specs.declared.WindowPart.{WindowPart}
-use Rattle.epf_window.specs.Window.{row_sample, plane_sample, part_sample, window_sample, window_fits, window_filled, loaded, WindowFits, PlaneFits}
+use Rattle.epf_window.specs.Window.{row_sample, plane_sample, part_sample, window_sample, window_filled, loaded, WindowFits, PlaneFits}
+
+-- a mirrored index lies inside the row
+pub ruleset mirror_inside = (mirror-lt)
 
 -- ---- a row: mirrored left of the region, copied inside it, mirrored right of it
 module _ (src : List Float) (row x w : ℕ) where
@@ -90,52 +92,8 @@ plane-fits l n c len p f lt =
       cols-le = f.cols-le;
     }
 
--- ---- the code's tests
+-- ---- a window that fits
 module _ (l : Layout) (n : ℕ) (src : List Float) (x y top rows cols : ℕ) (win : List Float) where
-  abbrev Kept : Type 0
-  Kept = win ≡ loaded l n src x y top rows cols win
-
-  kept : window_fits l n (length src) x y top rows cols ≡ false → Kept
-  unfolding loaded
-  kept e = rw e
-
-  pub no_source : set_fits l n (length src) ≡ false → Kept
-  no_source e = kept (rw e)
-
-  pub no-column : l.width ≤ x → Kept
-  no-column h = kept (simp (le-ltb x l.width h, and-false))
-
-  pub no_row : l.height ≤ y → Kept
-  no_row h = kept (simp (le-ltb y l.height h, and-false))
-
-  pub no_top : 14 < top → Kept
-  no_top h = kept (simp (lt-leb top 14 h, and-false))
-
-  pub no_rows : 14 - top < rows → Kept
-  no_rows h = kept (simp (lt-leb rows (14 - top) h, and-false))
-
-  pub few-columns : cols < 4 → Kept
-  few-columns h = kept (simp (lt-leb 4 cols h, and-false))
-
-  pub many-columns : 64 < cols → Kept
-  many-columns h = kept (simp (lt-leb cols 64 h, and-false))
-
-  -- a set's length and a window's position
-  pub window-fits : set_fits l n (length src) ≡ true → x < l.width → y < l.height → top ≤ 14 → rows ≤ 14 - top → 4 ≤ cols → cols ≤ 64 → WindowFits l n (length src) x y top rows cols
-  window-fits e a b t r u v =
-      let s = set-facts l n (length src) e in
-      record {
-        layout = s.layout;
-        planes-le = s.planes;
-        source = s.size;
-        x_lt = a;
-        y-lt = b;
-        rows-le = omega arith;
-        cols-ge = u;
-        cols-le = v;
-      }
-
-  -- so the whole window is loaded
   pub window-loaded : WindowFits l n (length src) x y top rows cols → loaded l n src x y top rows cols win ≡ window_filled l n src x y top rows cols win
   unfolding loaded
   window-loaded f =

@@ -31,6 +31,8 @@ struct WindowPart {
 }
 
 // A region of a plane: row 0 starts at index `start`, and rows lie `stride` apart.
+// Form: rows lie apart in a set of planes, so a start and a stride stand where a slice would; `gabor_plane` has a like struct
+// with methods for rows that are not mirrored, and neither crate is below the other.
 #[derive(Clone, Copy)]
 struct PlaneRegion {
     start: usize,
@@ -40,6 +42,7 @@ struct PlaneRegion {
 }
 
 // Loads a part of a window's plane from a region; the part's first row starts at index `at`.
+#[tactic(auto, unfolding(planes::specs::Rect::rows_fill))]
 fn load_plane(
     win: &mut [f32; WINDOWS],
     at: usize,
@@ -64,6 +67,8 @@ fn load_plane(
 }
 
 // Loads a part of the first n planes.
+// Form: `src`, `l` and `n` are a set of planes in `load` too, but there any three, before they are tested.
+#[tactic(auto, unfolding(planes::specs::Rect::planes_fill))]
 fn load_planes(win: &mut [f32; WINDOWS], src: &[f32], l: Layout, n: usize, part: WindowPart)
     requires { WindowFits l n (length src.now) part.x part.y part.top part.rows part.cols }
     ensures { win.new ≡ window_filled l n src.now part.x part.y part.top
@@ -84,6 +89,7 @@ fn load_planes(win: &mut [f32; WINDOWS], src: &[f32], l: Layout, n: usize, part:
 
 // Loads rows `top` up to top + rows and the first `cols` columns of a window on column x and row y of the filter
 // region, in n planes. Does nothing if the arguments do not fit.
+#[tactic(auto, unfolding(crate::specs::Window::loaded))]
 pub fn load(
     win: &mut [f32; WINDOWS],
     src: &[f32],

@@ -1,16 +1,17 @@
 // Loads a row of a window from a row of a plane.
-ghost use Rattle.std.specs.Prelude.{◌≡◌, ℕ, ◌+◌, ◌-◌, ◌<◌, ◌≤◌, length};
+ghost use Rattle.std.specs.Prelude.{◌≡◌, ℕ, ◌+◌, ◌<◌, ◌≤◌, length};
 ghost use Rattle.planes.specs.Fill.{fill};
 ghost use Rattle.epf_sizes.specs.Sizes.{windows_length};
 ghost use Rattle.epf_window.specs.Window.{row_sample, RowFits};
 
 use crate::LEFT;
 use epf_sizes::WINDOWS;
-use limits::min;
 use mirror::mirrored;
 use planes::copy_run;
 
 // A row that a step reads: the plane, the index where the row starts, and its number of samples.
+// Form: `row_sample`, which the contracts name, counts from the plane's start; a slice of the row alone would need a law that
+// moves the start in each of the three runs of `copy`.
 #[derive(Clone, Copy)]
 pub(crate) struct EpfInputRow<'a> {
     pub(crate) plane: &'a [f32],
@@ -18,18 +19,9 @@ pub(crate) struct EpfInputRow<'a> {
     pub(crate) width: usize,
 }
 
-// a - b, or 0 if b is larger.
-fn saturating_sub(a: usize, b: usize) -> usize
-    ensures { result ≡ a - b }
-{
-    if b < a {
-        return a - b;
-    }
-    0
-}
-
 impl<'a> EpfInputRow<'a> {
     // Copies n samples from four columns left of x on, mirrored in the row.
+    #[tactic(auto, using(crate::proofs::Window::mirror_inside), unfolding(crate::specs::Window::row_sample, planes::specs::Fill::fill))]
     fn copy_mirrored(self, win: &mut [f32; WINDOWS], at: usize, x: usize, n: usize)
         requires { (at + n ≤ windows_length) × (self.place + self.width ≤ length self.plane.now) × (0 < self.width) × (x ≤ 65536) }
         ensures { win.new ≡ fill win.old at n
@@ -47,8 +39,8 @@ impl<'a> EpfInputRow<'a> {
         ensures { win.new ≡ fill win.old at cols
             (row_sample self.entry.plane.now self.entry.place x self.entry.width) }
     {
-        let low = saturating_sub(LEFT, x);
-        let high = min(self.width + LEFT - x, cols);
+        let low = LEFT.saturating_sub(x);
+        let high = (self.width + LEFT - x).min(cols);
         self.copy_mirrored(win, at, x, low);
         copy_run(
             win,

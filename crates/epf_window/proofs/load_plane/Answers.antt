@@ -7,17 +7,12 @@ use lib.Ieee.{Float}
 use Rattle.mirror.specs.Mirror.{mirror}
 use Rattle.mirror.proofs.Laws.{mirror-lt}
 use Rattle.planes.specs.Fill.{fill}
-use Rattle.planes.specs.Rect.{rows_fill}
 use Rattle.planes.proofs.Rect.{rows-turn}
 use Rattle.epf_window.specs.declared.PlaneRegion.{PlaneRegion}
 use Rattle.epf_window.specs.declared.WindowPart.{WindowPart}
 use Rattle.epf_window.specs.Window.{row_sample, plane_sample, part_sample, PlaneFits}
 use Rattle.epf_window.proofs.Window.{row_room}
 use Rattle.epf_window.proofs.load_plane.Goals as goal
-
-pub loop-i-init : goal.loop-i-init
-unfolding rows_fill
-loop-i-init c = (omega arith, refl)
 
 -- the row at the mirrored index lies inside the list
 fits : (at : ℕ) (r : PlaneRegion) (p : WindowPart) (len k : ℕ) (z : ℤ) → PlaneFits at r p len → k ≡ mirror z r.height → r.start + k * r.stride + r.width ≤ len

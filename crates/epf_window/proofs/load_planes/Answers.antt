@@ -1,12 +1,6 @@
-use mathlib.Core.Path.{refl}
 use native.Mathlib.Omega.{arith}
-use Rattle.planes.specs.Rect.{planes_fill}
 use Rattle.epf_window.proofs.Window.{plane-fits, plane-next}
 use Rattle.epf_window.proofs.load_planes.Goals as goal
-
-pub loop-c-init : goal.loop-c-init
-unfolding planes_fill
-loop-c-init c = (omega arith, refl)
 
 pub loop-c-preserved : goal.loop-c-preserved
 loop-c-preserved c = (omega arith, plane-next c.args.l c.args.src.now _ _ _ c.args.part _ c.loop-c.invariant.1 c.load_plane.ensures)
