@@ -1,6 +1,5 @@
 -- The fields hold the distances of every neighbour, and the invariants of the loops that fill them. Assumes nothing.
 use mathlib.Core.Path.{◌≡◌, refl, sym, ap, ◌∙◌}
-use mathlib.Core.Bool.{and-false}
 use mathlib.Core.List.{List, [], ◌∷◌, ◌++◌}
 use mathlib.Core.Logic.{inl, inr}
 use Prim.Native.Nat.{ℕ, zero, suc, ◌+◌, ◌-◌, ◌*◌, ◌<◌, ◌≤◌}
@@ -8,7 +7,7 @@ use native.Mathlib.Nat.{le_of_suc-le-suc}
 use native.Mathlib.Decide.{ℕ_discrete}
 use native.Mathlib.Numerals.{add-one}
 use native.Mathlib.Omega.{arith}
-use borrow.Author.Tests.{le-leb, lt-leb}
+use borrow.Author.Tests.{le-leb}
 use lib.ListN.{length, get_or, take}
 use lib.Ieee.{Float, nan}
 use Rattle.planes.specs.Samples.{◌⊕◌, ◌⊗◌, b0}
@@ -124,29 +123,8 @@ module _ (step : ℕ) (scales win : List Float) (by : ℕ) where
       → a ≡ fill d at n (λ i. channels_at step scales win by m (from + i))
   channel-end d z a at from n c m ez ea p q = let k : c ≡ m = omega arith in rw (← k) (run-anew d z a at n _ _ _ ez ea (λ i l e. refl))
 
--- one more field
-pub field-turn : (step : ℕ) (cs : List Scaled) (win : List Float) (rows : ℕ) (e a b : List Float) (h k : ℕ) → a ≡ fields_fill step cs win rows e h → k ≡ shift step h
-    → b ≡ fill a (h * 896 + (196 - k)) (rows * 64 + 188 - (196 - k)) (λ i. dist_at step cs win k (196 - k + i)) → b ≡ fields_fill step cs win rows e (h + 1)
-unfolding fields_fill
-field-turn step cs win rows e a b h k p q s = rw (add-one h) (s ∙ rw (p, q))
-
-pub field_end : (step : ℕ) (cs : List Scaled) (win : List Float) (rows : ℕ) (e a : List Float) (h k : ℕ) → a ≡ fields_fill step cs win rows e h → h ≤ k → k ≤ h → a ≡ fields_fill step cs win rows e k
-field_end step cs win rows e a h k p q r = let z : h ≡ k = omega arith in rw (← z) p
-
--- ---- the code's tests
+-- ---- the fields of a tile in range
 module _ (step n : ℕ) (scales win : List Float) (rows : ℕ) (e : List Float) where
-  pub many-planes : 3 < n → e ≡ distances_of step n scales win rows e
-  unfolding distances_of
-  many-planes h = rw (lt-leb n 3 h)
-
-  pub many-rows : 8 < rows → e ≡ distances_of step n scales win rows e
-  unfolding distances_of
-  many-rows h = simp (lt-leb rows 8 h, and-false)
-
-  pub no_rows : rows < 1 → e ≡ distances_of step n scales win rows e
-  unfolding distances_of
-  no_rows h = simp (lt-leb 1 rows h, and-false)
-
   pub distances-done : n ≤ 3 → 1 ≤ rows → rows ≤ 8 → distances_of step n scales win rows e ≡ fields_fill step (scaled n scales) win rows e (half step)
   unfolding distances_of
   distances-done p q r = rw (le-leb n 3 p, le-leb 1 rows q, le-leb rows 8 r)

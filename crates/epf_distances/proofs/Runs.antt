@@ -12,7 +12,9 @@ use Rattle.std.proofs.Common.{rules, length-append, length-drop}
 use Rattle.std.proofs.lemmas.List.{places, length-take-le}
 use Rattle.planes.specs.Fill.{fill}
 use Rattle.planes.proofs.Fill.{length-fill, fill-before, fill-after, fill-at}
-use Rattle.planes.proofs.Loop.{Written, written-more}
+
+-- samples after a run are the old ones
+pub ruleset later = (fill-after)
 
 -- an index of the run that is inside the list
 pub run_at : (d : List Float) (at n : ℕ) (f : ℕ → Float) (i : ℕ) → at + i < length d → i < n → get_or (fill d at n f) (at + i) nan ≡ f i
@@ -67,13 +69,6 @@ run-same d at n f h = ext_get_or nan d (fill d at n f) (sym (length-fill d at n 
             let e : k ≡ at + i = omega arith in
             let s : i < n = omega arith in
             rw e (sym (run_at d at n f i (omega arith) s ∙ h i s (omega arith)))
-
--- a loop iteration that computes each element from its old value
-pub run_more : {d dst : List Float} {at n i : ℕ} {v : Float} (g : Float → ℕ → Float) → Written d at n (λ (j : ℕ). g (get_or d (at + j) nan) j) dst i → i < n
-    → v ≡ g (get_or dst (at + i) nan) i → Written d at n (λ (j : ℕ). g (get_or d (at + j) nan) j) (set dst (at + i) v) (i + 1)
-run_more {d = d} {dst = dst} {at = at} {i = i} g w l e =
-    let same : get_or dst (at + i) nan ≡ get_or d (at + i) nan = rw w.held (fill-after d at i (λ (j : ℕ). g (get_or d (at + j) nan) j) (at + i) (omega arith)) in
-    written-more w l (e ∙ rw same)
 
 -- the part of d from index `at` replaced by a list of n samples
 pub part-filled : (d part : List Float) (at n : ℕ) (f : ℕ → Float) → at + n ≤ length d → length part ≡ n → ((k : ℕ) → k < n → get_or part k nan ≡ f k)

@@ -24,6 +24,7 @@ const PAST: usize = 188;
 const PAIRS: usize = 6;
 
 // The index in a window's plane where a neighbour's samples start, and where its distances start among the fields.
+// Form: two indices that hold in every tile's windows and fields, so no slices; other structs of two numbers have lengths or rows.
 #[derive(Clone, Copy, Debug, PartialEq, Eq)]
 pub struct Tap {
     pub index: usize,
@@ -31,6 +32,7 @@ pub struct Tap {
 }
 
 // A run of n distances: where it starts among the fields, and the index in a window's plane of its first sample.
+// Form: indices and no slices, since samples before and after the run are read too; `InnerRow` has three rows, not a run.
 #[derive(Clone, Copy)]
 struct Run {
     at: usize,
@@ -39,6 +41,7 @@ struct Run {
 }
 
 // The number of fields of a step.
+// Form: a step stays a number, since `distances` and `neighbour` promise a result for every one.
 fn half(step: usize) -> usize
     ensures { result ≡ half_of step }
 {
@@ -46,6 +49,7 @@ fn half(step: usize) -> usize
 }
 
 // How far apart in the window the two samples are that field h of step 0 compares.
+// Form: where `h` is a literal, as for each lane's taps, the compiler folds the match; a table would be a read.
 fn shift_of_first(h: usize) -> usize
     ensures { result ≡ shift_of 0 h }
 {
@@ -60,6 +64,7 @@ fn shift_of_first(h: usize) -> usize
 }
 
 // The same for every step.
+// Form: a step stays a number, as in `half`; the steps after 0 have two fields, for which one comparison is plainer than a match.
 fn shift(step: usize, h: usize) -> usize
     ensures { result ≡ shift_of step h }
 {
@@ -70,6 +75,7 @@ fn shift(step: usize, h: usize) -> usize
 }
 
 // The tap of the neighbour after the centre whose distances field h has.
+// Form: beside `backward_tap`, since the two read the field from different indices: the centre's, and the neighbour's own.
 fn forward_tap(step: usize, h: usize) -> Tap
     requires { h < pairs }
     ensures { result ≡ record {
@@ -99,6 +105,7 @@ fn backward_tap(step: usize, h: usize) -> Tap
 }
 
 // The field that has the distances of neighbour q.
+// Form: a step stays a number, as in `half`, and is asked here once.
 fn field_of(step: usize, q: usize) -> usize
     ensures { result ≡ field_of step q }
 {
@@ -115,6 +122,9 @@ fn field_of(step: usize, q: usize) -> usize
 }
 
 // The tap of neighbour q, in the order of the kernel offsets.
+// Form: a step stays a number, as in `half`. Each order of neighbours has its own test for the side of the centre, and with
+// literal arguments the compiler folds both.
+#[tactic(auto, unfolding(crate::specs::Taps::tap_of))]
 pub fn neighbour(step: usize, q: usize) -> Tap
     ensures { result ≡ tap_of step q }
 {
@@ -132,6 +142,9 @@ pub fn neighbour(step: usize, q: usize) -> Tap
 }
 
 // Absolute differences in plane c between the samples from index `from` on and those k after them.
+// Form: the planes of a window are one array, so a plane is its number; a type for a number below 3 would be made from the index
+// in each loop over planes, where the bound is known.
+#[tactic(auto, unfolding(planes::specs::Fill::fill, crate::specs::Seen::apart_by))]
 fn differences(
     d: &mut [f32; WINDOW_PLANE],
     win: &[f32; WINDOWS],
@@ -152,6 +165,8 @@ fn differences(
 }
 
 // The sum of the differences that a distance of step 0 or 1 has at index j, in that step's order.
+// Form: a step stays a number, as in `half`; as a const parameter it would move this test to `add_channel`, above the hot loop.
+#[tactic(auto, unfolding(crate::specs::Seen::nearby))]
 fn nearby(step: usize, d: &[f32; WINDOW_PLANE], j: usize) -> f32
     requires { (step < 2) × (stride ≤ j) × (j + stride < window_plane) }
     ensures { result ≡ nearby_of step (λ (p : ℕ). get_or d.now p nan) j }
@@ -163,6 +178,8 @@ fn nearby(step: usize, d: &[f32; WINDOW_PLANE], j: usize) -> f32
 }
 
 // Adds one channel's scaled sums of differences to n distances.
+// Form: `at` and `n` are a run's, without its `from` in `clear` and beside other bounds here, so no struct says all three premises.
+#[tactic(auto, using(crate::proofs::Runs::later), unfolding(planes::specs::Fill::fill))]
 fn add_nearby(
     fields: &mut [f32; FIELDS],
     at: usize,
@@ -184,6 +201,7 @@ fn add_nearby(
 }
 
 // The same for step 2, which compares single samples. It stands apart since it reads the window and stores no differences.
+#[tactic(auto, using(crate::proofs::Runs::later), unfolding(planes::specs::Fill::fill, crate::specs::Seen::apart_by, crate::specs::Seen::nearby))]
 fn add_single(
     fields: &mut [f32; FIELDS],
     at: usize,
@@ -208,6 +226,7 @@ fn add_single(
 }
 
 // Adds channel c to the distances of a run, between samples that lie k apart.
+// Form: a step stays a number, as in `half`, and is asked once per run and channel.
 fn add_channel(
     fields: &mut [f32; FIELDS],
     run: Run,
@@ -243,6 +262,8 @@ fn clear(fields: &mut [f32; FIELDS], at: usize, n: usize)
 }
 
 // Computes the distances of a run, between samples that lie k apart.
+// Form: `fields`, `win`, `step`, `scales` and `planes` are the parameters of `distances`, handed on twice; a struct of them would
+// be made there alone.
 fn field(
     fields: &mut [f32; FIELDS],
     run: Run,
@@ -264,6 +285,7 @@ fn field(
     }
 }
 
+#[tactic(auto, unfolding(crate::specs::Fields::fields_fill))]
 fn fill_fields(
     fields: &mut [f32; FIELDS],
     win: &[f32; WINDOWS],
@@ -292,6 +314,7 @@ fn fill_fields(
 
 // Computes the fields of a tile of 1 to 8 rows from windows of at most 3 planes. Does nothing if a count is out of
 // range.
+#[tactic(auto, unfolding(crate::specs::Fields::distances_of))]
 pub fn distances(
     fields: &mut [f32; FIELDS],
     win: &[f32; WINDOWS],

@@ -36,6 +36,7 @@ pub fn first_slope(row: usize) -> usize
 }
 
 // Computes the slopes of the eight columns of a block.
+#[tactic(auto, unfolding(planes::specs::Fill::fill))]
 fn block_slopes(
     slopes: &mut [f32; SLOPES],
     at: usize,

@@ -1,9 +1,0 @@
-use native.Mathlib.Omega.{arith}
-use Rattle.planes.proofs.Loop.{written_none, written-more}
-use Rattle.epf_slopes.proofs.block_slopes.Goals as goal
-
-pub loop-i-init : goal.loop-i-init
-loop-i-init c = written_none _ _ _ _
-
-pub loop-i-preserved : goal.loop-i-preserved
-loop-i-preserved c = written-more c.loop-i.invariant (omega arith) (rw c.multiplier.ensures)
