@@ -55,19 +55,22 @@ tap-is (suc s) (suc (suc (suc (suc q)))) h = absurd (omega arith)
 
 -- ---- in machine integers
 
-pub kernel-bounds : (s : ℕ) → (length (kernel s) ≤ 12) × (length (kernel s) % 4 ≡ 0)
+pub kernel-le : (s : ℕ) → length (kernel s) ≤ 12
 unfolding kernel
-kernel-bounds zero = (lit≤ tt, refl)
-kernel-bounds (suc s) = (lit≤ tt, refl)
+kernel-le zero = lit≤ tt
+kernel-le (suc s) = lit≤ tt
 
-pub record TapRoom (t : Tap) : Type 0 where
-  pub start-le : t.start ≤ 4676
-  pub index-ge : 68 ≤ t.index
-  pub index-le : t.index ≤ 324
+pub ruleset kernel_size = (kernel-le)
 
-pub tap-room : (step q : ℕ) (t : Tap) → q < length (kernel step) → t ≡ tap_of step q → TapRoom t
-tap-room step q t l e = let k = tap-is step q l in rw e (record { start-le = go k k.side; index-ge = k.index-ge; index-le = k.index-le })
+pub index-le : (step q : ℕ) → q < length (kernel step) → (tap_of step q).index ≤ 324
+index-le step q l = (tap-is step q l).index-le
+
+pub start-le : (step q : ℕ) → q < length (kernel step) → (tap_of step q).start ≤ 4676
+start-le step q l = go (tap-is step q l) (tap-is step q l).side
   where
     go : (k : TapIs step q (tap_of step q)) → OnSide step k.field (tap_of step q) → (tap_of step q).start ≤ 4676
     go k (inl s) = omega (arith, s.1, k.field_lt, half_le step)
     go k (inr s) = omega (arith, s.1, k.field_lt, half_le step)
+
+-- a tap lies inside its window and its field
+pub ruleset tap_room = (index-le, start-le)

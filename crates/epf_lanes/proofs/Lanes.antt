@@ -1,11 +1,10 @@
 -- A lane computed by four neighbours at a time is the lane of the definition; rows of lanes make a tile. Assumes nothing.
-use mathlib.Core.Path.{◌≡◌, refl, sym, ap, ◌∙◌}
-use mathlib.Core.Bool.{false, and-false}
+use mathlib.Core.Path.{◌≡◌, refl, ap, ◌∙◌}
 use mathlib.Core.List.{List}
 use Prim.Native.Nat.{ℕ, zero, suc, ◌+◌, ◌*◌, ◌%◌, ◌<◌, ◌≤◌}
 use native.Mathlib.Nat.{add-mul, mul_assoc, mul-le-mul, mul-le-mul_right}
 use native.Mathlib.Omega.{arith}
-use borrow.Author.Tests.{le-leb, lt-leb, eq-eqb, ne_eqb}
+use borrow.Author.Tests.{le-leb, eq-eqb, ne_eqb}
 use lib.ListN.{length, get_or}
 use lib.Ieee.{Float, nan}
 use Rattle.planes.specs.declared.Layout.{Layout}
@@ -14,7 +13,7 @@ use Rattle.planes.specs.Fill.{fill}
 use Rattle.planes.specs.Rect.{rows_fill}
 use Rattle.planes.proofs.Rect.{rows-turn}
 use Rattle.epf_rects.specs.declared.Rect.{Rect}
-use Rattle.epf_rects.specs.Rects.{rect_filled, rect_fits, RectFits}
+use Rattle.epf_rects.specs.Rects.{rect_filled, RectFits}
 use Rattle.epf_rects.specs.Three.{three_fill}
 use Rattle.epf_rects.proofs.Rects.{rect-true}
 use Rattle.epf_rects.proofs.Three.{rows_to, row_below}
@@ -24,7 +23,7 @@ use Rattle.epf_slopes.proofs.Slopes.{first-same}
 use Rattle.epf_distances.specs.Taps.{tap_of}
 use Rattle.epf_lanes.specs.declared.Four.{Four}
 use Rattle.epf_lanes.specs.declared.LaneWeights.{LaneWeights}
-use Rattle.epf_lanes.specs.Lanes.{weights_to, samples_to, weight_in, weight_of, sample_of, neighbour_of, lane_of, four_of, with_four, no_four, weights_of, sample_at, mix_of, row_of, tile_of, lanes_stored}
+use Rattle.epf_lanes.specs.Lanes.{weights_to, samples_to, weight_in, weight_of, sample_of, neighbour_of, lane_of, four_of, no_four, weights_of, sample_at, mix_of, row_of, tile_of, lanes_stored}
 use Rattle.epf_lanes.specs.Divisors.{LaneBounded}
 use Rattle.epf_lanes.proofs.Divisors.{lane-bounded}
 
@@ -46,6 +45,8 @@ four (suc s) h = four-neighbours s
 pub four-at-least : (step : ℕ) → 4 ≤ length (kernel step)
 four-at-least zero = omega (arith, twelve-neighbours)
 four-at-least (suc s) = omega (arith, four-neighbours s)
+
+pub ruleset kernel_lengths = (twelve, four-at-least)
 
 -- ---- four neighbours at a time
 
@@ -110,16 +111,6 @@ module _ (step : ℕ) (e : List Float) (slope : Float) (r i : ℕ) where
       let all : weights_to each 12 ≡ weights_to each (length (kernel step)) = rw (twelve step h) in
       (rw (eq-eqb step 0 h, eu, ev, ew, sum), rw (sum ∙ all) (lane-bounded step e slope r i))
 
--- ---- `mix`
-
-pub twelve-mixed : (step : ℕ) (win : List Float) (p : ℕ) (w : LaneWeights) (v x y z : Float) → step ≡ 0 → x ≡ with_four (get_or win (p + 196) nan) w.u (sample_at step win p) 0
-    → y ≡ with_four x w.v (sample_at step win p) 4 → z ≡ with_four y w.w (sample_at step win p) 8 → v ≡ z ⊘ w.sum → v ≡ mix_of step win p w
-twelve-mixed step win p w v x y z h ex ey ez ev = ev ∙ rw (eq-eqb step 0 h, ez, ey, ex)
-
-pub four-mixed : (step : ℕ) (win : List Float) (p : ℕ) (w : LaneWeights) (v x : Float) → (step ≡ 0 → ⊥) → x ≡ with_four (get_or win (p + 196) nan) w.u (sample_at step win p) 0
-    → v ≡ x ⊘ w.sum → v ≡ mix_of step win p w
-four-mixed step win p w v x h ex ev = ev ∙ rw (ne_eqb step 0 h, ex)
-
 -- ---- a lane
 
 none-added : (f s : ℕ → Float) (x : Float) → x ≡ samples_to f s x 0
@@ -154,9 +145,6 @@ module _ (step : ℕ) (e slopes win : List Float) (first c i r p : ℕ) (v : Flo
 lanes-same : (s : ℕ) (e slopes win : List Float) (first r : ℕ) → row_of 1 e slopes win first r ≡ row_of (suc s) e slopes win first r
 unfolding lane_of weight_of neighbour_of tap_of kernel
 lanes-same s e slopes win first r = refl
-
-pub row_first : (step : ℕ) (e slopes win : List Float) (first r : ℕ) → step ≡ 0 → row_of 0 e slopes win first r ≡ row_of step e slopes win first r
-row_first step e slopes win first r h = rw h
 
 pub row-later : (step : ℕ) (e slopes win : List Float) (first r : ℕ) → (step ≡ 0 → ⊥) → row_of 1 e slopes win first r ≡ row_of step e slopes win first r
 row-later zero e slopes win first r h = absurd (h refl)
@@ -205,27 +193,8 @@ three-room l q r len g R =
       end-le = omega (arith, all, one, wide, g.set, mul_assoc 3 h w);
     }
 
--- ---- the code's tests
+-- ---- a tile that fits
 module _ (step : ℕ) (e slopes win : List Float) (l : Layout) (n top : ℕ) (q : Rect) (d : List Float) where
-  pub no-rect : rect_fits l n q (length d) ≡ false → d ≡ lanes_stored step e slopes win l n top q d
-  unfolding lanes_stored
-  no-rect h = rw h
-
-  pub many-rows : 8 < q.rows → d ≡ lanes_stored step e slopes win l n top q d
-  unfolding lanes_stored
-  many-rows h = simp (lt-leb q.rows 8 h, and-false)
-
-  pub many-columns : 56 < q.cols → d ≡ lanes_stored step e slopes win l n top q d
-  unfolding lanes_stored
-  many-columns h = simp (lt-leb q.cols 56 h, and-false)
-
   pub lanes-done : RectFits l n q (length d) → q.rows ≤ 8 → q.cols ≤ 56 → lanes_stored step e slopes win l n top q d ≡ rect_filled l n q (tile_of step e slopes win top) d
   unfolding lanes_stored
   lanes-done f h k = rw (rect-true l n q (length d) f, le-leb q.rows 8 h, le-leb q.cols 56 k)
-
-  -- the loops write m planes
-  pub tile-done : (b : List Float) (m : ℕ) → n ≡ m → RectFits l n q (length d) → q.rows ≤ 8 → q.cols ≤ 56 → b ≡ rect_filled l m q (tile_of step e slopes win top) d → b ≡ lanes_stored step e slopes win l n top q d
-  tile-done b m same f h k eb = eb ∙ rw (← same) (sym (lanes-done f h k))
-
-pub three-fits : (l : Layout) (n : ℕ) (q : Rect) (len : ℕ) → n ≡ 3 → RectFits l n q len → RectFits l 3 q len
-three-fits l n q len e f = rw e at f

@@ -15,6 +15,7 @@ use epf_slopes::SLOPES;
 use planes::{Layout, PLANES};
 
 // The weights of four neighbours.
+// Form: the contracts name each weight, where an array would be a list; the four fields of `EpfSigma` are settings, no weights.
 #[derive(Clone, Copy)]
 pub(crate) struct Four {
     a: f32,
@@ -35,6 +36,7 @@ pub(crate) struct LaneWeights {
 
 // Filters a rectangle of at most 8 rows and 56 columns in each plane; its row 0 is at y = `top`. Does nothing if the
 // rectangle or the set does not fit.
+#[tactic(auto, unfolding(crate::specs::Lanes::lanes_stored))]
 pub fn filter_tile(
     dst: &mut [f32],
     fields: &[f32; FIELDS],

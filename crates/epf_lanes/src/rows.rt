@@ -20,6 +20,9 @@ use planes::Layout;
 
 // Filters n lanes of row r in step STEP, in three planes that lie `plane` apart in the target. The row's slopes start at
 // index `first`.
+// Form: the hot loop stays as it was measured. It writes a run in each of three planes of one slice, so `at`, `plane` and `n`
+// stand for what no one slice is.
+#[tactic(auto, unfolding(epf_rects::specs::Three::three_fill, planes::specs::Fill::fill))]
 fn three_lanes<const STEP: usize>(
     dst: &mut [f32],
     at: usize,
@@ -48,6 +51,8 @@ fn three_lanes<const STEP: usize>(
 }
 
 // Filters n lanes of row r in plane c.
+// Form: the hot loop stays as it was measured, with the run `at` and `n` of the target and the number of a plane.
+#[tactic(auto, unfolding(planes::specs::Fill::fill))]
 fn one_lanes<const STEP: usize>(
     dst: &mut [f32],
     at: usize,
@@ -71,6 +76,8 @@ fn one_lanes<const STEP: usize>(
 }
 
 // The row of three planes in any step. Steps 1 and 2 have the same lanes.
+// Form: a step is a number that `filter_tile` takes as it comes, and is turned into the const parameter here. `one_row` has
+// other parameters; what both share is the test, and each loop is to be called in one place.
 fn three_row(
     dst: &mut [f32],
     at: usize,
@@ -95,6 +102,7 @@ fn three_row(
 }
 
 // The row of plane c in any step.
+// Form: as `three_row`.
 fn one_row(
     dst: &mut [f32],
     at: usize,
@@ -119,6 +127,8 @@ fn one_row(
 }
 
 // Filters a rectangle in three planes; its row 0 is at y = `top`.
+// Form: `filter_tile` tests the rectangle's rows and columns, and hands it on to two functions; a type for a rectangle so small
+// would be made there alone.
 pub(crate) fn filter_three(
     dst: &mut [f32],
     fields: &[f32; FIELDS],
@@ -147,6 +157,8 @@ pub(crate) fn filter_three(
 }
 
 // Filters the rows of a rectangle in plane c; in the target they start at index `start` and lie `stride` apart.
+// Form: rows lie apart in the target, so no slice is the rectangle; its rows and columns are bounded as in `filter_three`.
+#[tactic(auto, unfolding(planes::specs::Rect::rows_fill))]
 fn plane_rows(
     dst: &mut [f32],
     start: usize,
@@ -175,6 +187,7 @@ fn plane_rows(
 }
 
 // Filters a rectangle in each of n planes, one after another.
+#[tactic(auto, unfolding(planes::specs::Rect::planes_fill))]
 pub(crate) fn filter_planes(
     dst: &mut [f32],
     fields: &[f32; FIELDS],

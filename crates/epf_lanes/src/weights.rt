@@ -23,6 +23,7 @@ const NONE: Four = Four {
 };
 
 // The weight of neighbour q of the lane at index j of a field.
+#[tactic(auto, using(epf_distances::proofs::Taps::tap_room))]
 fn weight_of(fields: &[f32; FIELDS], slope: f32, step: usize, q: usize, j: usize) -> f32
     requires { (q < length (kernel step)) × (j ≤ last_lane) }
     ensures { result ≡ weight_by slope (get_or fields.now ((tap_of step q).start + j) nan) }
@@ -32,6 +33,9 @@ fn weight_of(fields: &[f32; FIELDS], slope: f32, step: usize, q: usize, j: usize
 }
 
 // The sample of neighbour q of the lane at index p of the windows.
+// Form: the bound of `p` stands here, in `with_four` and in `mix`, which hand on one index of a hot loop; a struct that holds it
+// would be made for each sample.
+#[tactic(auto, using(epf_distances::proofs::Taps::tap_room))]
 fn sample_of(win: &[f32; WINDOWS], step: usize, q: usize, p: usize) -> f32
     requires { (q < length (kernel step)) × (p ≤ 2 * window_plane + last_lane) }
     ensures { result ≡ sample_at step win.now p q }
@@ -41,6 +45,7 @@ fn sample_of(win: &[f32; WINDOWS], step: usize, q: usize, p: usize) -> f32
 }
 
 // The weights of neighbours q to q + 3.
+#[tactic(auto, using(epf_distances::proofs::Taps::kernel_size))]
 fn four(fields: &[f32; FIELDS], slope: f32, step: usize, q: usize, j: usize) -> Four
     requires { (q + 3 < length (kernel step)) × (j ≤ last_lane) }
     ensures { result ≡ four_of (λ (k : ℕ). weight_by slope (get_or fields.now ((tap_of step k).start + j) nan)) q }
@@ -59,6 +64,7 @@ fn summed(x: f32, w: Four) -> f32
 }
 
 // A sum plus the weighted samples of neighbours q to q + 3.
+#[tactic(auto, using(epf_distances::proofs::Taps::kernel_size))]
 fn with_four(x: f32, w: Four, win: &[f32; WINDOWS], step: usize, q: usize, p: usize) -> f32
     requires { (q + 3 < length (kernel step)) × (p ≤ 2 * window_plane + last_lane) }
     ensures { result ≡ with_four x w (sample_at step win.now p) q }
@@ -71,6 +77,7 @@ fn with_four(x: f32, w: Four, win: &[f32; WINDOWS], step: usize, q: usize, p: us
 }
 
 // The weights of lane i of row r in step STEP, and the divisor; the contract bounds it (Specification 11.9).
+#[tactic(auto, using(crate::proofs::Lanes::kernel_lengths))]
 pub(crate) fn weights<const STEP: usize>(
     fields: &[f32; FIELDS],
     slope: f32,
@@ -99,6 +106,7 @@ pub(crate) fn weights<const STEP: usize>(
 }
 
 // The sample at index p of the windows plus its weighted neighbours, over the divisor.
+#[tactic(auto, using(crate::proofs::Lanes::kernel_lengths))]
 pub(crate) fn mix<const STEP: usize>(win: &[f32; WINDOWS], p: usize, w: LaneWeights) -> f32
     requires { p ≤ 2 * window_plane + last_lane }
     ensures { result ≡ mix_of STEP win.now p w }

@@ -1,12 +1,7 @@
 use mathlib.Core.Path.{refl, ◌∙◌}
 use native.Mathlib.Omega.{arith}
-use Rattle.planes.specs.Rect.{rows_fill}
 use Rattle.epf_lanes.proofs.Lanes.{one-next}
 use Rattle.epf_lanes.proofs.rows.plane_rows.Goals as goal
-
-pub loop-r-init : goal.loop-r-init
-unfolding rows_fill
-loop-r-init c = (omega arith, refl, refl)
 
 pub loop-r-preserved : goal.loop-r-preserved
 loop-r-preserved c = (

@@ -1,7 +1,6 @@
-use mathlib.Core.Path.{refl}
 use native.Mathlib.Omega.{arith}
 use lib.ListN.{length-set}
-use Rattle.epf_rects.proofs.Three.{three-none, three-turn}
+use Rattle.epf_rects.proofs.Three.{three-turn}
 use Rattle.epf_lanes.proofs.Lanes.{lane-mixed}
 use Rattle.epf_lanes.proofs.rows.three_lanes.Goals as goal
 
@@ -12,6 +11,3 @@ loop-i-preserved g c = (
   three-turn _ _ _ c.args.plane c.loop-i.i _ _ _ _ (omega arith) c.loop-i.invariant.2
       (lane-mixed g.row.STEP c.args.fields.now c.args.slopes.now c.args.win.now c.args.first 0 c.loop-i.i c.args.r _ _ (omega arith) _ c.weights-w.ensures.0 c.mix-a.ensures) (lane-mixed g.row.STEP c.args.fields.now c.args.slopes.now c.args.win.now c.args.first 1 c.loop-i.i c.args.r _ _ (omega arith) _ c.weights-w.ensures.0 c.mix-b.ensures) (lane-mixed g.row.STEP c.args.fields.now c.args.slopes.now c.args.win.now c.args.first 2 c.loop-i.i c.args.r _ _ (omega arith) _ c.weights-w.ensures.0 c.mix-c.ensures),
 )
-
-pub loop-i-init : goal.loop-i-init
-loop-i-init g c = (omega arith, refl, three-none _ _ _ _)

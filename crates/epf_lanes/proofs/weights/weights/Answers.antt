@@ -1,17 +1,7 @@
 -- `epf_lanes::weights::weights` meets its contract. Assumes nothing.
 use mathlib.Core.Path.{refl}
-use native.Mathlib.Omega.{arith}
-use Rattle.epf_lanes.proofs.Lanes.{twelve, four-at-least, four-in, four-weighed, twelve-weighed}
+use Rattle.epf_lanes.proofs.Lanes.{four-in, four-weighed, twelve-weighed}
 use Rattle.epf_lanes.proofs.weights.weights.Goals as goal
-
-pub four-u-requires : goal.four-u-requires
-four-u-requires g c = omega (arith, four-at-least g.row.STEP)
-
-pub four-v-requires : goal.four-v-requires
-four-v-requires g c = omega (arith, twelve g.row.STEP c.if-this-ne0.false)
-
-pub four-w-requires : goal.four-w-requires
-four-w-requires g c = omega (arith, twelve g.row.STEP c.if-this-ne0.false)
 
 pub returns-then-this-ne0 : goal.returns-then-this-ne0
 returns-then-this-ne0 g c =
