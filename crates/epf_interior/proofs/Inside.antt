@@ -1,11 +1,11 @@
 -- Step 2 computed from a set directly equals the step over the filter region where nothing is mirrored; loop invariants. Assumes nothing.
 use mathlib.Core.Path.{◌≡◌, refl, sym, ap, ◌∙◌}
-use mathlib.Core.Bool.{true, false, ◌&&◌, and-false}
+use mathlib.Core.Bool.{true, ◌&&◌}
 use mathlib.Core.List.{List}
 use Prim.Native.Nat.{ℕ, suc, ◌+◌, ◌-◌, ◌*◌, ◌%◌, ◌<◌, ◌≤◌}
 use native.Mathlib.Nat.{add-mul, mul_assoc, mul-le-mul, mul-le-mul_right}
 use native.Mathlib.Omega.{arith}
-use borrow.Author.Tests.{leb-true, ltb-true, le-leb, lt-leb, le-ltb, lt-ltb, eq-eqb, ne_eqb}
+use borrow.Author.Tests.{leb-true, ltb-true, le-leb, le-ltb, eq-eqb}
 use lib.Dec.{leb, ltb}
 use lib.ListN.{length, get_or}
 use lib.IntN.{ℤ, pos, negsuc, ◌+ℤ◌, nat_abs}
@@ -22,7 +22,7 @@ use Rattle.epf_step.proofs.Local.{Alike}
 use Rattle.epf_slopes.specs.Slopes.{first_slope}
 use Rattle.epf_slopes.proofs.Slopes.{first-same}
 use Rattle.epf_rects.specs.declared.Rect.{Rect}
-use Rattle.epf_rects.specs.Rects.{rect_filled, rect_fits, RectFits}
+use Rattle.epf_rects.specs.Rects.{rect_filled, RectFits}
 use Rattle.epf_rects.specs.Three.{three_fill}
 use Rattle.epf_rects.proofs.Rects.{rect-true, taken-inner}
 use Rattle.epf_rects.proofs.Three.{rows_to, row_below}
@@ -153,23 +153,8 @@ row_next l src scales slopes top q r first d a b f g R ek ea eb =
     let v = inside_of l src scales slopes top q in
     row_below l q r _ _ v d a b g R (row_room l q r (length d) f g R).first-index refl ea (rw (first-same first top r ek) at eb)
 
--- ---- the code's tests
+-- ---- the code's test
 module _ (l : Layout) (q : Rect) where
-  pub at_left : q.x < 1 → false ≡ lies_inside l q
-  at_left h = rw (lt-leb 1 q.x h)
-
-  pub at_top : q.y < 1 → false ≡ lies_inside l q
-  at_top h = simp (lt-leb 1 q.y h, and-false)
-
-  pub at_right : l.width ≤ q.x + q.cols → false ≡ lies_inside l q
-  at_right h = simp (le-ltb (q.x + q.cols) l.width h, and-false)
-
-  pub at-bottom : l.height ≤ q.y + q.rows → false ≡ lies_inside l q
-  at-bottom h = simp (le-ltb (q.y + q.rows) l.height h, and-false)
-
-  pub inside-true : Inside l q → true ≡ lies_inside l q
-  inside-true f = rw (le-leb 1 q.x f.left, le-leb 1 q.y f.above, lt-ltb (q.x + q.cols) l.width f.right, lt-ltb (q.y + q.rows) l.height f.below)
-
   pub inside-facts : lies_inside l q ≡ true → Inside l q
   inside-facts e =
       let right = ltb (q.x + q.cols) l.width in
@@ -183,26 +168,8 @@ module _ (l : Layout) (q : Rect) where
         below = ltb-true _ _ (and_second right below b);
       }
 
+-- ---- a rectangle that fits
 module _ (l : Layout) (scales slopes : List Float) (top : ℕ) (q : Rect) (src d : List Float) where
-  abbrev Kept : Type 0
-  Kept = d ≡ inside_filled l scales slopes top q src d
-
-  pub no-rect : rect_fits l 3 q (length d) ≡ false → Kept
-  unfolding inside_filled
-  no-rect e = rw e
-
-  pub no_source : (length src ≡ length d → ⊥) → Kept
-  unfolding inside_filled
-  no_source h = simp (ne_eqb (length src) (length d) h, and-false)
-
-  pub many-columns : 64 < q.cols → Kept
-  unfolding inside_filled
-  many-columns h = simp (lt-leb q.cols 64 h, and-false)
-
-  pub at_edge : lies_inside l q ≡ false → Kept
-  unfolding inside_filled
-  at_edge e = simp (e, and-false)
-
   pub inside-done : RectFits l 3 q (length d) → length src ≡ length d → q.cols ≤ 64 → lies_inside l q ≡ true → inside_filled l scales slopes top q src d ≡ rect_filled l 3 q (inside_of l src scales slopes top q) d
   unfolding inside_filled
   inside-done f e h g = rw (rect-true l 3 q (length d) f, eq-eqb (length src) (length d) e, le-leb q.cols 64 h, g)

@@ -42,6 +42,7 @@ fn distance(src: &[f32], plane: usize, scales: &[f32; PLANES], p: usize, q: usiz
 }
 
 // The weights and the divisor of the sample with this corner; the contract bounds the divisor (Specification 11.9).
+// Form: `stride` is positive since `rows_of` has a row; a number that holds this would be made there alone.
 fn weights_at(
     src: &[f32],
     stride: usize,
@@ -85,6 +86,9 @@ fn mix(src: &[f32], stride: usize, corner: usize, w: Weights) -> f32
 }
 
 // Filters a row of n samples in each plane. Its corners start at `corner`, its slopes at index `first`.
+// Form: the hot loop stays as it was measured. It reads around a run and writes one in each of three planes, so no slice is what
+// it goes over. That `dst` is as long as `src` is one clause here and one of `rows_of`.
+#[tactic(auto, unfolding(epf_rects::specs::Three::three_fill, planes::specs::Fill::fill))]
 fn row(
     dst: &mut [f32],
     src: &[f32],
@@ -116,6 +120,8 @@ fn row(
 }
 
 // Filters the rows of a rectangle; its row 0 is at y = `top`.
+// Form: a target, its source and a rectangle travel together from `epf_tiles` on, but with a pass there and a layout here; a
+// struct of two borrowed sets would have to be taken apart in each contract.
 fn rows_of(
     dst: &mut [f32],
     src: &[f32],
@@ -148,29 +154,17 @@ fn rows_of(
 pub fn lies_inside(l: Layout, rect: Rect) -> bool
     ensures { result ≡ lies_inside l rect }
 {
-    if rect.x < 1 {
-        return false;
-    }
-    if rect.y < 1 {
-        return false;
-    }
-    if l.width < rect.cols {
-        return false;
-    }
-    if l.width - rect.cols <= rect.x {
-        return false;
-    }
-    if l.height < rect.rows {
-        return false;
-    }
-    if l.height - rect.rows <= rect.y {
-        return false;
-    }
-    true
+    0 < rect.x
+        && 0 < rect.y
+        && rect.cols <= l.width
+        && rect.x < l.width - rect.cols
+        && rect.rows <= l.height
+        && rect.y < l.height - rect.rows
 }
 
 // Filters such a rectangle in three planes with the slopes of its columns; its row 0 is at y = `top`. Does nothing if
 // the rectangle, the sets or the slopes do not fit.
+#[tactic(auto, unfolding(crate::specs::Inside::inside_filled))]
 pub fn filter_inside(
     dst: &mut [f32],
     src: &[f32],

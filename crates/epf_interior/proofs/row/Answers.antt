@@ -1,7 +1,6 @@
-use mathlib.Core.Path.{refl}
 use native.Mathlib.Omega.{arith}
 use lib.ListN.{length-set}
-use Rattle.epf_rects.proofs.Three.{three-none, three-turn}
+use Rattle.epf_rects.proofs.Three.{three-turn}
 use Rattle.epf_interior.proofs.Inside.{lane-at}
 use Rattle.epf_interior.proofs.row.Goals as goal
 
@@ -14,6 +13,3 @@ loop-i-preserved c =
       three-turn _ _ _ a.plane c.loop-i.i _ _ _ _ (omega arith) inv.2
           (lane 0 c.loop-i.i _ _ _ (omega arith) w c.mix-a.ensures) (lane 1 c.loop-i.i _ _ _ (omega arith) w c.mix-b.ensures) (lane 2 c.loop-i.i _ _ _ (omega arith) w c.mix-c.ensures),
     )
-
-pub loop-i-init : goal.loop-i-init
-loop-i-init c = (omega arith, refl, three-none _ _ _ _)
