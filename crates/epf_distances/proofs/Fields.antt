@@ -147,9 +147,6 @@ nearby-stored step c by win d d' e b at from n scale len lo hi ed eb = eb ∙ fi
         let z : from - 64 + k ≡ p = omega arith in
         rw ed (rw z at (run_at d (from - 64) (n + 2 * 64) (λ i. apart_by win c by (from - 64 + i)) k (omega arith) (omega arith)))
 
-pub stored-length : (c by : ℕ) (win d d' : List Float) (from n : ℕ) → d' ≡ fill d (from - 64) (n + 2 * 64) (λ i. apart_by win c by (from - 64 + i)) → length d ≡ 896 → length d' ≡ 896
-stored-length c by win d d' from n e len = rw e (length-fill d (from - 64) (n + 2 * 64) _ ∙ len)
-
 -- step 2 and above: single differences
 pub nearby-single : (step c by : ℕ) (win e b : List Float) (at from n : ℕ) (scale : Float) → 1 < step
     → b ≡ fill e at n (λ i. get_or e (at + i) nan ⊕ scale ⊗ nearby 2 (apart_by win c by) (from + i))

@@ -3,7 +3,7 @@
 // earlier index. So a step has one field per pair of opposite neighbours.
 #![tactic(auto)]
 
-ghost use Rattle.std.specs.Prelude.{◌≡◌, ℕ, ◌+◌, ◌-◌, ◌*◌, ◌<◌, ◌≤◌, length, get_or};
+ghost use Rattle.std.specs.Prelude.{◌≡◌, ℕ, ◌+◌, ◌-◌, ◌*◌, ◌<◌, ◌≤◌, get_or};
 ghost use Rattle.std.specs.Float.{nan};
 ghost use Rattle.planes.specs.Samples.{◌⊕◌, ◌⊗◌, b0};
 ghost use Rattle.planes.specs.Fill.{fill};
@@ -237,11 +237,10 @@ fn add_channel(
     k: usize,
     scale: f32,
 )
-    requires { (length d.old ≡ window_plane) × (c < 3) × RunFits run k }
-    ensures { (fields.new ≡ fill fields.old run.at run.n
+    requires { (c < 3) × RunFits run k }
+    ensures { fields.new ≡ fill fields.old run.at run.n
         (λ (i : ℕ). get_or fields.old (run.at + i) nan
-        ⊕ scale ⊗ nearby_of step (apart_by win.now c k) (run.from + i)))
-        × (length d.new ≡ window_plane) }
+        ⊕ scale ⊗ nearby_of step (apart_by win.now c k) (run.from + i)) }
 {
     let at = run.at;
     let from = run.from;
@@ -274,10 +273,9 @@ fn field(
     scales: &[f32; PLANES],
     planes: usize,
 )
-    requires { (length d.old ≡ window_plane) × (planes ≤ 3) × RunFits run k }
-    ensures { (fields.new ≡ fill fields.old run.at run.n
-        (λ (i : ℕ). dist_at step (scaled planes scales.now) win.now k (run.from + i)))
-        × (length d.new ≡ window_plane) }
+    requires { (planes ≤ 3) × RunFits run k }
+    ensures { fields.new ≡ fill fields.old run.at run.n
+        (λ (i : ℕ). dist_at step (scaled planes scales.now) win.now k (run.from + i)) }
 {
     clear(fields, run.at, run.n);
     for c in 0..planes {
