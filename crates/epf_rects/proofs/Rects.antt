@@ -20,9 +20,6 @@ use Rattle.planes.proofs.Room.{set-facts, set-true}
 use Rattle.epf_rects.specs.declared.Rect.{Rect}
 use Rattle.epf_rects.specs.Rects.{taken, rect_filled, rect_fits, copied_rect, Lies, RectFits}
 
-pub rect-long : {l : Layout} {n : ℕ} {q : Rect} {a b : ℕ} → a ≡ b → RectFits l n q b → RectFits l n q a
-rect-long e f = rw e f
-
 -- where the rectangle starts in plane c
 abbrev pub rect_start : Layout → ℕ → ℕ → ℕ → ℕ
 rect_start l c x y = (c * l.image.height + (l.top + y)) * l.image.width + (l.left + x)

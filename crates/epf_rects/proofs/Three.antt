@@ -25,10 +25,6 @@ unfolding fill
 swap d at zero f k v h = refl
 swap d at (suc n) f k v h = set_comm (fill d at n f) (at + n) k (f n) v (λ (e : at + n ≡ k). omega arith) ∙ ap (λ (l : List Float). set l (at + n) (f n)) (swap d at n f k v h)
 
-pub three-none : (d : List Float) (o plane : ℕ) (f : ℕ → ℕ → Float) → d ≡ three_fill d o plane 0 f
-unfolding three_fill fill
-three-none d o plane f = refl
-
 -- one more sample in each
 pub three-turn : (d a : List Float) (o plane n : ℕ) (f : ℕ → ℕ → Float) (x y z : Float) → n < plane → a ≡ three_fill d o plane n f → x ≡ f 0 n → y ≡ f 1 n → z ≡ f 2 n
     → set (set (set a (o + n) x) (o + plane + n) y) (o + 2 * plane + n) z ≡ three_fill d o plane (n + 1) f

@@ -17,7 +17,6 @@ use Rattle.planes.specs.Picture.{Picture, around, Around}
 use Rattle.planes.proofs.SetLaws.{around-inside}
 use Rattle.planes.specs.Sets.{of}
 use Rattle.planes.specs.Rect.{planes_fill}
-use Rattle.planes.proofs.Rect.{length-planes_fill}
 use Rattle.planes.proofs.Join.{planes-cong, rect-at, rect-inside}
 use Rattle.planes.specs.Band.{inner}
 use Rattle.frame.specs.Sizes.{blocks_along}
@@ -33,7 +32,7 @@ use Rattle.epf_step.proofs.Local.{Alike, epf-same, steps-near, scaled-below}
 use Rattle.epf_distances.proofs.Seen.{seen}
 use Rattle.epf_distances.specs.Taps.{half}
 use Rattle.epf_distances.specs.Fields.{fields_fill, distances_of}
-use Rattle.epf_distances.proofs.Fields.{distances-done, length_fields, neighbour-at}
+use Rattle.epf_distances.proofs.Fields.{distances-done, neighbour-at}
 use Rattle.epf_lanes.specs.Lanes.{lane_of, tile_of, lanes_stored}
 use Rattle.epf_lanes.proofs.Lanes.{lanes-done}
 use Rattle.epf_lanes.proofs.Meaning.{lane-means}
@@ -42,7 +41,7 @@ use Rattle.epf_interior.proofs.Inside.{inside-facts, inside-done, beside, beside
 use Rattle.epf_tiles.specs.declared.Pass.{Pass}
 use Rattle.epf_tiles.specs.declared.Step.{Step}
 use Rattle.epf_tiles.specs.Blocks.{block_columns, sigma_of}
-use Rattle.epf_tiles.specs.Tile.{step_over, TileFits, TileInPass, sigma_start, sigma_first, sigma_in, mixed, Scratch, tile_stepped, Filtered, FilteredBy, Restored}
+use Rattle.epf_tiles.specs.Tile.{step_over, TileFits, TileInPass, sigma_start, sigma_first, sigma_in, mixed, tile_stepped, Filtered, FilteredBy, Restored}
 
 -- ---- a lane sees the samples of the definition
 
@@ -200,16 +199,7 @@ module _ (l : Layout) (n : ℕ) (limit : Float) (sigmas src : List Float) (first
       go true u = mixed-copied l n limit sigmas src first q o e a f b m fits some em u (h o e fits p) (ef ∙ rw u)
       go false u = (ef ∙ rw u) ∙ mixed-kept l n limit sigmas src first q o e a b u (h o e fits p)
 
-  pub part-fits : (b m len : ℕ) → RectFits l n q len → b * 8 < q.cols → m ≡ min (q.cols - b * 8) 8 → RectFits l n (record { x = q.x + b * 8; y = q.y; rows = q.rows; cols = m }) len
-  part-fits b m len f some em = record { layout = f.layout; planes-le = f.planes-le; across = omega (arith, f.across); down = f.down; rows-pos = f.rows-pos; set = f.set }
-
-  pub restored-end : (d a : List Float) (b k : ℕ) → b ≡ k → Restored l n limit sigmas src first q b d a → Restored l n limit sigmas src first q k d a
-  restored-end d a b k e h = rw (← e) h
-
 -- a block that is copied keeps the samples of `src`
-pub block-kept : (k r : Bool) (p d : List Float) → r ≡ k → r ≡ false → d ≡ cond k p d
-block-kept k r p d e f = let z : k ≡ false = sym e ∙ f in rw z
-
 pub block-copied : (k r : Bool) (p d a : List Float) → r ≡ k → r ≡ true → a ≡ p → a ≡ cond k p d
 block-copied k r p d a e f g = let z : k ≡ true = sym e ∙ f in rw z g
 
@@ -249,7 +239,7 @@ module _ (p : Pass) (src : List Float) (q : Rect) (d : List Float) (fit : TileIn
   small = omega (arith, fits.rows-le)
 
   -- from its windows
-  module _ (w₀ e₀ slopes win e : List Float) (z : Scratch w₀ e₀ slopes) (ew : win ≡ loaded l n src q.x q.y s.step (q.rows + 6 - 2 * s.step) (q.cols + 8) w₀)
+  module _ (w₀ e₀ slopes win e : List Float) (lw : length w₀ ≡ 2688) (le : length e₀ ≡ 5376) (ew : win ≡ loaded l n src q.x q.y s.step (q.rows + 6 - 2 * s.step) (q.cols + 8) w₀)
       (ee : e ≡ distances_of s.step n s.scales win q.rows e₀) where
     win-is : win ≡ planes_fill 64 14 0 (q.cols + 8) s.step (q.rows + 6 - 2 * s.step) (λ c j i. window_sample l src q.x q.y c j (s.step + i)) w₀ n
     win-is = ew ∙ window-loaded l n src q.x q.y s.step (q.rows + 6 - 2 * s.step) (q.cols + 8) w₀ window-fits
@@ -257,18 +247,11 @@ module _ (p : Pass) (src : List Float) (q : Rect) (d : List Float) (fit : TileIn
     e-is : e ≡ fields_fill s.step (scaled n s.scales) win q.rows e₀ (half s.step)
     e-is = ee ∙ distances-done s.step n s.scales win q.rows e₀ fits.planes-le fits.rows-pos small
 
-    pub scratch-kept : Scratch win e slopes
-    scratch-kept = record {
-      win-length = rw win-is (length-planes_fill 64 14 0 (q.cols + 8) s.step (q.rows + 6 - 2 * s.step) _ (omega (arith, fits.cols-le)) (omega (arith, small)) w₀ n ∙ z.win-length);
-      fields-length = rw e-is (length_fields s.step (scaled n s.scales) win q.rows small e₀ (half s.step) ∙ z.fields-length);
-      slopes-length = z.slopes-length;
-    }
-
     pub computed : (a : List Float) → a ≡ lanes_stored s.step e slopes win l n (top + q.y) q d → FilteredBy p slopes src q d a
     computed a ea sigmas steep = record {
       lanes = tile_of s.step e slopes win (top + q.y);
       stored = ea ∙ lanes-done s.step e slopes win l n (top + q.y) q d room small fits.cols-le;
-      agrees = lane-is l n s top sigmas src q fits slopes steep win w₀ e e₀ fit.step-lt z.win-length (omega (arith, z.fields-length)) win-is e-is;
+      agrees = lane-is l n s top sigmas src q fits slopes steep win w₀ e e₀ fit.step-lt lw (omega (arith, le)) win-is e-is;
     }
 
   -- from the planes

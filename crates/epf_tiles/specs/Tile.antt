@@ -12,7 +12,7 @@ use Rattle.epf_step.specs.Steps.{scaled, copied, EpfPass, epf_pass}
 use Rattle.epf_tiles.specs.declared.Pass.{Pass}
 use Rattle.epf_tiles.specs.declared.Step.{Step}
 use Rattle.epf_tiles.specs.Blocks.{block_side, block_columns, sigma_of}
-use Rattle.epf_sizes.specs.Sizes.{lanes as tile_columns, fields_length, windows_length}
+use Rattle.epf_sizes.specs.Sizes.{lanes as tile_columns}
 
 -- ---- the step over the filter region
 
@@ -70,12 +70,6 @@ module _ (l : Layout) (n : ℕ) (limit : Float) (sigmas src : List Float) (first
   mixed b = λ c i r. cond (ltb i (b * block_side) && copied (get_or sigmas (first + i / block_side) nan) limit) (inner l src c (q.x + i) (q.y + r)) (o c i r)
 
 -- ---- what the functions write
-
--- the arrays that a tile is computed in
-pub record Scratch (win fields slopes : List Float) : Type 0 where
-  pub win-length : length win ≡ windows_length
-  pub fields-length : length fields ≡ fields_length
-  pub slopes-length : length slopes ≡ 128
 
 -- the set with a rectangle's samples copied, and with those of the step
 abbrev pub rect_copied : Pass → Rect → List Float → List Float → List Float

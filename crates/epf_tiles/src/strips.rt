@@ -1,6 +1,5 @@
 // Rows of the filter region in strips, each within one row of blocks.
 ghost use Rattle.std.specs.Prelude.{◌≡◌, ◌-◌, ◌≤◌, length};
-ghost use Rattle.epf_tiles.specs.Tile.{Scratch};
 ghost use Rattle.epf_tiles.specs.Region.{PassFits, StripFits, rows_stepped, region_of};
 
 use crate::tile::{blocks_of, tile};
@@ -9,13 +8,14 @@ use epf_rects::Rect;
 use epf_sizes::{FIELDS, LANES, WINDOWS};
 use epf_slopes::SLOPES;
 use epf_step::LAST_STEP;
-use limits::{BLOCK, min};
+use limits::BLOCK;
 use planes::{Layout, set_fits};
 
 // The top of a region, an i32, is below this, so row positions do not overflow.
 const MAX_TOP: usize = 4_294_967_296;
 
 // Rows y up to y + rows of the filter region.
+// Form: a first row and a count of rows; other structs of two numbers have two lengths or two indices.
 #[derive(Clone, Copy)]
 struct RowSpan {
     y: usize,
@@ -23,6 +23,7 @@ struct RowSpan {
 }
 
 // Filters a strip of rows, tile by tile.
+// Form: `dst`, `src` and `sigmas` are three slices that `filter_region` was given, handed on twice.
 fn strip(
     dst: &mut [f32],
     src: &[f32],
@@ -35,16 +36,14 @@ fn strip(
 )
     requires pass_fits { PassFits pass (length src.now) (length dst.old) (length sigmas.now) }
     requires strip_fits { StripFits pass.layout span.y span.rows }
-    requires scratch { Scratch win.old fields.old slopes.old }
-    ensures { (dst.new ≡ rows_stepped pass span.y span.rows sigmas.now
-        src.now dst.old)
-        × Scratch win.new fields.new slopes.new }
+    ensures { dst.new ≡ rows_stepped pass span.y span.rows sigmas.now
+        src.now dst.old }
 {
     let width = pass.layout.width;
     let y = span.y;
     let rows = span.rows;
     for x in (0..width).step_by(LANES) {
-        let cols = min(width - x, LANES);
+        let cols = (width - x).min(LANES);
         let rect = Rect { x, y, rows, cols };
         tile(dst, src, pass, sigmas, rect, win, fields, slopes);
     }
@@ -61,9 +60,9 @@ fn strips(dst: &mut [f32], src: &[f32], pass: Pass, sigmas: &[f32], from: usize,
     let mut fields = [0.0; FIELDS];
     let mut slopes = [0.0; SLOPES];
     let mut y = from;
-    // The first strip may be shorter, so no range with a fixed step gives the others.
+    // Form: the first strip may be shorter, so no range with a fixed step gives the others.
     while y < to {
-        let rows = min(to - y, BLOCK - y % BLOCK);
+        let rows = (to - y).min(BLOCK - y % BLOCK);
         let span = RowSpan { y, rows };
         strip(
             dst,
@@ -81,6 +80,8 @@ fn strips(dst: &mut [f32], src: &[f32], pass: Pass, sigmas: &[f32], from: usize,
 
 // Filters rows `from` up to `to` of the filter region in n planes. Its row 0 is at y = `top`. `sigmas` has one sigma
 // per block, row of blocks by row of blocks. Does nothing if the sets, sigmas, step or rows do not fit.
+// Form: the test of the step chooses nothing to run; it refuses a number that is no step.
+#[tactic(auto, unfolding(crate::specs::Region::region_of))]
 pub fn filter_region(
     dst: &mut [f32],
     src: &[f32],

@@ -5,7 +5,7 @@ ghost use Rattle.epf_rects.specs.Rects.{RectFits};
 ghost use Rattle.epf_sizes.specs.Sizes.{lanes as tile_columns, max_side};
 ghost use Rattle.frame.specs.Sizes.{blocks_along};
 ghost use Rattle.epf_step.specs.Steps.{copied as copied_of};
-ghost use Rattle.epf_tiles.specs.Tile.{sigma_first, TileInPass, Scratch, Filtered, FilteredBy, Restored};
+ghost use Rattle.epf_tiles.specs.Tile.{sigma_first, TileInPass, Filtered, FilteredBy, Restored};
 ghost use Rattle.epf_tiles.specs.Tile.{rect_copied, tile_stepped};
 
 use crate::Pass;
@@ -17,15 +17,14 @@ use epf_sizes::{FIELDS, WINDOWS};
 use epf_slopes::{SLOPES, tile_slopes};
 use epf_step::{LAST_STEP, copied};
 use epf_window::load;
-use limits::{BLOCK, min};
+use limits::BLOCK;
 use planes::{Layout, PLANES};
 
 // The number of blocks in n columns or rows; the last may be partial.
 pub(crate) fn blocks_of(n: usize) -> usize
-    requires { n ≤ max_side }
     ensures { result ≡ blocks_along n }
 {
-    (n + (BLOCK - 1)) / BLOCK
+    n.div_ceil(BLOCK)
 }
 
 // Index of the sigma of a tile's first block.
@@ -39,6 +38,8 @@ fn first_sigma(l: Layout, rect: Rect) -> usize
 }
 
 // Copies a block from `src` if its sigma says so.
+// Form: `dst`, `src` and `rect` go together in this file; a struct of them would borrow the target anew for each call. That both
+// sets are of one length is a clause here and in `restore`, and part of `TileInPass` above.
 fn restore_block(dst: &mut [f32], src: &[f32], pass: Pass, sigma: f32, rect: Rect)
     requires rect_fits { RectFits pass.layout pass.planes rect (length dst.old) }
     requires src_len { length src.now ≡ length dst.old }
@@ -54,6 +55,8 @@ fn restore_block(dst: &mut [f32], src: &[f32], pass: Pass, sigma: f32, rect: Rec
 
 // Restores the copied blocks of a tile after its rectangle is filtered; `first` is the index of its first block's
 // sigma.
+// Form: the contracts count a block's sigma from the start of the list, and a slice of the tile's sigmas would need a law that
+// moves the start, here and in `all_copied`, `filter` and `tile`.
 fn restore(dst: &mut [f32], src: &[f32], pass: Pass, sigmas: &[f32], first: usize, rect: Rect)
     requires rect_fits { RectFits pass.layout pass.planes rect (length dst.old) }
     requires src_len { (length src.now ≡ length dst.old) × (rect.cols ≤ tile_columns) }
@@ -68,13 +71,14 @@ fn restore(dst: &mut [f32], src: &[f32], pass: Pass, sigmas: &[f32], first: usiz
             x: rect.x + i,
             y: rect.y,
             rows: rect.rows,
-            cols: min(rect.cols - i, BLOCK),
+            cols: (rect.cols - i).min(BLOCK),
         };
         restore_block(dst, src, pass, sigmas[first + b], block);
     }
 }
 
 // Whether all blocks of a tile are copied.
+// Form: a start and a count in the list of sigmas, as in `restore`.
 fn all_copied(sigmas: &[f32], first: usize, blocks: usize, limit: f32) -> bool
     requires { first + blocks ≤ length sigmas.now }
     ensures { result ≡ true → (b : ℕ) → b < blocks
@@ -86,6 +90,7 @@ fn all_copied(sigmas: &[f32], first: usize, blocks: usize, limit: f32) -> bool
 }
 
 // Filters all blocks of a tile, from its windows.
+// Form: `TileInPass` is about a pass, a rectangle and the lengths of two borrowed sets, so no one parameter can hold it.
 fn filter_window(
     dst: &mut [f32],
     src: &[f32],
@@ -96,10 +101,7 @@ fn filter_window(
     slopes: &[f32; SLOPES],
 )
     requires tile_in_pass { TileInPass pass rect (length src.now) (length dst.old) }
-    requires scratch { Scratch win.old fields.old slopes.now }
-    ensures { FilteredBy pass slopes.now src.now rect dst.old
-        dst.new
-        × Scratch win.new fields.new slopes.now }
+    ensures { FilteredBy pass slopes.now src.now rect dst.old dst.new }
 {
     let l = pass.layout;
     let n = pass.planes;
@@ -124,6 +126,7 @@ fn filter_window(
 }
 
 // Filters all blocks of a tile.
+// Form: a step is a number, and is asked once per tile; its sigmas are counted as in `restore`.
 fn filter(
     dst: &mut [f32],
     src: &[f32],
@@ -136,9 +139,7 @@ fn filter(
 )
     requires tile_in_pass { TileInPass pass rect (length src.now) (length dst.old) }
     requires cols_in_bounds { sigma_first pass.layout rect + blocks_along rect.cols ≤ length sigmas.now }
-    requires scratch { Scratch win.old fields.old slopes.old }
-    ensures { Filtered pass sigmas.now src.now rect dst.old dst.new
-        × Scratch win.new fields.new slopes.new }
+    ensures { Filtered pass sigmas.now src.now rect dst.old dst.new }
 {
     let l = pass.layout;
     let n = pass.planes;
@@ -147,18 +148,15 @@ fn filter(
     tile_slopes(slopes, sigmas, first, blocks_of(rect.cols), s.scale, s.edge);
     let scales = s.scales;
     // Away from the filter region's edges step 2 needs no window.
-    if s.step == LAST_STEP {
-        if n == PLANES {
-            if lies_inside(l, rect) {
-                filter_inside(dst, src, l, &scales, slopes, pass.top + rect.y, rect);
-                return;
-            }
-        }
+    if s.step == LAST_STEP && n == PLANES && lies_inside(l, rect) {
+        filter_inside(dst, src, l, &scales, slopes, pass.top + rect.y, rect);
+        return;
     }
     filter_window(dst, src, pass, rect, win, fields, slopes)
 }
 
 // Computes one tile: copies it if all its blocks are copied, otherwise filters it and restores the copied blocks.
+// Form: its sigmas are counted as in `restore`.
 pub(crate) fn tile(
     dst: &mut [f32],
     src: &[f32],
@@ -171,10 +169,8 @@ pub(crate) fn tile(
 )
     requires tile_in_pass { TileInPass pass rect (length src.now) (length dst.old) }
     requires cols_in_bounds { sigma_first pass.layout rect + blocks_along rect.cols ≤ length sigmas.now }
-    requires scratch { Scratch win.old fields.old slopes.old }
-    ensures { (dst.new ≡ tile_stepped pass rect sigmas.now src.now
-        dst.old)
-        × Scratch win.new fields.new slopes.new }
+    ensures { dst.new ≡ tile_stepped pass rect sigmas.now src.now
+        dst.old }
 {
     let l = pass.layout;
     let first = first_sigma(l, rect);

@@ -2,6 +2,7 @@
 use mathlib.Core.Path.{◌≡◌, sym, ◌∙◌}
 use mathlib.Core.List.{List}
 use Prim.Native.Nat.{ℕ, ◌+◌, ◌≤◌}
+use native.Mathlib.Omega.{arith}
 use lib.Ieee.{Float}
 use lib.ListN.{length}
 use Rattle.frame.specs.Sizes.{blocks_along}
@@ -22,16 +23,10 @@ pub returns-then-lies_inside : goal.returns-then-lies_inside
 returns-then-lies_inside c =
     let a = c.args in
     let p = c.requires.tile_in_pass in
-    let z = c.requires.scratch in
-    let k = steep a.pass a.src.now a.rect a.dst.now p a.sigmas.now a.slopes.now c.requires.cols_in_bounds z.slopes-length _ _ _ c.first_sigma-first.ensures c.blocks_of.ensures c.tile_slopes.ensures in (
-      inside-filtered a.pass a.src.now a.rect a.dst.now p _ _ c.if-n-eq-PLANES.true c.if-s-eq-LAST_STEP.true (sym c.lies_inside.ensures ∙ c.if-lies_inside.true) c.filter_inside.ensures _ k,
-      record { win-length = z.win-length; fields-length = z.fields-length; slopes-length = k.slopes-length },
-    )
+    inside-filtered a.pass a.src.now a.rect a.dst.now p _ _ c.if-n-eq-PLANES.true c.if-s-eq-LAST_STEP.true (sym c.lies_inside.ensures ∙ c.if-lies_inside.true) c.filter_inside.ensures _
+    (steep a.pass a.src.now a.rect a.dst.now p a.sigmas.now a.slopes.now c.requires.cols_in_bounds (omega arith) _ _ _ c.first_sigma-first.ensures c.blocks_of.ensures c.tile_slopes.ensures)
 
 pub returns : goal.returns
 returns c =
     let a = c.args in
-    let p = c.requires.tile_in_pass in
-    let z = c.requires.scratch in
-    let k = steep a.pass a.src.now a.rect a.dst.now p a.sigmas.now a.slopes.now c.requires.cols_in_bounds z.slopes-length _ _ _ c.first_sigma-first.ensures c.blocks_of.ensures c.tile_slopes.ensures in
-    let f = c.filter_window.ensures in (f.0 _ k, f.1)
+    c.filter_window.ensures _ (steep a.pass a.src.now a.rect a.dst.now c.requires.tile_in_pass a.sigmas.now a.slopes.now c.requires.cols_in_bounds (omega arith) _ _ _ c.first_sigma-first.ensures c.blocks_of.ensures c.tile_slopes.ensures)
