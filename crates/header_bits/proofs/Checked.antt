@@ -1,4 +1,4 @@
--- The value of `u` in each case of `read_bits`, and the value of an accepted field. Assumes nothing.
+-- The value of `u` in each case of `read`, and the value of an accepted field. Assumes nothing.
 use Prim.Native.Nat.{ℕ, ◌+◌, ◌*◌, ◌^◌, ◌<◌, ◌≤◌}
 use mathlib.Core.Bool.{Bool, true, false, cond}
 use mathlib.Core.List.{List}
@@ -13,17 +13,17 @@ use Rattle.refusals.specs.Checks.{first_of}
 use Rattle.header_bits.proofs.Fields.{field_below}
 
 module _ (s : List ℕ) (p n : ℕ) where
-  pub u-long : 65536 < length s → refused 7 ≡ u n s p
+  pub u_long : 65536 < length s → refused 7 ≡ u n s p
   unfolding u
-  u-long h = rw (lt-ltb 65536 (length s) h)
+  u_long h = rw (lt-ltb 65536 (length s) h)
 
-  pub u-short : length s ≤ 65536 → length s * 8 < p + n → refused 1 ≡ u n s p
+  pub u_short : length s ≤ 65536 → length s * 8 < p + n → refused 1 ≡ u n s p
   unfolding u
-  u-short h k = rw (le-ltb 65536 (length s) h, lt-ltb (length s * 8) (p + n) k)
+  u_short h k = rw (le-ltb 65536 (length s) h, lt-ltb (length s * 8) (p + n) k)
 
-  pub u-whole : length s ≤ 65536 → p + n ≤ length s * 8 → accepted (field s p n) (p + n) ≡ u n s p
+  pub u_whole : length s ≤ 65536 → p + n ≤ length s * 8 → accepted (field s p n) (p + n) ≡ u n s p
   unfolding u
-  u-whole h k = rw (le-ltb 65536 (length s) h, le-ltb (length s * 8) (p + n) k)
+  u_whole h k = rw (le-ltb 65536 (length s) h, le-ltb (length s * 8) (p + n) k)
 
 checked_value : {A : Type 0} (b : Bool) (k : ℕ) (v a : A) (q r : ℕ) → accepted v q ≡ cond b (accepted a r) (refused k) → v ≡ a
 checked_value true k v a q r e = cc

@@ -11,6 +11,7 @@ use refusals::Refusal;
 const MAX_BYTES: usize = 65536;
 
 // A header's bytes, and the bit that is read next.
+// Form: the position counts bits, so no slice of the bytes can stand for it, and callers get the next one as a number.
 #[derive(Clone, Copy)]
 pub struct BitReader<'a> {
     pub bytes: &'a [u8],
@@ -51,6 +52,7 @@ impl BitReader<'_> {
     }
 
     // The field's bits from the last, the most significant, to the first.
+    #[tactic(auto, using(crate::proofs::Fields::field_none, crate::proofs::Fields::field_turn, crate::proofs::Fields::field_all, crate::proofs::Fields::field_within))]
     fn field(&self, width: usize) -> u32
         requires { (length self.now.bytes.now ≤ 65536) × (self.now.at + width ≤ length self.now.bytes.now * 8) × (width ≤ 32) }
         ensures { result ≡ field self.now.bytes.now self.now.at width }
@@ -63,6 +65,7 @@ impl BitReader<'_> {
     }
 
     // Reads a field, or refuses with 7 or 1.
+    #[tactic(auto, using(crate::proofs::Checked::u_long, crate::proofs::Checked::u_short, crate::proofs::Checked::u_whole))]
     pub fn read(&mut self, width: Width) -> Result<u32, Refusal>
         ensures { Reads self.old (u (width_of width)) result self.new }
     {
