@@ -21,16 +21,16 @@ module _ (s x t : ℕ) (hs : s < 2) (hx : x < 255) (ht : t < 8388608) where
   digits-is : pattern % 8388608 ≡ t
   digits-is = omega arith
 
-  pub of-fields : of_bits binary32 pattern ≡ of_fields binary32 (leb 1 s) x t
+  pub pattern_fields : of_bits binary32 pattern ≡ of_fields binary32 (leb 1 s) x t
   unfolding of_bits
-  of-fields = rw (sign-by (leb 1 s) refl, exponent-is, digits-is)
+  pattern_fields = rw (sign-by (leb 1 s) refl, exponent-is, digits-is)
 
   not_255 : x ≡ 255 → ⊥
   not_255 e = omega arith
 
-  pub no_nan : T (not (nan_bits binary32 pattern))
+  pub pattern_not_nan : T (not (nan_bits binary32 pattern))
   unfolding nan_bits
-  no_nan = rw (exponent-is, ne_eqb x 255 not_255) tt
+  pattern_not_nan = rw (exponent-is, ne_eqb x 255 not_255) tt
 
 -- an exponent field other than 0 and 255
 pub normal-fields : (s : Bool) (y t : ℕ) → y < 254 → of_fields binary32 s (suc y) t ≡ odd 24 s (8388608 + t) y 149

@@ -14,6 +14,7 @@ use header_bits::{BitReader, Width};
 use refusals::Refusal;
 
 // The binary32 number with this sign, exponent field and fraction.
+#[tactic(auto, using(crate::proofs::Fields::pattern_fields, crate::proofs::Fields::pattern_not_nan))]
 fn of_fields(sign: u32, exponent: u32, digits: u32) -> f32
     requires { (sign < 2) × (exponent < 255) × (digits < 8388608) }
     ensures { result ≡ of_fields binary32 (leb 1 sign) exponent digits }
@@ -23,7 +24,7 @@ fn of_fields(sign: u32, exponent: u32, digits: u32) -> f32
 
 // A finite half as a binary32 number, exactly. A subnormal half is normal in binary32: its highest digit is shifted up
 // to become the leading one.
-#[tactic(auto, using(crate::proofs::Widened::half_normal, crate::proofs::Widened::half_zero, crate::proofs::Widened::half_subnormal))]
+#[tactic(auto, using(crate::proofs::Widened::half_normal, crate::proofs::Widened::half_zero, crate::proofs::Widened::half_subnormal, crate::proofs::Widened::moved))]
 fn widen(half: u32) -> f32
     requires { (half < 65536) × (exponent_of half < 31) }
     ensures { result ≡ half_of half }
