@@ -17,14 +17,16 @@ fn read_halves<const N: usize>(reader: &mut BitReader) -> Result<[f32; N], Refus
 {
     let mut ahead = *reader;
     let mut values = [0.0; N];
-    for i in 0..N {
-        values[i] = read_f16_as_f32(&mut ahead)?;
+    for value in &mut values {
+        *value = read_f16_as_f32(&mut ahead)?;
     }
     *reader = ahead;
     Ok(values)
 }
 
 // The sharpness table: custom if the header has one, otherwise the defaults. `present`: the custom bit is there.
+// Form: `present` is the condition of a row of the standard's table, a value like its width and default; the row has one
+// reader whether it is in the stream or not.
 #[tactic(auto, using(crate::proofs::Steps::sharp_steps, crate::proofs::Steps::sharp_absent))]
 pub fn read_sharp_lut(
     reader: &mut BitReader,
