@@ -12,6 +12,8 @@ use header_gabor::Gabor;
 use refusals::Refusal;
 
 // Both bundles of a frame header.
+// Form: `Settings` (run_passes) are what a caller asks for, with numbers that start checks and fewer fields of the edge
+// filter: each is C's struct, and which bundle's fields become settings is the caller's to say.
 #[repr(C)]
 #[derive(Clone, Copy, Default)]
 pub struct RestorationFilter {
@@ -33,6 +35,7 @@ impl RestorationFilter {
     }
 
     // Reads both bundles from a bit position on, and answers the next position too.
+    // Form: as at `EdgePreservingFilter::parse` (header_epf): a shared function would ask that a reader may be called.
     pub fn parse(
         bytes: &[u8],
         at: usize,

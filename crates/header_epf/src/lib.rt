@@ -18,6 +18,7 @@ pub enum Encoding {
 }
 
 // The edge-preserving filter's bundle, as read from a frame header.
+// Form: C's struct, so the flag stands beside the values and no `Option` holds them.
 #[repr(C)]
 #[derive(Clone, Copy)]
 pub struct EdgePreservingFilter {
@@ -101,6 +102,7 @@ impl EdgePreservingFilter {
     {
         let mut ahead = *reader;
         let iters = ahead.read(Width::U2)?;
+        // Form: 0 iterations are the header's way to say that the filter is off, asked once, where they are read.
         let filter = if iters == 0 {
             EdgePreservingFilter::default()
         } else {
@@ -111,6 +113,8 @@ impl EdgePreservingFilter {
     }
 
     // Reads the EPF bundle from a bit position on, and answers the next position too.
+    // Form: one `parse` for the bundles of three crates would ask (`requires`) that a reader handed in may be called, which
+    // no public function does; as a trait's method it would need the trait and its law at each bundle for these lines.
     pub fn parse(
         bytes: &[u8],
         at: usize,

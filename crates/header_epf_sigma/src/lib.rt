@@ -12,6 +12,7 @@ use header_half::read_f16_as_f32;
 use refusals::Refusal;
 
 // The edge-preserving filter's sigma settings: `quant_mul`, the scales of steps 0 and 2, and that of block borders.
+// Form: the names are those of C's struct and of the standard; `Four` of epf_lanes has the weights of four neighbours.
 #[repr(C)]
 #[derive(Clone, Copy, Default)]
 pub struct EpfSigma {
@@ -31,6 +32,8 @@ const PASS2_SIGMA_SCALE: f32 = 6.5;
 const BORDER_SAD_MUL: f32 = 0.6666667;
 
 // Reads a half if it is present, otherwise answers its default.
+// Form: `present` is the condition of a row of the standard's table, as `default` is its default: the function is
+// `if_there` of the definition.
 pub fn read_half_if(reader: &mut BitReader, present: bool, default: f32) -> Result<f32, Refusal>
     ensures { Reads reader.old (λ s p. if_there present (f16 s p) default p) result reader.new }
 {

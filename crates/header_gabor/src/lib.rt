@@ -13,6 +13,8 @@ use header_bits::BitReader;
 use refusals::Refusal;
 
 // Two weights for each of the channels X, Y and B: of the side neighbours and of the diagonal ones.
+// Form: C's struct, so the flag stands beside the weights and no `Option` holds them. `GaborSettings` (run_passes) has a
+// number for the flag, since a C caller fills it and can make one `bool` field of any byte.
 #[repr(C)]
 #[derive(Clone, Copy)]
 pub struct Gabor {
@@ -86,6 +88,7 @@ impl Gabor {
     }
 
     // Reads the Gabor bundle from a bit position on, and answers the next position too.
+    // Form: as at `EdgePreservingFilter::parse` (header_epf): a shared function would ask that a reader may be called.
     pub fn parse(bytes: &[u8], at: usize) -> Result<(Gabor, usize), Refusal>
         ensures { parsed result ≡ gabor_at bytes.now at }
     {
