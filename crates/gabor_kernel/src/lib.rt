@@ -11,6 +11,7 @@ ghost use Rattle.gabor_kernel.specs.Gabor.{kernel_of, gabor_by};
 ghost use Rattle.gabor_kernel.specs.Nine.{same, ending, nine};
 
 // The weight of the side neighbours, that of the diagonal ones, and the reciprocal of the sum of the kernel.
+// Form: `Row3` has three samples: the same types, and no function takes the one for the other.
 #[derive(Clone, Copy, Debug, PartialEq)]
 pub struct Kernel {
     pub w0: f32,
@@ -19,6 +20,7 @@ pub struct Kernel {
 }
 
 // Three samples of a row, next to each other.
+// Form: samples, where `Kernel` has weights and a reciprocal.
 #[derive(Clone, Copy, Debug, PartialEq)]
 pub struct Row3 {
     pub left: f32,
@@ -55,6 +57,8 @@ pub fn lone3(t: f32, c: f32, b: f32, k: Kernel) -> f32
 }
 
 // A sample of the first or last of several rows.
+// Form: the original sums six samples and multiplies each sum by its weight; `edge4` sums weights first, so the rounding
+// differs and neither is the other at another size.
 pub fn edge6(a: Row3, c: Row3, k: Kernel) -> f32
     ensures { result ≡ gabor_by k (nine a c a) inner first }
 {
@@ -64,6 +68,7 @@ pub fn edge6(a: Row3, c: Row3, k: Kernel) -> f32
 }
 
 // An end of the first or last row: 1 is the end sample, 0 its only neighbour.
+// Form: three merged weights, where `edge2` has two with other factors: the original's formula for this case alone.
 pub fn edge4(a0: f32, a1: f32, c0: f32, c1: f32, k: Kernel) -> f32
     ensures { result ≡ gabor_by k (nine (ending a0 a1) (ending c0 c1) (ending a0 a1)) last first }
 {
@@ -71,6 +76,7 @@ pub fn edge4(a0: f32, a1: f32, c0: f32, c1: f32, k: Kernel) -> f32
 }
 
 // The first or last sample of a single column.
+// Form: the weights 1 + 3 w0 + 2 w1 and w0 + 2 w1 are in no other case: the original's formula for this one alone.
 pub fn edge2(a: f32, c: f32, k: Kernel) -> f32
     ensures { result ≡ gabor_by k (nine (same a) (same c) (same a)) only first }
 {
@@ -91,6 +97,7 @@ fn solo_side(k: Kernel) -> f32
 }
 
 // A sample of a single row.
+// Form: the centre has its own weight; in `solo2` both weights meet at the end sample, which rounds once more.
 pub fn solo3(c: Row3, k: Kernel) -> f32
     ensures { result ≡ gabor_by k (nine c c c) inner only }
 {
@@ -100,6 +107,7 @@ pub fn solo3(c: Row3, k: Kernel) -> f32
 }
 
 // An end sample of a single row. A single sample is copied; no function here does that.
+// Form: the two weights that it shares with `solo3` are functions already; the sums over them differ.
 pub fn solo2(c0: f32, c1: f32, k: Kernel) -> f32
     ensures { result ≡ gabor_by k (nine (ending c0 c1) (ending c0 c1) (ending c0 c1)) last only }
 {
