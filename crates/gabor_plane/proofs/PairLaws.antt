@@ -34,28 +34,28 @@ pub record BothWritten (d : List Float) (o p n : ℕ) (f g : ℕ → Float) (dst
   pub size : length dst ≡ length d
   pub held : dst ≡ fill (fill d o i f) p i g
 
-pub both-none : (d : List Float) (o p n : ℕ) (f g : ℕ → Float) → BothWritten d o p n f g d 0
+pub both_none : (d : List Float) (o p n : ℕ) (f g : ℕ → Float) → BothWritten d o p n f g d 0
 unfolding fill
-both-none d o p n f g = record { count-le = omega arith; size = refl; held = refl }
+both_none d o p n f g = record { count-le = omega arith; size = refl; held = refl }
 
-pub both-more : {d dst : List Float} {o p n i : ℕ} {f g : ℕ → Float} {v u : Float} → BothWritten d o p n f g dst i → o + n ≤ p → i < n → v ≡ f i → u ≡ g i
+pub both_more : {d dst : List Float} {o p n i : ℕ} {f g : ℕ → Float} {v u : Float} → BothWritten d o p n f g dst i → o + n ≤ p → i < n → v ≡ f i → u ≡ g i
     → BothWritten d o p n f g (set (set dst (o + i) v) (p + i) u) (i + 1)
-both-more {d} {dst} {o} {p} {n} {i} {f} {g} {v} {u} w apart l a b =
+both_more {d} {dst} {o} {p} {n} {i} {f} {g} {v} {u} w apart l a b =
     let one : set dst (o + i) v ≡ fill (set (fill d o i f) (o + i) v) p i g = rw w.held (set-fill (fill d o i f) p i g (o + i) v (λ j q (e : p + j ≡ o + i). omega arith)) in
     let first : set dst (o + i) v ≡ fill (fill d o (i + 1) f) p i g = one ∙ rw (fill-turn d (fill d o i f) o i f v refl a) in
     record { count-le = omega arith; size = simp length-set w.size; held = fill-turn _ _ p i g u first b }
 
-pub both-all : {d dst : List Float} {o p n i : ℕ} {f g : ℕ → Float} → BothWritten d o p n f g dst i → n ≤ i → dst ≡ fill (fill d o n f) p n g
-both-all {d} {dst} {o} {p} {n} {i} {f} {g} w l = let z : i ≡ n = omega (arith, w.count-le) in rw (← z) w.held
+pub both_all : {d dst : List Float} {o p n i : ℕ} {f g : ℕ → Float} → BothWritten d o p n f g dst i → n ≤ i → dst ≡ fill (fill d o n f) p n g
+both_all {d} {dst} {o} {p} {n} {i} {f} {g} w l = let z : i ≡ n = omega (arith, w.count-le) in rw (← z) w.held
 
 -- ---- two rows of w columns, one below the other, whose ends are written separately: v and u are those of the first row, v' and u' those of the second
 module _ (s : List Float) (t c b t' c' b' w : ℕ) (k : Kernel) (row : End) (d : List Float) (o p : ℕ) (two : 2 ≤ w) (apart : o + w ≤ p) where
-  pub pair-more : (v v' u u' : Float) (n : List Float)
+  pub pair_more : (v v' u u' : Float) (n : List Float)
       → v ≡ gabor_by k (taps s t c b 0 0 1) first row → v' ≡ gabor_by k (taps s t' c' b' 0 0 1) first row
       → n ≡ fill (fill (set (set d o v) p v') (o + 1) (w - 2) (inner_sample s t c b k row)) (p + 1) (w - 2) (inner_sample s t' c' b' k row)
       → u ≡ gabor_by k (taps s t c b (w - 2) (w - 1) (w - 1)) last row → u' ≡ gabor_by k (taps s t' c' b' (w - 2) (w - 1) (w - 1)) last row
       → set (set n (o + (w - 1)) u) (p + (w - 1)) u' ≡ fill (fill d o w (row_sample s t c b w k row)) p w (row_sample s t' c' b' w k row)
-  pair-more v v' u u' n a a' h z z' =
+  pair_more v v' u u' n a a' h z z' =
       let f = inner_sample s t c b k row in
       let g = inner_sample s t' c' b' k row in
       let run : List Float = fill (set d o v) (o + 1) (w - 2) f in
@@ -70,29 +70,29 @@ module _ (s : List Float) (t c b t' c' b' w : ℕ) (k : Kernel) (row : End) (d :
 
 -- ---- rows y and y + 1 of a region
 module _ (s : List Float) (r : PlaneRegion) (k : Kernel) (y o : ℕ) (d a : List Float) where
-  pub region-pair : (t b e : ℕ) → 0 < y → y + 2 < r.height → o ≡ r.at + y * r.stride → t + r.stride ≡ o → b ≡ o + r.stride → e ≡ b + r.stride
+  pub region_pair : (t b e : ℕ) → 0 < y → y + 2 < r.height → o ≡ r.at + y * r.stride → t + r.stride ≡ o → b ≡ o + r.stride → e ≡ b + r.stride
       → a ≡ fill (fill d o r.width (row_sample s t o b r.width k inner)) b r.width (row_sample s o b e r.width k inner)
       → a ≡ fill (fill d o r.width (region_sample s r k y)) (o + r.stride) r.width (region_sample s r k (y + 1))
-  region-pair t b e z l start above between below h =
+  region_pair t b e z l start above between below h =
       let next : b ≡ r.at + (y + 1) * r.stride = omega (arith, row_below y r.stride) in
       let first : fill d o r.width (row_sample s t o b r.width k inner) ≡ fill d o r.width (region_sample s r k y) =
       fill-cong d o r.width _ _ (λ x p. region-inner s r k y x o p (omega arith) start t b z (omega arith) above between) in
       h ∙ rw (first, ← between) (fill-cong _ b r.width _ _ (λ x p. region-inner s r k (y + 1) x b p (omega arith) next o e (omega arith) (omega arith) (sym between) below))
 
   -- one row, as rows from row y
-  pub region-one : a ≡ fill d o r.width (region_sample s r k y) → a ≡ rows_fill d o r.stride r.width 1 (region_rows s r k y)
+  pub region_one : a ≡ fill d o r.width (region_sample s r k y) → a ≡ rows_fill d o r.stride r.width 1 (region_rows s r k y)
   unfolding rows_fill region_rows
-  region-one h =
+  region_one h =
       let z : y + 0 ≡ y = omega arith in
       rows-turn d d a o r.stride r.width 0 o (region_rows s r k y) refl (omega arith) (h ∙ fill-cong d o r.width _ _ (λ x p. rw z))
 
 -- two rows, as rows from row y
-pub region-two : (s : List Float) (r : PlaneRegion) (k : Kernel) (y o : ℕ) (d a : List Float)
+pub region_two : (s : List Float) (r : PlaneRegion) (k : Kernel) (y o : ℕ) (d a : List Float)
     → a ≡ fill (fill d o r.width (region_sample s r k y)) (o + r.stride) r.width (region_sample s r k (y + 1))
     → a ≡ rows_fill d o r.stride r.width 2 (region_rows s r k y)
 unfolding region_rows
-region-two s r k y o d a h =
-    rows-turn d _ a o r.stride r.width 1 (o + r.stride) (region_rows s r k y) (region-one s r k y o d _ refl) (omega arith) (h ∙ fill-cong _ _ r.width _ _ (λ x p. refl))
+region_two s r k y o d a h =
+    rows-turn d _ a o r.stride r.width 1 (o + r.stride) (region_rows s r k y) (region_one s r k y o d _ refl) (omega arith) (h ∙ fill-cong _ _ r.width _ _ (λ x p. refl))
 
 -- m rows after i rows
 pub rows_then : (d a b : List Float) (at stride n i m o : ℕ) (u v : ℕ → ℕ → Float) → a ≡ rows_fill d at stride n i v → o ≡ at + i * stride

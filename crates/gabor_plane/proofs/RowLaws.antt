@@ -111,9 +111,9 @@ row_room r len y f p =
     let q : y ≤ r.height - 1 = omega arith in
     omega (arith, f.end-le, mul-le-mul_right r.stride q)
 
-pub row-above : (y stride : ℕ) → 0 < y → y * stride ≡ (y - 1) * stride + stride
-row-above zero stride p = absurd (omega arith)
-row-above (suc y) stride p = let e : suc y - 1 ≡ y = omega arith in rw e (suc-mul y stride)
+pub row_above : (y stride : ℕ) → 0 < y → y * stride ≡ (y - 1) * stride + stride
+row_above zero stride p = absurd (omega arith)
+row_above (suc y) stride p = let e : suc y - 1 ≡ y = omega arith in rw e (suc-mul y stride)
 
 pub row_below : (y stride : ℕ) → (y + 1) * stride ≡ y * stride + stride
 row_below y stride = let e : y + 1 ≡ suc y = omega arith in rw e (suc-mul y stride)
@@ -136,13 +136,13 @@ module _ (s : List Float) (r : PlaneRegion) (k : Kernel) (y x o : ℕ) (p : x < 
 
   pub region-last : (a : ℕ) → 2 ≤ r.height → y + 1 ≡ r.height → a + r.stride ≡ o → row_sample s a o a r.width k first x ≡ region_sample s r k y x
   region-last a z l d =
-      let i : r.at + (y - 1) * r.stride ≡ a = omega (arith, row-above y r.stride (omega arith)) in
+      let i : r.at + (y - 1) * r.stride ≡ a = omega (arith, row_above y r.stride (omega arith)) in
       last-reads s a o o a r.width k x
       ∙ rw (before-other r.height y (omega arith) q, after_last r.height y l, stands-last r.height y z l, i, ← e) at (region-row s r k y x p q)
 
   pub region-inner : (t b : ℕ) → 0 < y → y + 1 < r.height → t + r.stride ≡ o → b ≡ o + r.stride
       → row_sample s t o b r.width k inner x ≡ region_sample s r k y x
   region-inner t b z l d f =
-      let i : r.at + (y - 1) * r.stride ≡ t = omega (arith, row-above y r.stride z) in
+      let i : r.at + (y - 1) * r.stride ≡ t = omega (arith, row_above y r.stride z) in
       let n : r.at + (y + 1) * r.stride ≡ b = omega (arith, row_below y r.stride) in
       rw (before-other r.height y z q, after-other r.height y l, stands-inner r.height y z l, i, n, ← e) at (region-row s r k y x p q)

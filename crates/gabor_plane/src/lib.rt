@@ -6,7 +6,7 @@ mod reads;
 mod rows;
 mod source;
 
-ghost use Rattle.std.specs.Prelude.{◌≡◌};
+ghost use Rattle.std.specs.Prelude.{◌≡◌, length};
 ghost use Rattle.gabor_plane.specs.Plane.{region_fits, plane_outcome};
 
 use gabor_kernel::kernel_of;
@@ -14,6 +14,8 @@ use limits::MAX_SIDE;
 use source::Source;
 
 // A region of a plane: row y of it starts at index at + y * stride of a slice.
+// Form: `at` is an index and no slice, since the same region is read in one slice and written in another. `Rect` has rows and
+// columns of a filter region. epf_window has such a struct for one private function; one for both would stand in `planes`.
 #[derive(Clone, Copy, Debug, PartialEq, Eq)]
 pub struct PlaneRegion {
     pub at: usize,
@@ -23,35 +25,26 @@ pub struct PlaneRegion {
 }
 
 impl PlaneRegion {
-    // Whether a region with sides of 1 to 16,384 and width <= stride <= 16,384 lies in a slice of length len.
-    fn fits(self, len: usize) -> bool
-        ensures { result ≡ region_fits self len }
+    // Whether a region with sides of 1 to 16,384 and width <= stride <= 16,384 lies in a slice.
+    fn fits(self, samples: &[f32]) -> bool
+        ensures { result ≡ region_fits self (length samples.now) }
     {
-        if self.width == 0 {
-            return false;
-        }
-        if self.height == 0 {
-            return false;
-        }
-        if self.stride < self.width {
-            return false;
-        }
-        if MAX_SIDE < self.stride {
-            return false;
-        }
-        if MAX_SIDE < self.height {
+        let sides = 0 < self.width
+            && 0 < self.height
+            && self.width <= self.stride
+            && self.stride <= MAX_SIDE
+            && self.height <= MAX_SIDE;
+        if !sides {
             return false;
         }
         let span = (self.height - 1) * self.stride + self.width;
-        if len < span {
-            return false;
-        }
-        self.at <= len - span
+        span <= samples.len() && self.at <= samples.len() - span
     }
 }
 
 // Filters n rows of a region, from row `from`. The region lies at the same indices of both slices. Does nothing if the
 // slices have different lengths, the region does not lie in them, or it has no such rows.
+#[tactic(auto, using(crate::proofs::Plane::no_region, crate::proofs::Plane::no_length, crate::proofs::Plane::no_row, crate::proofs::Plane::plane_rows))]
 pub fn gabor_plane(
     src: &[f32],
     dst: &mut [f32],
@@ -63,7 +56,7 @@ pub fn gabor_plane(
 )
     ensures { dst.new ≡ plane_outcome r from n w0 w1 src.now dst.old }
 {
-    if !r.fits(src.len()) {
+    if !r.fits(src) {
         return;
     }
     if dst.len() != src.len() {

@@ -9,6 +9,9 @@ use crate::reads::{InnerRow, Row};
 use gabor_kernel::Kernel;
 
 // n columns with neighbours on both sides.
+// Form: indices o and p of one slice: two rows of it are written alternately, and as two `&mut` subslices they would have to
+// be split between the rows first.
+#[tactic(auto, using(crate::proofs::PairLaws::both_all))]
 fn pair_columns(
     src: &[f32],
     dst: &mut [f32],
@@ -35,6 +38,8 @@ fn pair_columns(
 }
 
 // Whole rows of two columns or more.
+// Form: o, p and w as in `pair_columns`, for the same reason.
+#[tactic(auto, using(crate::proofs::PairLaws::pair_more))]
 pub(crate) fn filter_pair(
     src: &[f32],
     dst: &mut [f32],

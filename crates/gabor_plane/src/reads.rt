@@ -23,6 +23,8 @@ fn three_at(src: &[f32], o: usize, l: usize, m: usize, r: usize) -> Row3
 
 // A row with the rows above and below it, as they are after mirroring: where there is only one other row, it is both, and
 // a single row is its own neighbour.
+// Form: slice, kernel and column are parameters, and each method says how many columns it reads. A row with slice, kernel
+// and width in it would need these three fields and a ghost field in each of the three kinds, for one premise a method.
 pub(crate) trait Row: Copy {
     ghost above: { Self → ℕ };
 
@@ -51,6 +53,7 @@ pub(crate) trait Row: Copy {
 }
 
 // An inner row. An end of it is computed like an inner column whose missing neighbour is the end sample.
+// Form: where three rows start; the fields of epf_distances' `Run` are places in two other buffers and a count.
 #[derive(Clone, Copy)]
 pub(crate) struct InnerRow {
     pub above: usize,
@@ -87,6 +90,7 @@ impl Row for InnerRow {
 }
 
 // The first or last of several rows, and the row next to it.
+// Form: where two rows start; `Size`, `RowSpan` and `Tap` have two numbers of other kinds.
 #[derive(Clone, Copy)]
 pub(crate) struct EdgeRow {
     pub here: usize,

@@ -8,6 +8,8 @@ use crate::reads::Row;
 use gabor_kernel::Kernel;
 
 // n columns with neighbours on both sides.
+// Form: `o` is an index of the whole slice, as in the contract: a subslice for each row would have to be shown to lie in it
+// all the same, and its write to be a write of the whole.
 fn inner_columns<R: Row>(src: &[f32], dst: &mut [f32], row: R, o: usize, n: usize, k: Kernel)
     requires { RowsHold (R.above row) (R.here row) (R.below row) (n + 2) (length src.now)
         × (o + n ≤ length dst.old) }
@@ -20,6 +22,8 @@ fn inner_columns<R: Row>(src: &[f32], dst: &mut [f32], row: R, o: usize, n: usiz
 }
 
 // A whole row.
+// Form: `o` and `w` as in `inner_columns`, for the same reason.
+#[tactic(auto, using(crate::proofs::RowLaws::row_one, crate::proofs::RowLaws::row_more))]
 pub(crate) fn filter_row<R: Row>(
     src: &[f32],
     dst: &mut [f32],

@@ -15,6 +15,8 @@ use gabor_kernel::Kernel;
 // slice of the same length.
 // The methods take the index o where row y starts: where they computed it from y, the loops along a row of 7 columns
 // took 1.6 times as long.
+// Form: so `o` and its premise stand in three contracts; a struct of y and o would need the region in its ghost field. `dst`
+// is a parameter, since a struct that holds it as `&mut` is not `Copy` and would have each contract say what else stays.
 #[derive(Clone, Copy)]
 pub(crate) struct Source<'a> {
     pub samples: &'a [f32],
@@ -104,6 +106,7 @@ impl Source<'_> {
 
     // Filters the first of the next n rows, row y, and row y + 1 with it if these are a pair. Returns the number of rows
     // that are done.
+    #[tactic(auto, using(crate::proofs::PairLaws::region_one, crate::proofs::PairLaws::region_two))]
     fn filter_next(&self, dst: &mut [f32], y: usize, n: usize, o: usize) -> usize
         requires { (0 < n) × (y + n ≤ self.now.region.height) × (o ≡ self.now.region.at + y * self.now.region.stride)
             × (length dst.old ≡ length self.now.samples.now) }
@@ -127,7 +130,7 @@ impl Source<'_> {
     {
         let mut i = 0;
         let mut o = self.region.at + from * self.region.stride;
-        // An iteration does one row or two, so no range counts them.
+        // Form: a call answers how many rows it did, one or two, so no range counts the iterations.
         while i < n {
             let m = self.filter_next(dst, from + i, n - i, o);
             o += m * self.region.stride;

@@ -1,5 +1,5 @@
 use native.Mathlib.Omega.{arith}
-use Rattle.planes.proofs.Loop.{written_none, written-more, written_all}
+use Rattle.planes.proofs.Loop.{written_none, written-more}
 use Rattle.gabor_plane.proofs.rows.inner_columns.Goals as goal
 
 pub loop-j-init : goal.loop-j-init
@@ -7,6 +7,3 @@ loop-j-init g c = written_none _ _ _ _
 
 pub loop-j-preserved : goal.loop-j-preserved
 loop-j-preserved g c = written-more c.loop-j.invariant (omega arith) c.inner_column.ensures
-
-pub returns : goal.returns
-returns g c = written_all c.loop-j.invariant (omega arith)

@@ -2,7 +2,6 @@
 use Rattle.std.proofs.Common.{◌≡◌, ◌+◌, refl, ◌∙◌, arith}
 use native.Mathlib.Nat.{add-mul}
 use Rattle.planes.specs.Rect.{rows_fill}
-use Rattle.planes.proofs.Rect.{rows_end}
 use Rattle.gabor_plane.specs.Plane.{region_rows}
 use Rattle.gabor_plane.proofs.PairLaws.{rows_then}
 use Rattle.gabor_plane.proofs.source.Source.filter_rows.Goals as goal
@@ -10,10 +9,6 @@ use Rattle.gabor_plane.proofs.source.Source.filter_rows.Goals as goal
 pub loop-i-init : goal.loop-i-init
 unfolding rows_fill
 loop-i-init c = (omega arith, omega arith, refl, refl)
-
-pub filter_next-m-requires : goal.filter_next-m-requires
-filter_next-m-requires c =
-    (omega arith, omega arith, omega (arith, add-mul c.args.from c.loop-i.i c.args.self.now.region.stride), omega arith)
 
 pub loop-i-preserved : goal.loop-i-preserved
 unfolding region_rows
@@ -25,6 +20,3 @@ loop-i-preserved c =
       rows_then _ _ _ _ _ _ _ _ _ _ _ inv.3 inv.1
           (λ j x. let z : c.args.from + c.loop-i.i + j ≡ c.args.from + (c.loop-i.i + j) = omega arith in rw z) c.filter_next-m.ensures.dst_after,
     )
-
-pub returns : goal.returns
-returns c = let inv = c.loop-i.invariant in rows_end _ _ _ _ _ _ _ _ inv.3 inv.0 c.loop-i-test.false
