@@ -22,9 +22,9 @@ use Rattle.gabor_kernel.specs.Gabor.{kernel_of, gabor, side_weight, diagonal_wei
 use Rattle.gabor_kernel.proofs.Local.{gabor_by-same}
 use Rattle.gabor_plane.specs.declared.PlaneRegion.{PlaneRegion}
 use Rattle.gabor_plane.specs.Rows.{region, region_sample, RegionFits}
-use Rattle.gabor_plane.proofs.RowLaws.{row-above}
+use Rattle.gabor_plane.proofs.RowLaws.{row_above}
 use Rattle.gabor_plane.specs.Plane.{region_rows, plane_outcome}
-use Rattle.gabor_plane.proofs.Plane.{region-true, plane-rows}
+use Rattle.gabor_plane.proofs.Plane.{region-true, plane_rows}
 use Rattle.gabor.specs.Pass.{pass_rows}
 
 -- the filter region of plane c, as a region of the list
@@ -40,38 +40,38 @@ module _ (l : Layout) (s : List Float) (c : ℕ) where
       (λ dx dy p q. ap (λ (i : ℕ). get_or s i nan) (region-index l c (mirror (pos x +ℤ dx) l.width) (mirror (pos y +ℤ dy) l.height))) (stands l.width x) (stands l.height y)
 
 -- an iteration of the loop over planes
-pub plane-next : (l : Layout) (ws : List (List Float)) (s d a b : List Float) (k from m : ℕ)
+pub plane_next : (l : Layout) (ws : List (List Float)) (s d a b : List Float) (k from m : ℕ)
     → a ≡ planes_fill l.image.width l.image.height l.left l.width (l.top + from) m (pass_rows ws l s from) d k
     → RegionFits (filter_region l k) (length s) → length a ≡ length s → from + m ≤ l.height
     → b ≡ plane_outcome (filter_region l k) from m (side_weight ws k) (diagonal_weight ws k) s a
     → b ≡ planes_fill l.image.width l.image.height l.left l.width (l.top + from) m (pass_rows ws l s from) d (k + 1)
 unfolding region_rows pass_rows gabor_pass
-plane-next l ws s d a b k from m p f len rows q =
+plane_next l ws s d a b k from m p f len rows q =
     let z : region_start l k + from * l.image.width ≡ (k * l.image.height + (l.top + from)) * l.image.width + l.left =
     let r : k * l.image.height + (l.top + from) ≡ k * l.image.height + l.top + from = omega arith in
     rw r (omega (arith, add-mul (k * l.image.height + l.top) from l.image.width)) in
     planes-turn l.image.width l.image.height l.left l.width (l.top + from) m _ d a b k p
-    (q ∙ sym (plane-rows (filter_region l k) from m (side_weight ws k) (diagonal_weight ws k) s a (region-true (filter_region l k) (length s) f) len rows)
+    (q ∙ sym (plane_rows (filter_region l k) from m (side_weight ws k) (diagonal_weight ws k) s a (region-true (filter_region l k) (length s) f) len rows)
     ∙ rw z (rows-cong a _ l.image.width l.width m _ _ (λ i x h t. region-sample l s k (side_weight ws k) (diagonal_weight ws k) (from + i) x)))
 
 -- the filter region's part of plane c lies within the n planes
-pub plane-region : (l : Layout) (n c : ℕ) → LayoutFits l → PlaneRoom l n c → 0 < l.width → 0 < l.height
+pub plane_region : (l : Layout) (n c : ℕ) → LayoutFits l → PlaneRoom l n c → 0 < l.width → 0 < l.height
     → RegionFits (filter_region l c) (n * l.image.height * l.image.width)
-plane-region l n c f r w h = record {
+plane_region l n c f r w h = record {
   width-pos = w;
   height-pos = h;
   width-le-stride = omega (arith, f.across);
   stride-le = f.width-le;
   height-le = omega (arith, f.down, f.height-le);
-  end-le = omega (arith, f.across, r.ends, row-above l.height l.image.width h);
+  end-le = omega (arith, f.across, r.ends, row_above l.height l.image.width h);
 }
 
 -- a band: samples outside the filter region are copied, then those inside are filtered
-pub band-passed : (l : Layout) (n from to f t : ℕ) (ws : List (List Float)) (src dst a b : List Float) → BandFits l n from to src dst
+pub band_passed : (l : Layout) (n from to f t : ℕ) (ws : List (List Float)) (src dst a b : List Float) → BandFits l n from to src dst
     → a ≡ copied_outside l n from to src dst → f ≡ filter_row l from → t ≡ filter_row l to
     → b ≡ planes_fill l.image.width l.image.height l.left l.width (l.top + f) (t - f) (pass_rows ws l src f) a n
     → b ≡ passed n l from to (gabor_pass ws l.width l.height (inner l src)) src dst
 unfolding pass_rows
-band-passed l n from to f t ws src dst a b fits e p q h =
+band_passed l n from to f t ws src dst a b fits e p q h =
     passed_over l n from to src dst fits (gabor_pass ws l.width l.height (inner l src)) b
     (h ∙ rw (e, fits-copied l n from to src dst fits, p, q))

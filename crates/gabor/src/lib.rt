@@ -17,6 +17,9 @@ use region::Region;
 // Filters rows `from` up to, not including, `to` of the result region. That is the image region (`preserve_outside` 1)
 // or the filter region (0). Reads `src` and writes `dst`, sets of three planes. Each channel has two weights, of the
 // side neighbours and of the diagonal ones; any binary32 values are accepted.
+// Form: `preserve_outside` is the number that a C caller hands in. It is refused by 9, after the lengths of both sets, which
+// go by the image alone, so it is no `bool` before that.
+#[tactic(auto, using(crate::proofs::Fits::outcome_source, crate::proofs::Fits::outcome_target, crate::proofs::Fits::outcome_flag, crate::proofs::Fits::outcome_rows, crate::proofs::Fits::outcome_sides, crate::proofs::Fits::outcome_passed))]
 pub fn gabor_pass(
     image: Region,
     filter: Region,
@@ -43,6 +46,6 @@ pub fn gabor_pass(
     if !rows_fit(l, from as usize, to as usize) {
         return Err(Refusal::OutOfRange);
     }
-    gabor_band(src, dst, l, weights, PLANES, from as usize, to as usize);
+    gabor_band(src, dst, l, weights, from as usize, to as usize);
     Ok(())
 }

@@ -7,27 +7,26 @@ ghost use Rattle.gabor_kernel.specs.Gabor.{gabor_pass};
 ghost use Rattle.gabor.specs.Pass.{pass_rows};
 
 use gabor_plane::{PlaneRegion, gabor_plane};
-use planes::{Layout, filter_row};
+use planes::{Layout, PLANES, filter_row};
 use planes_outside::copy_outside;
 
-// Filters `rows` rows of the filter region, from row `from`, in the first n planes.
+// Filters `rows` rows of the filter region, from row `from`, in each plane.
+// Form: the set that is read and the set that is written are two slices of a C caller, so their lengths are compared.
 fn gabor_planes(
     src: &[f32],
     dst: &mut [f32],
     l: Layout,
     weights: [[f32; 2]; 3],
-    n: usize,
     from: usize,
     rows: usize,
 )
     requires layout_fits { LayoutFits l }
-    requires n_bound { (n ≤ 3) × (0 < l.width) × (0 < l.height)
-        × (length src.now ≡ n * l.image.height * l.image.width)
-        × (length dst.old ≡ n * l.image.height * l.image.width) × (from + rows ≤ l.height) }
+    requires rows_within { (0 < l.width) × (0 < l.height) × (from + rows ≤ l.height) }
+    requires lengths { (length src.now ≡ 3 * l.image.height * l.image.width) × (length dst.old ≡ length src.now) }
     ensures { dst.new ≡ planes_fill l.image.width l.image.height l.left l.width
-        (l.top + from) rows (pass_rows weights l src.now from) dst.old n }
+        (l.top + from) rows (pass_rows weights l src.now from) dst.old 3 }
 {
-    for c in 0..n {
+    for c in 0..PLANES {
         let p = weights[c];
         let at = (c * l.image.height + l.top) * l.image.width + l.left;
         let r = PlaneRegion {
@@ -40,24 +39,24 @@ fn gabor_planes(
     }
 }
 
-// Rows `from` up to, not including, `to` of the result region, in n planes.
+// Rows `from` up to, not including, `to` of the result region.
+#[tactic(auto, using(crate::proofs::PassLaws::band_passed))]
 pub(crate) fn gabor_band(
     src: &[f32],
     dst: &mut [f32],
     l: Layout,
     weights: [[f32; 2]; 3],
-    n: usize,
     from: usize,
     to: usize,
 )
-    requires band_fits { BandFits l n from to src.now dst.old }
+    requires band_fits { BandFits l 3 from to src.now dst.old }
     requires width_nonzero { (0 < l.width) × (0 < l.height) }
-    ensures { dst.new ≡ passed n l from to
+    ensures { dst.new ≡ passed 3 l from to
         (gabor_pass weights l.width l.height (inner l src.now)) src.now
         dst.old }
 {
-    copy_outside(src, dst, l, n, from, to);
+    copy_outside(src, dst, l, PLANES, from, to);
     let first = filter_row(l, from);
     let last = filter_row(l, to);
-    gabor_planes(src, dst, l, weights, n, first, last - first);
+    gabor_planes(src, dst, l, weights, first, last - first);
 }
