@@ -3,12 +3,13 @@ use mathlib.Core.Path.{◌≡◌, refl}
 use mathlib.Core.Bool.{Bool, true, false, cond}
 use mathlib.Core.List.{List, [], ◌∷◌}
 use Prim.Native.Nat.{ℕ, ◌+◌, ◌*◌, ◌<◌, ◌≤◌}
-use native.Mathlib.Nat.{mul-le-mul, mul-le-mul_left, le_trans}
+use native.Mathlib.Nat.{mul-le-mul_left, le_trans}
 use native.Mathlib.Numerals.{add-one}
 use native.Mathlib.Omega.{arith}
 use borrow.Author.Tests.{lt-ltb, le-ltb, lt-leb}
 use lib.ListN.{length, get_or, drop}
 use lib.Seq.{drop-cons}
+use Rattle.std.proofs.Common.{drop_of_length-le}
 use Rattle.std.specs.Prelude.{Option, None, ℤ}
 use Rattle.replay_text.specs.Numbers.{digit_of, all_digits, appended, value_of, spelled}
 
@@ -38,9 +39,9 @@ module _ (base : ℕ) (negative : Bool) where
   first [] h = absurd (omega arith)
   first (x ∷ rest) h = refl
 
-  pub last : (n : ℕ) → continued base negative n [] ≡ value_of negative n
+  pub last : (word : List ℕ) (i n : ℕ) → length word ≤ i → continued base negative n (drop i word) ≡ value_of negative n
   unfolding continued all_digits appended
-  last n = refl
+  last word i n h = rw (drop_of_length-le word h)
 
   module _ (word : List ℕ) (i n : ℕ) (h : i < length word) where
     next : drop i word ≡ get_or word i 0 ∷ drop (i + 1) word
@@ -55,12 +56,10 @@ module _ (base : ℕ) (negative : Bool) where
     unfolding continued all_digits
     no_digit l = rw (next, le-ltb _ _ l)
 
-    grown : 8 ≤ base → n * base ≤ appended base n (drop i word)
+    grown : 8 ≤ base → n * base + digit_of (get_or word i 0) ≤ appended base n (drop i word)
     unfolding appended
-    grown l = rw next (le_trans (omega arith) (at_least base (n * base + digit_of (get_or word i 0)) (drop (i + 1) word) l))
+    grown l = rw next (at_least base (n * base + digit_of (get_or word i 0)) (drop (i + 1) word) l)
 
-    pub too_large : 8 ≤ base → 0x0fff_ffff_ffff_ffff < n → continued base negative n (drop i word) ≡ None
+    pub too_large : 8 ≤ base → 0x7fff_ffff_ffff_ffff < n * base + digit_of (get_or word i 0) → continued base negative n (drop i word) ≡ None
     unfolding continued
-    too_large l k =
-        let m : 1152921504606846976 * 8 ≤ n * base = mul-le-mul k l in
-        rw (lt-leb (appended base n (drop i word)) 0x7fff_ffff_ffff_ffff (omega (arith, grown l))) (cond_same (all_digits base (drop i word)))
+    too_large l k = rw (lt-leb (appended base n (drop i word)) 0x7fff_ffff_ffff_ffff (omega (arith, grown l))) (cond_same (all_digits base (drop i word)))

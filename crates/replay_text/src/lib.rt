@@ -5,11 +5,6 @@ ghost use Rattle.std.specs.Prelude.{◌≡◌, ◌≤◌, ◌==◌, drop, positi
 ghost use Rattle.replay_text.specs.Words.{end_of};
 ghost use Rattle.replay_text.specs.Numbers.{digit_of, value_of, spelled, number_of};
 
-const LARGEST: u64 = 0x7fff_ffff_ffff_ffff;
-// The largest number that still fits a u64 with a hexadecimal digit appended. A larger one is over 2^63 - 1 with any
-// digit appended.
-const LARGEST_WITH_ROOM: u64 = 0x0fff_ffff_ffff_ffff;
-
 const NO_DIGIT: u64 = 16;
 
 // The index of the first such byte, if there is one.
@@ -20,6 +15,7 @@ fn find(text: &[u8], byte: u8) -> Option<usize>
 }
 
 // The index of the first such byte from `at` on, or the end of the text.
+#[tactic(auto, using(crate::proofs::Words::missed))]
 pub fn end_of(text: &[u8], at: usize, byte: u8) -> usize
     ensures { result ≡ end_of text.now at byte }
 {
@@ -32,7 +28,8 @@ pub fn end_of(text: &[u8], at: usize, byte: u8) -> usize
     }
 }
 
-// The value of a hexadecimal digit, 16 for any other byte: so one comparison with a base refuses that too.
+// The value of a hexadecimal digit, 16 for any other byte.
+// Form: one comparison with a base refuses 16 and a digit of a larger base alike; an `Option` would be tested as well.
 #[tactic(auto, using(std::proofs::lemmas::Bool::Decides::nat_tests), unfolding(crate::specs::Numbers::digit_of))]
 fn digit(byte: u8) -> u64
     ensures { result ≡ digit_of byte }
@@ -45,17 +42,16 @@ fn digit(byte: u8) -> u64
 }
 
 // The number of this sign and size, unless the size is over 2^63 - 1.
+// Form: `negative` is the word's sign, a part of the value as much as the size.
 fn value(size: u64, negative: bool) -> Option<i64>
     ensures { result ≡ value_of negative size }
 {
-    if LARGEST < size {
-        return None;
-    }
-    let n = size as i64;
+    let n = i64::try_from(size).ok()?;
     Some(if negative { -n } else { n })
 }
 
 // The number with these digits.
+#[tactic(auto, using(crate::proofs::Reading::none, crate::proofs::Reading::first, crate::proofs::Reading::last, crate::proofs::Reading::turn, crate::proofs::Reading::no_digit, crate::proofs::Reading::too_large))]
 fn spelled(digits: &[u8], base: u64, negative: bool) -> Option<i64>
     requires { (8 ≤ base) × (base ≤ 16) }
     ensures { result ≡ spelled base negative digits.now }
@@ -69,10 +65,7 @@ fn spelled(digits: &[u8], base: u64, negative: bool) -> Option<i64>
         if base <= d {
             return None;
         }
-        if LARGEST_WITH_ROOM < size {
-            return None;
-        }
-        size = size * base + d;
+        size = size.checked_mul(base)?.checked_add(d)?;
     }
     value(size, negative)
 }
