@@ -1,5 +1,5 @@
 -- The result of loops over planes and rows that write a rectangle, as the set of a picture. Assumes nothing.
-use mathlib.Core.Path.{◌≡◌, refl, sym, ◌∙◌}
+use mathlib.Core.Path.{◌≡◌, refl, ◌∙◌}
 use mathlib.Core.Bool.{true, false, cond, ◌&&◌}
 use mathlib.Core.List.{List}
 use mathlib.Core.Logic.{◌⊎◌, inl, inr, ⊎_elim}
@@ -13,8 +13,7 @@ use lib.Dec.{leb, ltb}
 use lib.ListN.{length, get_or}
 use lib.Ieee.{Float, nan}
 use Rattle.planes.specs.Picture.{Picture, in_rect}
-use Rattle.planes.specs.Sets.{of, set_of}
-use Rattle.planes.proofs.SetLaws.{length-set_of, of-set_of, sets-ext}
+use Rattle.planes.specs.Sets.{of}
 use Rattle.planes.specs.Fill.{fill}
 use Rattle.planes.proofs.Fill.{length-fill, fill-before, fill-after, fill-at, fill-cong}
 use Rattle.planes.specs.Rect.{rows_fill, planes_fill}
@@ -166,11 +165,3 @@ module _ (w h left n top m : ℕ) (v : Picture) (fits : left + n ≤ w) (high : 
   planes-at d zero c x y l room p q = absurd (omega arith)
   planes-at d (suc k) c x y l room p q =
       planes-step d k c x y room p q (λ (z : c < k). planes-at d k c x y z (omega (arith, suc-mul k h, add-mul (k * h) h w, rw (suc-mul k h) at room)) p q) (omega arith) (ℕ_discrete c k) (between left n x) (between top m y)
-
-  -- the set after the loops
-  pub planes-set : (d : List Float) (k : ℕ) → length d ≡ k * h * w
-      → planes_fill w h left n top m v d k ≡ set_of k w h (λ c x y. cond (in_rect left n top m x y) (v c (x - left) (y - top)) (of w h d c x y))
-  planes-set d k e =
-      let g : Picture = λ c x y. cond (in_rect left n top m x y) (v c (x - left) (y - top)) (of w h d c x y) in
-      sets-ext k w h (planes_fill w h left n top m v d k) (set_of k w h g) (length-planes_fill d k ∙ e) (length-set_of k w h g)
-      (λ c x y l p q. planes-at d k c x y l (omega arith) p q ∙ sym (of-set_of k w h g c x y l p q))

@@ -1,34 +1,21 @@
 -- Room in a slice: what the tests of a run and of a set say, and where rows and the filter region's part of a plane lie. Assumes nothing.
 use mathlib.Core.Path.{◌≡◌}
 use mathlib.Core.Bool.{true, ◌&&◌}
-use Prim.Native.Nat.{ℕ, ◌+◌, ◌-◌, ◌*◌, ◌<◌, ◌≤◌}
+use Prim.Native.Nat.{ℕ, ◌+◌, ◌*◌, ◌<◌, ◌≤◌}
 use native.Mathlib.Nat.{suc-mul, mul-le-mul, mul-le-mul_right, add-mul}
-use native.Mathlib.Numerals.{add-one}
-use native.Mathlib.Decide.{dec_le}
 use native.Mathlib.Omega.{arith}
-use borrow.Author.Tests.{leb-true, eqb-true, le-leb, lt-leb, eq-eqb}
+use borrow.Author.Tests.{leb-true, eqb-true, le-leb, eq-eqb}
 use lib.Dec.{eqb, leb}
 use Rattle.planes.specs.declared.Layout.{Layout}
 use Rattle.planes.specs.Band.{layout_fits, set_fits}
 use Rattle.planes.proofs.Stored.{and_first, and_second, layout-fits}
 use Rattle.planes.specs.Fits.{LayoutFits}
 
--- a test that n samples from index `at` end at `end` or before, without overflow
-pub run_ends : (at n end : ℕ) → n ≤ end → leb at (end - n) ≡ leb (at + n) end
-run_ends at n end h = go (dec_le (at + n) end)
-  where
-    go : Dec (at + n ≤ end) → leb at (end - n) ≡ leb (at + n) end
-    go (yes p) = rw (le-leb at (end - n) (omega arith), le-leb (at + n) end p)
-    go (no p) = rw (lt-leb at (end - n) (omega arith), lt-leb (at + n) end (omega arith))
-
 -- ---- rows of w samples
 
 -- row i of n ends within n rows
 pub row_room : (i n w : ℕ) → i < n → i * w + w ≤ n * w
 row_room i n w p = omega (arith, suc-mul i w, mul-le-mul_right w p)
-
-pub next_row : (i w : ℕ) → (i + 1) * w ≡ i * w + w
-next_row i w = rw add-one (suc-mul i w)
 
 -- m rows of plane c from row `top`: their indices fit machine integers, and they lie within n planes of h rows
 pub record RowsRoom (w h n c top m : ℕ) : Type 0 where

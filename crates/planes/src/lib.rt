@@ -12,6 +12,7 @@ use limits::MAX_SIDE;
 pub const PLANES: usize = 3;
 
 // The sides of a region, in samples.
+// Form: `Grid` counts cells of a group, in `u32`; `EdgeRow` and `Tap` are indices, and `RowSpan` a row and a count.
 #[derive(Clone, Copy, Debug, PartialEq, Eq)]
 pub struct Size {
     pub width: usize,
@@ -20,6 +21,7 @@ pub struct Size {
 
 // The position of a filter region in an image region: `left` and `top` count from the image region's corner.
 // `full`: the result region is the image region (`preserve_outside` is 1), otherwise the filter region.
+// Form: an enum in place of `full` would have no values of its own in either case.
 #[derive(Clone, Copy, Debug, PartialEq, Eq)]
 pub struct Layout {
     pub image: Size,
@@ -31,80 +33,56 @@ pub struct Layout {
 }
 
 // Whether n samples from index `at` end at `end` or before.
+// Form: `end` is the length of a slice or a side of the image.
 fn inside(at: usize, n: usize, end: usize) -> bool
     ensures { result ≡ leb (at + n) end }
 {
-    if end < n {
-        return false;
-    }
-    at <= end - n
+    n <= end && at <= end - n
 }
 
 // Whether the image region's sides are at most 16,384 and the filter region is inside it.
 pub fn layout_fits(l: Layout) -> bool
     ensures { result ≡ layout_fits l }
 {
-    if MAX_SIDE < l.image.width {
-        return false;
-    }
-    if MAX_SIDE < l.image.height {
-        return false;
-    }
-    if !inside(l.left, l.width, l.image.width) {
-        return false;
-    }
-    inside(l.top, l.height, l.image.height)
+    l.image.width <= MAX_SIDE
+        && l.image.height <= MAX_SIDE
+        && inside(l.left, l.width, l.image.width)
+        && inside(l.top, l.height, l.image.height)
 }
 
 // Whether a slice of this length is a set of n planes.
+// Form: the length alone, as no sample is read.
 pub fn set_fits(l: Layout, n: usize, len: usize) -> bool
     ensures { result ≡ set_fits l n len }
 {
-    if !layout_fits(l) {
-        return false;
-    }
-    if PLANES < n {
-        return false;
-    }
-    len == n * l.image.height * l.image.width
+    layout_fits(l) && n <= PLANES && len == n * l.image.height * l.image.width
 }
 
 // Whether these are rows of the result region.
 pub fn rows_fit(l: Layout, from: usize, to: usize) -> bool
     ensures { result ≡ rows_fit l from to }
 {
-    if to < from {
-        return false;
-    }
-    if l.full {
-        return to <= l.image.height;
-    }
-    to <= l.height
+    let rows = if l.full { l.image.height } else { l.height };
+    from <= to && to <= rows
 }
 
 // The row of the filter region at a row of the result region.
 pub fn filter_row(l: Layout, y: usize) -> usize
     ensures { result ≡ filter_row l y }
 {
-    if !l.full {
-        return y;
+    if l.full {
+        y.saturating_sub(l.top).min(l.height)
+    } else {
+        y
     }
-    if y <= l.top {
-        return 0;
-    }
-    let row = y - l.top;
-    if row <= l.height { row } else { l.height }
 }
 
 // Copies n samples from index `from` of `src` to index `at` of `dst`. Does nothing if either slice is too short.
+#[tactic(auto, using(crate::proofs::Copy::no_room, crate::proofs::Copy::no_source))]
 pub fn copy_run(dst: &mut [f32], at: usize, src: &[f32], from: usize, n: usize)
     ensures { dst.new ≡ copied_run dst.old at src.now from n }
 {
-    if !inside(at, n, dst.len()) {
-        return;
+    if inside(at, n, dst.len()) && inside(from, n, src.len()) {
+        dst[at..at + n].copy_from_slice(&src[from..from + n]);
     }
-    if !inside(from, n, src.len()) {
-        return;
-    }
-    dst[at..at + n].copy_from_slice(&src[from..from + n]);
 }
