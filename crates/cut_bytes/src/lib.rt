@@ -1,4 +1,6 @@
 // Numbers in the bytes of a cut file, the least significant byte first (Specification 16.1).
+// Form: `u16_at`, `u32_at`, `i32_at`, `put_u16` and `put_u32` have the widths of the file's form in their names, and each
+// is one call of `bytes_at` or `put` with the library's method.
 #![tactic(auto)]
 
 ghost use Rattle.std.specs.Prelude.{◌≡◌, ◌+◌, ◌<◌, ℕ, get_or};
@@ -41,20 +43,16 @@ pub fn i32_at(bytes: &[u8], at: usize) -> i32
 fn put(bytes: &mut [u8], at: usize, part: &[u8])
     ensures { bytes.new ≡ stored bytes.old at part.now }
 {
-    if bytes.len() < part.len() {
-        return;
+    if part.len() <= bytes.len() && at <= bytes.len() - part.len() {
+        bytes[at..at + part.len()].copy_from_slice(part);
     }
-    if bytes.len() - part.len() < at {
-        return;
-    }
-    bytes[at..at + part.len()].copy_from_slice(part);
 }
 
 // Stores two bytes of x at index `at`, if they are inside the slice.
 pub fn put_u16(bytes: &mut [u8], at: usize, x: u32)
     ensures { bytes.new ≡ stored bytes.old at (bytes_of 2 x) }
 {
-    put(bytes, at, &((x % 65_536) as u16).to_le_bytes());
+    put(bytes, at, &x.to_le_bytes()[..2]);
 }
 
 // Stores four bytes of x at index `at`, if they are inside the slice.
