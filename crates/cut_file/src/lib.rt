@@ -29,6 +29,7 @@ pub const TABLE_START: usize = 6;
 pub const ENTRY: usize = 16;
 
 // The rectangles of a file: the first `count` of the regions.
+// Form: C's struct, which holds all rectangles of a file, and there is no heap.
 #[repr(C)]
 #[derive(Clone, Copy)]
 pub struct CutTable {
@@ -113,8 +114,8 @@ fn check_entries(file: &[u8], count: u32) -> Result<(), Refusal>
     Ok(())
 }
 
-#[tactic(auto, unfolding(crate::specs::Read::file_checks))]
 // Refuses a file for the first of its faults (Specification 16.5).
+#[tactic(auto, unfolding(crate::specs::Read::file_checks))]
 pub fn check_file(file: &[u8]) -> Result<(), Refusal>
     ensures { number_of result ≡ first_of (file_checks file.now) }
 {

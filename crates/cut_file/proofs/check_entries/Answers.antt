@@ -57,9 +57,6 @@ loop-i-init c =
       number_is = all_left c.args.file.now c.args.count;
     }
 
-pub check_entry-requires : goal.check_entry-requires
-check_entry-requires c = (omega (arith, c.requires.0), c.loop-i.invariant.end_is)
-
 pub returns-in_err-check_entry : goal.returns-in_err-check_entry
 returns-in_err-check_entry c =
     let a = c.args in
@@ -73,7 +70,7 @@ loop-i-preserved c =
     let file : List ℕ = c.args.file.now in
     let inv : Checked file c.args.count c.loop-i.i c.loop-i.end = c.loop-i.invariant in
     let none : entry_number file c.loop-i.i ≡ 0 = sym c.in_ok-check_entry.ensures in
-    let samples : Sampled (region_in file c.loop-i.i) c.sample_count.result = counted file c.loop-i.i c.sample_count.result c.region_in.result none c.region_in.ensures c.sample_count.ensures in
+    let samples = counted _ _ _ _ none c.region_in.ensures c.sample_count.ensures in
     record {
       i-le = omega arith;
       end_is = omega (arith, inv.end_is, samples.are, body-next (region_in file) (count_in file) c.loop-i.i);
@@ -95,15 +92,8 @@ returns c =
 
 pub overflow_mul-end : goal.overflow_mul-end
 overflow_mul-end c =
-    let none : entry_number c.args.file.now c.loop-i.i ≡ 0 = sym c.in_ok-check_entry.ensures in
-    omega (arith, (counted c.args.file.now c.loop-i.i c.sample_count.result c.region_in.result none c.region_in.ensures c.sample_count.ensures).le)
+    omega (arith, (counted _ _ _ _ (sym c.in_ok-check_entry.ensures) c.region_in.ensures c.sample_count.ensures).le)
 
 pub overflow_add-end : goal.overflow_add-end
 overflow_add-end c =
-    let none : entry_number c.args.file.now c.loop-i.i ≡ 0 = sym c.in_ok-check_entry.ensures in
-    omega (
-      arith,
-      (counted c.args.file.now c.loop-i.i c.sample_count.result c.region_in.result none c.region_in.ensures c.sample_count.ensures).le,
-      c.loop-i.invariant.end-le,
-      c.requires.0,
-    )
+    omega (arith, (counted _ _ _ _ (sym c.in_ok-check_entry.ensures) c.region_in.ensures c.sample_count.ensures).le, c.loop-i.invariant.end-le, c.requires.0)

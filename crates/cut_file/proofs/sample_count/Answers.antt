@@ -8,9 +8,6 @@ use Rattle.region.specs.Measures.{picture_fits}
 use Rattle.cut_file.proofs.Laws.{area-le}
 use Rattle.cut_file.proofs.sample_count.Goals as goal
 
-pub picture_fits-requires : goal.picture_fits-requires
-picture_fits-requires c = tt
-
 pub overflow_mul-result-2 : goal.overflow_mul-result-2
 overflow_mul-result-2 c =
     let fits : picture_fits c.args.r ≡ true = sym c.picture_fits.ensures ∙ c.if-not-picture_fits.false in
