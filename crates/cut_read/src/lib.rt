@@ -10,10 +10,11 @@ ghost use Rattle.cut_read.specs.Outcome.{count_answer_of, cut_answer_of, read_ou
 use byteorder::{ByteOrder, LittleEndian};
 use cut_bytes::{u16_at, u32_at};
 use cut_file::{MARKER_LENGTH, check_file, entry_at, region_in, sample_count};
-use refusals::{ACCEPTED, Refusal};
+use refusals::{Refusal, number_of};
 use region::Region;
 
 // How many rectangles a file has; 0 in a refused call.
+// Form: C's answer, a number with zeros beside a refusal; Rust callers get the `Result`. No other counts rectangles.
 #[repr(C)]
 #[derive(Clone, Copy)]
 pub struct CountAnswer {
@@ -22,6 +23,7 @@ pub struct CountAnswer {
 }
 
 // The region of a rectangle.
+// Form: C's answer, a number with zeros beside a refusal; Rust callers get the `Result`. `RegionAnswer` has another name in C.
 #[repr(C)]
 #[derive(Clone, Copy)]
 pub struct CutAnswer {
@@ -29,42 +31,28 @@ pub struct CutAnswer {
     pub region: Region,
 }
 
-// The answers at the C boundary stand here, since the theorem of `cut_round` speaks of them.
+// The answer at the C boundary stands here, since the theorem of `cut_round` speaks of it.
+// Form: one impl for each of C's structs, since an impl that a macro writes is refused.
 impl From<Result<u32, Refusal>> for CountAnswer {
     ghost from_gives = { λ counted answer. answer ≡ count_answer_of counted };
 
     fn from(counted: Result<u32, Refusal>) -> CountAnswer {
-        match counted {
-            Ok(count) => CountAnswer {
-                number: ACCEPTED,
-                count,
-            },
-            Err(refusal) => CountAnswer {
-                number: u32::from(refusal),
-                count: 0,
-            },
+        CountAnswer {
+            number: number_of(counted.map(|_| ())),
+            count: counted.unwrap_or_default(),
         }
     }
 }
 
+// The answer at the C boundary stands here, since the theorem of `cut_round` speaks of it.
+// Form: one impl for each of C's structs, since an impl that a macro writes is refused.
 impl From<Result<Region, Refusal>> for CutAnswer {
     ghost from_gives = { λ found answer. answer ≡ cut_answer_of found };
 
     fn from(found: Result<Region, Refusal>) -> CutAnswer {
-        match found {
-            Ok(region) => CutAnswer {
-                number: ACCEPTED,
-                region,
-            },
-            Err(refusal) => CutAnswer {
-                number: u32::from(refusal),
-                region: Region {
-                    left: 0,
-                    top: 0,
-                    width: 0,
-                    height: 0,
-                },
-            },
+        CutAnswer {
+            number: number_of(found.map(|_| ())),
+            region: found.unwrap_or_default(),
         }
     }
 }
