@@ -1,7 +1,6 @@
 -- `cut_read::cut_region` meets its contract. Assumes nothing.
 use mathlib.Core.Path.{◌≡◌, sym, ◌∙◌}
-use mathlib.Core.List.{List}
-use Prim.Native.Nat.{ℕ, ◌≤◌, ◌<◌}
+use Prim.Native.Nat.{◌≤◌, ◌<◌}
 use borrow.Author.Rules.{rules}
 use Rattle.refusals.specs.Checks.{first_of}
 use Rattle.refusals.specs.Refusals.{number, number_of}
@@ -12,20 +11,17 @@ use Rattle.cut_read.proofs.cut_region.Goals as goal
 
 pub returns-in_err-count : goal.returns-in_err-count
 returns-in_err-count c =
-    let s : List ℕ = c.args.file.now in
     let e = c.in_err-count.field-0.0 in
-    let n : number e ≡ first_of (file_checks s) = c.in_err-count.ensures.0 in
+    let n : number e ≡ first_of (file_checks c.args.file.now) = c.in_err-count.ensures.0 in
     let r : number_of c.from_residual.result ≡ number e = search rules in
-    (r ∙ n ∙ sym (file-refused s c.args.k (λ z. number-nonzero e (n ∙ z))), search rules)
+    (r ∙ n ∙ sym (file-refused _ _ (λ z. number-nonzero e (n ∙ z))), search rules)
 
 pub returns-then-count-k : goal.returns-then-count-k
 returns-then-count-k c =
-    let s : List ℕ = c.args.file.now in
-    let past : count_in s ≤ c.args.k = rw c.in_ok-count.ensures.1 at c.if-count-k.true in
-    (sym (rectangle-missing s c.args.k (sym c.in_ok-count.ensures.0) past), tt)
+    let past : count_in c.args.file.now ≤ c.args.k = rw c.in_ok-count.ensures.1 at c.if-count-k.true in
+    (sym (rectangle-missing _ _ (sym c.in_ok-count.ensures.0) past), tt)
 
 pub returns : goal.returns
 returns c =
-    let s : List ℕ = c.args.file.now in
-    let less : c.args.k < count_in s = rw c.in_ok-count.ensures.1 at c.if-count-k.false in
-    (sym (rectangle-there s c.args.k (sym c.in_ok-count.ensures.0) less), c.region_in.ensures)
+    let less : c.args.k < count_in c.args.file.now = rw c.in_ok-count.ensures.1 at c.if-count-k.false in
+    (sym (rectangle-there _ _ (sym c.in_ok-count.ensures.0) less), c.region_in.ensures)

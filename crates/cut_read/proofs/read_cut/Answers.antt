@@ -58,44 +58,31 @@ kept s k n slice e z = sym (ap (λ (o : ReadOutcome). o.samples) (read-refused s
 
 pub returns-in_err-region : goal.returns-in_err-region
 returns-in_err-region c =
-    let s : List ℕ = c.args.file.now in
-    let k : ℕ = c.args.k in
-    let slice : List ℕ = c.args.samples.now in
     let e = c.in_err-region.field-0.0 in
-    let n : number e ≡ first_of (region_checks s k) = c.in_err-region.ensures.0 in
-    let m = region-refused s k (length slice) (λ z. number-nonzero e (n ∙ z)) ∙ sym n in
+    let n : number e ≡ first_of (region_checks c.args.file.now c.args.k) = c.in_err-region.ensures.0 in
+    let m = region-refused _ _ (length c.args.samples.now) (λ z. number-nonzero e (n ∙ z)) ∙ sym n in
     let r : number_of c.from_residual.result ≡ number e = search rules in
-    record { answer = (r ∙ sym m, search rules); stored = kept s k (number e) slice m (number-nonzero e) }
+    record { answer = (r ∙ sym m, search rules); stored = kept _ _ (number e) _ m (number-nonzero e) }
 
 pub returns-then-samples-sample_count : goal.returns-then-samples-sample_count
 returns-then-samples-sample_count c =
-    let s : List ℕ = c.args.file.now in
-    let k : ℕ = c.args.k in
-    let slice : List ℕ = c.args.samples.now in
-    let f = found s k c.in_ok-region.region c.sample_count.result _ _ c.in_ok-region.ensures c.sample_count.ensures refl refl in
-    let m = length-unlike s k (length slice) f.number-good (λ p. c.if-samples-sample_count.true (p ∙ sym f.samples-are)) in
-    record { answer = (sym m, tt); stored = kept s k wrong_length slice m (λ p. omega arith) }
+    let f = found _ _ _ _ _ _ c.in_ok-region.ensures c.sample_count.ensures refl refl in
+    let m = length-unlike c.args.file.now c.args.k (length c.args.samples.now) f.number-good (λ p. c.if-samples-sample_count.true (p ∙ sym f.samples-are)) in
+    record { answer = (sym m, tt); stored = kept _ _ wrong_length _ m (λ p. omega arith) }
 
 pub slice_bounds-read_u32_into-end : goal.slice_bounds-read_u32_into-end
 slice_bounds-read_u32_into-end c =
-    let s : List ℕ = c.args.file.now in
-    let k : ℕ = c.args.k in
-    let slice : List ℕ = c.args.samples.now in
-    let f = found s k c.in_ok-region.region c.sample_count.result c.entry_at.result c.u32_at-at.result c.in_ok-region.ensures c.sample_count.ensures c.entry_at.ensures c.u32_at-at.ensures in
-    let n : length slice ≡ sample_count (region_in s k) = c.if-samples-sample_count.false ∙ f.samples-are in
-    omega (arith, f.at-is, n, body-inside s k f.file-has f.k-less)
+    let f = found _ _ _ _ _ _ c.in_ok-region.ensures c.sample_count.ensures c.entry_at.ensures c.u32_at-at.ensures in
+    omega (arith, f.at-is, c.if-samples-sample_count.false ∙ f.samples-are, body-inside _ _ f.file-has f.k-less)
 
 pub returns : goal.returns
 returns c =
-    let s : List ℕ = c.args.file.now in
-    let k : ℕ = c.args.k in
-    let slice : List ℕ = c.args.samples.now in
-    let f = found s k c.in_ok-region.region c.sample_count.result c.entry_at.result c.u32_at-at.result c.in_ok-region.ensures c.sample_count.ensures c.entry_at.ensures c.u32_at-at.ensures in
-    let n : length slice ≡ sample_count (region_in s k) = c.if-samples-sample_count.false ∙ f.samples-are in
-    let part : c.u32_at-at.result + 4 * length slice - c.u32_at-at.result ≡ 4 * length slice = omega arith in
-    let read = read_all s c.u32_at-at.result _ (length slice) c.read_u32_into.new.dst part c.read_u32_into.auto.dst c.read_u32_into.ensures in
-    let m = length-alike s k (length slice) f.number-good n in
+    let f = found _ _ _ _ _ _ c.in_ok-region.ensures c.sample_count.ensures c.entry_at.ensures c.u32_at-at.ensures in
+    let n : length c.args.samples.now ≡ sample_count (region_in c.args.file.now c.args.k) = c.if-samples-sample_count.false ∙ f.samples-are in
+    let part : c.u32_at-at.result + 4 * length c.args.samples.now - c.u32_at-at.result ≡ 4 * length c.args.samples.now = omega arith in
+    let read = read_all _ _ _ _ _ part c.read_u32_into.auto.dst c.read_u32_into.ensures in
+    let m = length-alike _ _ _ f.number-good n in
     record {
       answer = (sym m, f.region-is);
-      stored = read ∙ samples-same s f.at-is n ∙ sym (ap (λ (o : ReadOutcome). o.samples) (read-accepted s k slice m));
+      stored = read ∙ samples-same _ f.at-is n ∙ sym (ap (λ (o : ReadOutcome). o.samples) (read-accepted _ _ _ m));
     }
