@@ -13,10 +13,11 @@ ghost use Rattle.cut_write.specs.Outcome.{length_answer_of, WriteOutcome, write_
 use byteorder::{ByteOrder, LittleEndian};
 use cut_bytes::{bits_of, put_u16, put_u32};
 use cut_file::{CutTable, MARKER, MARKER_LENGTH, MAX_FILE, bad_count, entry_at, sample_count};
-use refusals::{ACCEPTED, Refusal};
+use refusals::{Refusal, number_of};
 use region::Region;
 
 // The length of a file, in bytes.
+// Form: C's answer, a number with zeros beside a refusal; Rust callers get the `Result`. `MirrorAnswer` has an index.
 #[repr(C)]
 #[derive(Clone, Copy)]
 pub struct LengthAnswer {
@@ -25,19 +26,14 @@ pub struct LengthAnswer {
 }
 
 // The answer at the C boundary stands here, since the theorem of `cut_round` speaks of it.
+// Form: one impl for each of C's structs, since an impl that a macro writes is refused.
 impl From<Result<usize, Refusal>> for LengthAnswer {
     ghost from_gives = { λ needed answer. answer ≡ length_answer_of needed };
 
     fn from(needed: Result<usize, Refusal>) -> LengthAnswer {
-        match needed {
-            Ok(length) => LengthAnswer {
-                number: ACCEPTED,
-                length,
-            },
-            Err(refusal) => LengthAnswer {
-                number: u32::from(refusal),
-                length: 0,
-            },
+        LengthAnswer {
+            number: number_of(needed.map(|_| ())),
+            length: needed.unwrap_or_default(),
         }
     }
 }
