@@ -1,6 +1,10 @@
 // The numbers of a row, converted to their types. The form of a row has one letter per number: i for i32, u for u32, s
 // for isize, z for usize, b for bool, y for a byte, f for the bits of an f32. Letters, since a row's form is one word.
 
+use refusals::{Refusal, number_of};
+use std::num::TryFromIntError;
+
+// Form: the kinds are letters of the form's word; an enum would be made from them by the same match.
 fn has_kind(x: i64, kind: u8) -> bool {
     match kind {
         b'i' => i32::try_from(x).is_ok(),
@@ -18,32 +22,40 @@ pub fn has_form(n: &[i64], form: &[u8]) -> bool {
     n.len() == form.len() && n.iter().zip(form).all(|(x, kind)| has_kind(*x, *kind))
 }
 
-// The functions below return 0 for a number that is missing or out of range. A row of the right form has none.
-fn at(n: &[i64], i: usize) -> i64 {
-    n.get(i).copied().unwrap_or(0)
+// The numbers from number i on.
+pub fn from(n: &[i64], i: usize) -> &[i64] {
+    n.get(i..).unwrap_or_default()
 }
 
-pub fn i32_at(n: &[i64], i: usize) -> i32 {
-    i32::try_from(at(n, i)).unwrap_or(0)
-}
-
-pub fn u32_at(n: &[i64], i: usize) -> u32 {
-    u32::try_from(at(n, i)).unwrap_or(0)
-}
-
-pub fn usize_at(n: &[i64], i: usize) -> usize {
-    usize::try_from(at(n, i)).unwrap_or(0)
-}
-
-pub fn isize_at(n: &[i64], i: usize) -> isize {
-    at(n, i) as isize
+// Number i, or 0 for one that is missing or out of range. A row of the right form has none.
+pub fn number_at<T: Copy + Default + TryFrom<i64, Error = TryFromIntError>>(
+    n: &[i64],
+    i: usize,
+) -> T {
+    match n.get(i) {
+        Some(x) => T::try_from(*x).unwrap_or_default(),
+        None => T::default(),
+    }
 }
 
 pub fn bool_at(n: &[i64], i: usize) -> bool {
-    at(n, i) == 1
+    number_at::<u8>(n, i) == 1
 }
 
-// Whether number i is the bits of x; false for NaN.
-pub fn has_float(n: &[i64], i: usize, x: f32) -> bool {
-    !x.is_nan() && u32_at(n, i) == x.to_bits()
+// Whether the numbers from the first on are the bits of these floats; false for NaN. Floats are compared by their bits, so
+// +0 and -0 differ.
+pub fn has_floats(n: &[i64], values: &[f32]) -> bool {
+    values.len() <= n.len()
+        && values.iter().zip(n).all(|(value, bits)| !value.is_nan()
+            && *bits == i64::from(value.to_bits()))
+}
+
+// Whether a row has the answer of a call: its number, and the value, or a zero in a refused call.
+// Form: `number` is the row's, which has 0 for an accepted call as C's answers have.
+pub fn has_answer<T: Copy + Default + PartialEq>(
+    number: u32,
+    value: T,
+    answer: Result<T, Refusal>,
+) -> bool {
+    number == number_of(answer.map(|_| ())) && value == answer.unwrap_or_default()
 }

@@ -1,11 +1,9 @@
 // Header rows: number of bytes, the bytes, bit position, for an EPF bundle whether the encoding is Modular, refusal
 // number, values, next bit position.
-ghost use Rattle.std.specs.Prelude.{◌<◌};
-
-use crate::forms::{bool_at, has_float, has_form, u32_at, usize_at};
+// Form: values are compared field by field, since a row has the bits of each float, and `==` of floats goes by their values.
+use crate::forms::{bool_at, from, has_floats, has_form, number_at};
 use header::RestorationFilter;
 use header_epf::{EdgePreservingFilter, Encoding};
-use header_epf_sigma::EpfSigma;
 use header_gabor::Gabor;
 use refusals::{ACCEPTED, Refusal};
 
@@ -21,35 +19,24 @@ fn numbered<T: Default>(reading: Result<(T, usize), Refusal>) -> (u32, T, usize)
 }
 
 fn half(bytes: &[u8], n: &[i64]) -> bool {
-    let (number, value, next) = numbered(header_half::read_half(bytes, usize_at(n, 0)));
+    let (number, value, next) = numbered(header_half::read_half(bytes, number_at(n, 0)));
     has_form(n, b"zufz")
-        && u32_at(n, 1) == number
-        && has_float(n, 2, value)
-        && usize_at(n, 3) == next
+        && number == number_at(n, 1)
+        && has_floats(from(n, 2), &[value])
+        && next == number_at(n, 3)
 }
 
-fn has_channel(n: &[i64], i: usize, w: [f32; 2]) -> bool
-    requires { i < 32 }
-{
-    has_float(n, i, w[0]) && has_float(n, i + 1, w[1])
-}
-
-fn has_gabor(n: &[i64], i: usize, gabor: Gabor) -> bool
-    requires { i < 16 }
-{
-    let [x, y, b] = gabor.weights;
-    bool_at(n, i) == gabor.enabled
-        && has_channel(n, i + 1, x)
-        && has_channel(n, i + 3, y)
-        && has_channel(n, i + 5, b)
+fn has_gabor(n: &[i64], gabor: Gabor) -> bool {
+    let weights = gabor.weights;
+    bool_at(n, 0) == gabor.enabled && has_floats(from(n, 1), weights.as_flattened())
 }
 
 fn gabor(bytes: &[u8], n: &[i64]) -> bool {
-    let (number, gabor, next) = numbered(Gabor::parse(bytes, usize_at(n, 0)));
+    let (number, gabor, next) = numbered(Gabor::parse(bytes, number_at(n, 0)));
     has_form(n, b"zubffffffz")
-        && u32_at(n, 1) == number
-        && usize_at(n, 9) == next
-        && has_gabor(n, 2, gabor)
+        && number == number_at(n, 1)
+        && next == number_at(n, 9)
+        && has_gabor(from(n, 2), gabor)
 }
 
 fn encoding_at(n: &[i64], i: usize) -> Encoding {
@@ -59,87 +46,60 @@ fn encoding_at(n: &[i64], i: usize) -> Encoding {
     Encoding::VarDct
 }
 
-fn has_floats(n: &[i64], i: usize, values: &[f32]) -> bool
-    requires { i < 32 }
-{
-    for (k, value) in values.iter().enumerate() {
-        if !has_float(n, i + k, *value) {
-            return false;
-        }
-    }
-    true
-}
-
-fn has_sigma(n: &[i64], i: usize, s: EpfSigma) -> bool
-    requires { i < 32 }
-{
-    has_float(n, i, s.quant_mul)
-        && has_float(n, i + 1, s.pass0_sigma_scale)
-        && has_float(n, i + 2, s.pass2_sigma_scale)
-        && has_float(n, i + 3, s.border_sad_mul)
-}
-
-fn has_epf(n: &[i64], i: usize, epf: EdgePreservingFilter) -> bool
-    requires { i < 16 }
-{
+fn has_epf(n: &[i64], epf: EdgePreservingFilter) -> bool {
     let sharp_lut = epf.sharp_lut;
     let channel_scale = epf.channel_scale;
-    bool_at(n, i) == epf.enabled
-        && u32_at(n, i + 1) == epf.iters
-        && has_floats(n, i + 2, &sharp_lut)
-        && has_floats(n, i + 10, &channel_scale)
-        && has_sigma(n, i + 13, epf.sigma)
-        && has_float(n, i + 17, epf.sigma_for_modular)
+    let sigmas = [
+        epf.sigma.quant_mul,
+        epf.sigma.pass0_sigma_scale,
+        epf.sigma.pass2_sigma_scale,
+        epf.sigma.border_sad_mul,
+        epf.sigma_for_modular,
+    ];
+    bool_at(n, 0) == epf.enabled
+        && epf.iters == number_at(n, 1)
+        && has_floats(from(n, 2), &sharp_lut)
+        && has_floats(from(n, 10), &channel_scale)
+        && has_floats(from(n, 13), &sigmas)
 }
 
 fn edge_filter(bytes: &[u8], n: &[i64]) -> bool {
-    let reading = EdgePreservingFilter::parse(bytes, usize_at(n, 0), encoding_at(n, 1));
+    let reading = EdgePreservingFilter::parse(bytes, number_at(n, 0), encoding_at(n, 1));
     let (number, epf, next) = numbered(reading);
     has_form(n, b"zbubuffffffffffffffffz")
-        && u32_at(n, 2) == number
-        && usize_at(n, 21) == next
-        && has_epf(n, 3, epf)
+        && number == number_at(n, 2)
+        && next == number_at(n, 21)
+        && has_epf(from(n, 3), epf)
 }
 
 fn filters(bytes: &[u8], n: &[i64]) -> bool {
-    let reading = RestorationFilter::parse(bytes, usize_at(n, 0), encoding_at(n, 1));
+    let reading = RestorationFilter::parse(bytes, number_at(n, 0), encoding_at(n, 1));
     let (number, filter, next) = numbered(reading);
     has_form(n, b"zbubffffffbuffffffffffffffffz")
-        && u32_at(n, 2) == number
-        && usize_at(n, 28) == next
-        && has_gabor(n, 3, filter.gabor)
-        && has_epf(n, 10, filter.epf)
+        && number == number_at(n, 2)
+        && next == number_at(n, 28)
+        && has_gabor(from(n, 3), filter.gabor)
+        && has_epf(from(n, 10), filter.epf)
 }
 
-// Copies the numbers as bytes to the start of `out`. False if a number is not a byte or `out` is too short.
-fn take_bytes(n: &[i64], out: &mut [u8]) -> bool {
-    if out.len() < n.len() {
-        return false;
+// Copies the numbers as bytes to the start of `out`, if each is a byte and `out` is long enough.
+fn bytes_in<'a>(n: &[i64], out: &'a mut [u8]) -> Option<&'a [u8]> {
+    let bytes = out.get_mut(..n.len())?;
+    for (byte, number) in bytes.iter_mut().zip(n) {
+        *byte = u8::try_from(*number).ok()?;
     }
-    for (byte, number) in out.iter_mut().zip(n) {
-        let Ok(value) = u8::try_from(*number) else {
-            return false;
-        };
-        *byte = value;
-    }
-    true
+    Some(bytes)
 }
 
 // Whether a reader agrees with a row: the number of bytes, the bytes, and what is compared.
 fn agrees<F: Fn(&[u8], &[i64]) -> bool>(n: &[i64], reader: F) -> bool
     requires { F.IsAlwaysCallable reader }
 {
-    let count = usize_at(n, 0);
-    if n.len() <= count {
+    let Some((header, row)) = from(n, 1).split_at_checked(number_at(n, 0)) else {
         return false;
-    }
+    };
     let mut bytes = [0u8; MOST_BYTES];
-    if !take_bytes(&n[1..count + 1], &mut bytes) {
-        return false;
-    }
-    bytes
-        .get(..count)
-        .is_some_and(|read| reader(read, &n[count + 1..]))
+    bytes_in(header, &mut bytes).is_some_and(|read| reader(read, row))
 }
 
 pub fn read_half(n: &[i64]) -> bool {

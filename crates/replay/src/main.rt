@@ -20,55 +20,62 @@ fn report(rt: &impl Print, name: &str, t: Tally) -> io::Result<()> {
     println!(rt; "{name}: {} rows, {} differ", t.rows, t.differ)
 }
 
-// Reports the rows with a name and adds them to the tally. `agrees`: whether the proved function returns the answer in a
-// row for the arguments in the row.
-fn replayed<F: Fn(&[i64]) -> bool>(
-    rt: &impl Print,
-    before: Tally,
-    text: &[u8],
-    name: &str,
-    agrees: F,
-) -> io::Result<Tally>
-    requires { F.IsAlwaysCallable agrees }
-{
-    let t = list::rows_of(text, name.as_bytes(), &agrees);
-    report(rt, name, t)?;
-    Ok(before.plus(t))
+// A list, and the rows that are compared so far.
+#[derive(Drop)]
+struct Comparison<'a, P> {
+    rt: &'a P,
+    text: &'a [u8],
+    known: Tally,
 }
 
-fn region_rows(rt: &impl Print, text: &[u8]) -> io::Result<Tally> {
-    let mut t = Tally::default();
-    t = replayed(rt, t, text, "is_empty", regions::is_empty)?;
-    t = replayed(rt, t, text, "right", regions::right)?;
-    t = replayed(rt, t, text, "bottom", regions::bottom)?;
-    t = replayed(rt, t, text, "contains", regions::contains)?;
-    t = replayed(rt, t, text, "translate", regions::translate)?;
-    t = replayed(rt, t, text, "intersection", regions::intersection)?;
-    t = replayed(rt, t, text, "pad", regions::pad)?;
-    t = replayed(rt, t, text, "downsample", regions::downsample)?;
-    replayed(rt, t, text, "container_aligned", regions::container_aligned)
-}
+impl<P: Print> Comparison<'_, P> {
+    // Compares and reports the rows with a name. `agrees`: whether the proved function returns the answer in a row for the
+    // arguments in the row.
+    fn compare<F: Fn(&[i64]) -> bool>(&mut self, name: &str, agrees: F) -> io::Result<()>
+        requires { F.IsAlwaysCallable agrees }
+    {
+        let t = list::rows_of(self.text, name.as_bytes(), &agrees);
+        self.known = self.known.plus(t);
+        report(self.rt, name, t)
+    }
 
-fn size_rows(rt: &impl Print, before: Tally, text: &[u8]) -> io::Result<Tally> {
-    let mut t = before;
-    t = replayed(rt, t, text, "mirror", sizes::mirror)?;
-    t = replayed(rt, t, text, "group_sizes", sizes::group_sizes)?;
-    replayed(rt, t, text, "split_block", sizes::split_block)
-}
+    fn regions(&mut self) -> io::Result<()> {
+        self.compare("is_empty", regions::is_empty)?;
+        self.compare("right", regions::right)?;
+        self.compare("bottom", regions::bottom)?;
+        self.compare("contains", regions::contains)?;
+        self.compare("translate", regions::translate)?;
+        self.compare("intersection", regions::intersection)?;
+        self.compare("pad", regions::pad)?;
+        self.compare("downsample", regions::downsample)?;
+        self.compare("container_aligned", regions::container_aligned)
+    }
 
-fn header_rows(rt: &impl Print, before: Tally, text: &[u8]) -> io::Result<Tally> {
-    let mut t = before;
-    t = replayed(rt, t, text, "read_half", headers::read_half)?;
-    t = replayed(rt, t, text, "read_gabor", headers::read_gabor)?;
-    t = replayed(rt, t, text, "read_epf", headers::read_epf)?;
-    replayed(rt, t, text, "read_filters", headers::read_filters)
+    fn sizes(&mut self) -> io::Result<()> {
+        self.compare("mirror", sizes::mirror)?;
+        self.compare("group_sizes", sizes::group_sizes)?;
+        self.compare("split_block", sizes::split_block)
+    }
+
+    fn headers(&mut self) -> io::Result<()> {
+        self.compare("read_half", headers::read_half)?;
+        self.compare("read_gabor", headers::read_gabor)?;
+        self.compare("read_epf", headers::read_epf)?;
+        self.compare("read_filters", headers::read_filters)
+    }
 }
 
 // Reports each subject, the rows with an unknown name, and the total.
 fn replay(rt: &impl Print, text: &[u8]) -> io::Result<()> {
-    let regions = region_rows(rt, text)?;
-    let sizes = size_rows(rt, regions, text)?;
-    let known = header_rows(rt, sizes, text)?;
+    let mut list = Comparison {
+        rt,
+        text,
+        known: Tally::default(),
+    };
+    list.regions()?;
+    list.sizes()?;
+    list.headers()?;
+    let known = list.known;
     let unknown = list::unknown(list::rows(text), known.rows);
     report(rt, "unknown", unknown)?;
     report(rt, "total", known.plus(unknown))
@@ -82,6 +89,7 @@ fn room() -> [u8; ROOM]
 
 // Reads until `out` is full or the input ends, which `read_exact` would refuse. The number is how many bytes at the
 // start of `out` were read.
+// Form: each call says how many bytes it read, and the loop ends where one has none, so no range counts the calls.
 fn read_full<R: Read>(input: &mut R, out: &mut [u8]) -> io::Result<usize>
     ensures { IfOk result (λ n. n ≤ length out.new) }
 {
