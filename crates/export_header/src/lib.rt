@@ -1,8 +1,11 @@
 // The C boundary of the header: each function passes its arguments on to one function of the library. VarDCT and
 // Modular have separate functions, so the encoding is not an argument.
+// Form: an answer is C's struct, a number with zeros beside a refusal. C has a name for each second field, so one generic
+// struct can't stand for the four; each is made from `numbered`, and an impl that a macro writes is refused.
 #![tactic(auto)]
 
 ghost use Rattle.std.specs.Prelude.{◌≡◌};
+ghost use Rattle.header_bits.specs.Outcome.{number, value, next};
 ghost use Rattle.header_bits.specs.Reader.{parsed};
 ghost use Rattle.header_epf.specs.EdgeFilter.{epf_at};
 ghost use Rattle.header_epf.specs.declared.Encoding.TheVariants.{VarDct, Modular};
@@ -16,6 +19,16 @@ use header_epf::{EdgePreservingFilter, Encoding};
 use header_gabor::Gabor;
 use refusals::{ACCEPTED, Refusal};
 
+// The number, value and next bit position of a reading; a refusal has its number and zeros.
+fn numbered<T: Copy>(reading: Result<(T, usize), Refusal>, zero: T) -> (u32, T, usize)
+    ensures { result ≡ (number (parsed reading), value zero (parsed reading), next (parsed reading)) }
+{
+    match reading {
+        Ok((value, next)) => (ACCEPTED, value, next),
+        Err(refusal) => (u32::from(refusal), zero, 0),
+    }
+}
+
 // A half-precision reading as a struct.
 #[repr(C)]
 #[derive(Clone, Copy)]
@@ -25,22 +38,15 @@ pub struct HalfAnswer {
     pub next: usize,
 }
 
-// A match for each struct: C names their second fields apart, so one generic struct can't stand for the four.
 impl From<Result<(f32, usize), Refusal>> for HalfAnswer {
     ghost from_gives = { λ reading answer. answer ≡ half_answer (parsed reading) };
 
     fn from(reading: Result<(f32, usize), Refusal>) -> HalfAnswer {
-        match reading {
-            Ok((value, next)) => HalfAnswer {
-                number: ACCEPTED,
-                value,
-                next,
-            },
-            Err(refusal) => HalfAnswer {
-                number: u32::from(refusal),
-                value: 0.0,
-                next: 0,
-            },
+        let (number, value, next) = numbered(reading, 0.0);
+        HalfAnswer {
+            number,
+            value,
+            next,
         }
     }
 }
@@ -58,17 +64,11 @@ impl From<Result<(Gabor, usize), Refusal>> for GaborAnswer {
     ghost from_gives = { λ reading answer. answer ≡ gabor_answer (parsed reading) };
 
     fn from(reading: Result<(Gabor, usize), Refusal>) -> GaborAnswer {
-        match reading {
-            Ok((gabor, next)) => GaborAnswer {
-                number: ACCEPTED,
-                gabor,
-                next,
-            },
-            Err(refusal) => GaborAnswer {
-                number: u32::from(refusal),
-                gabor: Gabor::default(),
-                next: 0,
-            },
+        let (number, gabor, next) = numbered(reading, Gabor::default());
+        GaborAnswer {
+            number,
+            gabor,
+            next,
         }
     }
 }
@@ -86,18 +86,8 @@ impl From<Result<(EdgePreservingFilter, usize), Refusal>> for EpfAnswer {
     ghost from_gives = { λ reading answer. answer ≡ epf_answer (parsed reading) };
 
     fn from(reading: Result<(EdgePreservingFilter, usize), Refusal>) -> EpfAnswer {
-        match reading {
-            Ok((epf, next)) => EpfAnswer {
-                number: ACCEPTED,
-                epf,
-                next,
-            },
-            Err(refusal) => EpfAnswer {
-                number: u32::from(refusal),
-                epf: EdgePreservingFilter::default(),
-                next: 0,
-            },
-        }
+        let (number, epf, next) = numbered(reading, EdgePreservingFilter::default());
+        EpfAnswer { number, epf, next }
     }
 }
 
@@ -114,17 +104,11 @@ impl From<Result<(RestorationFilter, usize), Refusal>> for RestorationAnswer {
     ghost from_gives = { λ reading answer. answer ≡ restoration_answer (parsed reading) };
 
     fn from(reading: Result<(RestorationFilter, usize), Refusal>) -> RestorationAnswer {
-        match reading {
-            Ok((filter, next)) => RestorationAnswer {
-                number: ACCEPTED,
-                filter,
-                next,
-            },
-            Err(refusal) => RestorationAnswer {
-                number: u32::from(refusal),
-                filter: RestorationFilter::default(),
-                next: 0,
-            },
+        let (number, filter, next) = numbered(reading, RestorationFilter::default());
+        RestorationAnswer {
+            number,
+            filter,
+            next,
         }
     }
 }
