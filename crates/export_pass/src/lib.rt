@@ -1,5 +1,6 @@
 // The C boundary of the mirror and of single passes: each function passes its arguments on to one function of the
 // library.
+// Form: the C interface answers a refusal as its number, 0 for none, and the mirror's index beside it in a struct.
 #![tactic(auto)]
 
 ghost use Rattle.std.specs.Prelude.{◌≡◌};
