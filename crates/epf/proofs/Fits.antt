@@ -1,12 +1,11 @@
--- The code's tests, one after another, give the number of the definition, and an accepted step leaves what the definition says. Assumes
--- nothing.
+-- What the checks of a step give, and that an accepted step leaves what the definition says. Assumes nothing.
 use mathlib.Core.Path.{◌≡◌, sym, ◌∙◌}
-use mathlib.Core.Bool.{true, false, ◌&&◌, and-false}
+use mathlib.Core.Bool.{Bool, true, ◌&&◌}
 use mathlib.Core.List.{List}
-use Prim.Native.Nat.{ℕ, ◌+◌, ◌-◌, ◌*◌, ◌<◌, ◌≤◌}
+use Prim.Native.Nat.{ℕ, ◌+◌, ◌-◌, ◌*◌, ◌≤◌}
 use native.Mathlib.Nat.{mul-le-mul}
 use native.Mathlib.Omega.{arith}
-use borrow.Author.Tests.{leb-true, lt-ltb, le-ltb, ltb-false, eq-eqb, ne_eqb, eqb-true, not-false}
+use borrow.Author.Tests.{leb-true, ltb-false, eqb-true, not-false}
 use lib.Dec.{eqb, leb}
 use lib.ListN.{length}
 use lib.Ieee.{Float}
@@ -14,7 +13,6 @@ use Rattle.std.specs.Prelude.{Result, Ok, Err, IsErrAnd}
 use Rattle.refusals.specs.declared.Refusal.{Refusal}
 use Rattle.refusals.specs.Refusals.{number, number_of}
 use Rattle.refusals.proofs.Outcomes.{number-nonzero}
-use Rattle.refusals.specs.Numbers.{not_on_blocks, wrong_length, out_of_range}
 use Rattle.refusals.specs.Checks.{Check, first_of}
 use Rattle.refusals.specs.Flags.{flag_fits, flag_set}
 use Rattle.refusals.proofs.Rows.{here, below, row-passed}
@@ -29,55 +27,9 @@ use Rattle.planes.proofs.Stored.{passed_over, fits-copied, and_first, and_second
 use Rattle.planes_layout.specs.Outcome.{layout_of, flag_check, PassOutcome}
 use Rattle.planes_layout.proofs.Fits.{Accepted, layout-accepted, placed_first, placed-then, pass-refused, pass-done}
 use Rattle.epf_tiles.specs.Blocks.{block_columns, block_rows}
-use Rattle.epf_tiles.proofs.Region.{BlocksRoom, blocks-room}
 use Rattle.epf.specs.declared.EpfStep.{EpfStep}
-use Rattle.region_placement.specs.Blocks.{clamp_to_zero, on_blocks}
+use Rattle.region_placement.specs.Blocks.{clamp_to_zero}
 use Rattle.epf.specs.Outcome.{epf_over, step_lengths, step_in_range, step_rows, step_checks, epf_checks, epf_outcome}
-
--- ---- the tests of a filter region inside the image region
-
-module _ (n : ℕ) (l : Layout) (filter : Region) (full step from to sigmas src dst : ℕ) where
-  abbrev size : ℕ
-  size = n * l.image.height * l.image.width
-
-  abbrev Number : ℕ → Type 0
-  Number k = k ≡ first_of (step_checks n l filter full step from to sigmas src dst)
-
-  pub off-blocks : on_blocks filter ≡ false → Number not_on_blocks
-  unfolding step_checks
-  off-blocks e = rw e
-
-  module _ (a : on_blocks filter ≡ true) where
-    pub no_source : (src ≡ size → ⊥) → Number wrong_length
-    unfolding step_checks
-    no_source h = rw (a, ne_eqb src size h)
-
-    pub no_target : (dst ≡ size → ⊥) → Number wrong_length
-    unfolding step_checks
-    no_target h = simp (a, ne_eqb dst size h, and-false)
-
-    pub no-sigmas : (sigmas ≡ block_rows l * block_columns l → ⊥) → Number wrong_length
-    unfolding step_checks
-    no-sigmas h = simp (a, ne_eqb sigmas (block_rows l * block_columns l) h, and-false)
-
-    module _ (s : src ≡ size) (t : dst ≡ size) (u : sigmas ≡ block_rows l * block_columns l) where
-      pub no_step : 2 < step → Number out_of_range
-      unfolding step_checks
-      no_step h = rw (a, eq-eqb src size s, eq-eqb dst size t, eq-eqb sigmas (block_rows l * block_columns l) u, lt-ltb 2 step h)
-
-      module _ (h : step ≤ 2) where
-        pub no_flag : flag_fits full ≡ false → Number out_of_range
-        unfolding step_checks
-        no_flag f = rw (a, eq-eqb src size s, eq-eqb dst size t, eq-eqb sigmas (block_rows l * block_columns l) u, le-ltb 2 step h, f)
-
-        module _ (f : flag_fits full ≡ true) where
-          pub no_rows : rows_fit l from to ≡ false → Number out_of_range
-          unfolding step_checks
-          no_rows r = rw (a, eq-eqb src size s, eq-eqb dst size t, eq-eqb sigmas (block_rows l * block_columns l) u, le-ltb 2 step h, f, r)
-
-          pub all_held : rows_fit l from to ≡ true → Number 0
-          unfolding step_checks
-          all_held r = rw (a, eq-eqb src size s, eq-eqb dst size t, eq-eqb sigmas (block_rows l * block_columns l) u, le-ltb 2 step h, f, r)
 
 -- what follows from number 0
 pub record StepFits (n : ℕ) (l : Layout) (step from to sigmas src dst : ℕ) : Type 0 where
@@ -113,15 +65,19 @@ pub band-fits : (n : ℕ) (l : Layout) (step from to sigmas : ℕ) (src dst : Li
 band-fits n l step from to sigmas src dst planes-le f s = record { layout = f; planes = planes-le; source = s.source; target = s.target; order = s.order; rows = s.rows }
 
 -- bounds in machine integers
-pub record SizeRoom (l : Layout) : Type 0 where
-  pub lines-le : 3 * l.image.height ≤ 49152
-  pub samples-le : 3 * l.image.height * l.image.width ≤ 805306368
-  pub blocks : BlocksRoom l
+pub lines-le : (l : Layout) → LayoutFits l → 3 * l.image.height ≤ 49152
+lines-le l f = omega (arith, f.height-le)
 
-pub size_room : (l : Layout) → LayoutFits l → SizeRoom l
-size_room l f =
-    let a : 3 * l.image.height ≤ 49152 = omega (arith, f.height-le) in
-    record { lines-le = a; samples-le = mul-le-mul a f.width-le; blocks = blocks-room l f }
+pub samples-le : (l : Layout) → LayoutFits l → 3 * l.image.height * l.image.width ≤ 805306368
+samples-le l f = mul-le-mul (lines-le l f) f.width-le
+
+pub blocks-le : (l : Layout) → LayoutFits l → block_rows l * block_columns l ≤ 4198401
+blocks-le l f =
+    let a : block_rows l ≤ 2049 = omega (arith, f.down, f.height-le) in
+    let b : block_columns l ≤ 2049 = omega (arith, f.across, f.width-le) in
+    mul-le-mul a b
+
+pub ruleset size_rules = (lines-le, samples-le, blocks-le)
 
 -- ---- a band: copied outside the filter region, then filtered inside it
 pub band-passed : (l : Layout) (n from to f t : ℕ) (p : Picture) (src dst a b : List Float) → BandFits l n from to src dst
@@ -146,7 +102,10 @@ module _ (image filter : Region) (full : ℕ) (s : EpfStep) (sigmas : List Float
   not-placed e (Ok u) k is = absurd is
   not-placed e (Err x) k is = rw is (pass-refused (number e) _ _ dst (placed_first image filter own (number e) k (number-nonzero e)) (number-nonzero e))
 
-  module _ (l : Layout) (placed : 0 ≡ first_of (placed_checks image filter)) (l-is : l ≡ layout_of image filter (flag_set full)) where
+  module _ (l : Layout) (flag : Bool) (flag-is : flag ≡ flag_set full) (placed : 0 ≡ first_of (placed_checks image filter)) (l-by : l ≡ layout_of image filter flag) where
+    l-is : l ≡ layout_of image filter (flag_set full)
+    l-is = rw flag-is at l-by
+
     pub layout-held : Accepted l
     layout-held = rw l-is (layout-accepted image filter (flag_set full) (sym placed))
 

@@ -39,6 +39,9 @@ pub struct EpfStep {
 }
 
 // Checks the filter region's corner, the lengths, the step, the flag and the rows.
+// Form: the step and the flag are numbers as C hands them, and are tested here. The fields of `planes::Layout` are public; a ghost
+// field for `LayoutFits` would ask it of every function that takes a layout.
+#[tactic(auto, using(crate::proofs::Fits::size_rules), unfolding(crate::specs::Outcome::step_checks))]
 fn check_pass(
     l: Layout,
     filter: Region,
@@ -46,59 +49,53 @@ fn check_pass(
     step: usize,
     from: usize,
     to: usize,
-    sigmas: usize,
-    src: usize,
-    dst: usize,
+    sigmas: &[f32],
+    src: &[f32],
+    dst: &[f32],
 ) -> Result<(), Refusal>
     requires { LayoutFits l }
-    ensures { number_of result ≡ first_of (step_checks 3 l filter preserve_outside step from to sigmas src dst) }
+    ensures { number_of result
+        ≡ first_of (step_checks 3 l filter preserve_outside step from to (length sigmas.now) (length src.now) (length dst.now)) }
 {
     if !on_blocks(filter) {
         return Err(Refusal::NotOnBlocks);
     }
     let size = PLANES * l.image.height * l.image.width;
-    if src != size {
+    let blocks = l.height.div_ceil(BLOCK) * l.width.div_ceil(BLOCK);
+    if src.len() != size || dst.len() != size || sigmas.len() != blocks {
         return Err(Refusal::WrongLength);
     }
-    if dst != size {
-        return Err(Refusal::WrongLength);
-    }
-    if sigmas != (l.height + 7) / BLOCK * ((l.width + 7) / BLOCK) {
-        return Err(Refusal::WrongLength);
-    }
-    if LAST_STEP < step {
-        return Err(Refusal::OutOfRange);
-    }
-    if !flag_fits(preserve_outside) {
-        return Err(Refusal::OutOfRange);
-    }
-    if !rows_fit(l, from, to) {
+    if LAST_STEP < step || !flag_fits(preserve_outside) || !rows_fit(l, from, to) {
         return Err(Refusal::OutOfRange);
     }
     Ok(())
 }
 
-fn step_of(s: EpfStep) -> Step
-    ensures { result ≡ record {
+impl From<EpfStep> for Step {
+    ghost from_gives = { λ s t. t ≡ record {
       step = s.step;
       scales = s.channel_scale;
       scale = s.multiplier;
       edge = s.border_sad_mul;
       limit = standard_limit;
-    } }
-{
-    let scales = s.channel_scale;
-    Step {
-        step: s.step as usize,
-        scales,
-        scale: s.multiplier,
-        edge: s.border_sad_mul,
-        limit: COPYING_LIMIT,
+    } };
+
+    fn from(s: EpfStep) -> Step {
+        let scales = s.channel_scale;
+        Step {
+            step: s.step as usize,
+            scales,
+            scale: s.multiplier,
+            edge: s.border_sad_mul,
+            limit: COPYING_LIMIT,
+        }
     }
 }
 
 // Writes rows `from` up to `to` of the result region: copies outside the filter region, then filtered samples inside
 // it.
+// Form: `src`, `dst` and `n` are two sets of one layout here and in ten other functions, of which no two have the same other
+// parameters; a struct would take the target from its owner for each call.
 fn epf_band(
     src: &[f32],
     dst: &mut [f32],
@@ -124,6 +121,7 @@ fn epf_band(
 // Applies a step to rows `from` up to `to` of the result region: the image region if `preserve_outside` is 1, the
 // filter region if it is 0. Reads the set `src` and writes the set `dst`, each of three planes. `sigmas` has one
 // sigma per block of the filter region, row of blocks by row of blocks. Floats may have any value.
+// Form: the flag and the parameters are those of the C function, which passes them on in their order.
 pub fn epf_pass(
     image: Region,
     filter: Region,
@@ -149,11 +147,11 @@ pub fn epf_pass(
         s.step as usize,
         first,
         last,
-        sigmas.len(),
-        src.len(),
-        dst.len(),
+        sigmas,
+        src,
+        dst,
     )?;
-    let settings = step_of(s);
+    let settings = Step::from(s);
     epf_band(
         src,
         dst,

@@ -2,7 +2,6 @@
 use mathlib.Core.Path.{◌≡◌, refl, ◌∙◌}
 use mathlib.Core.List.{List}
 use Prim.Native.Nat.{ℕ, zero, suc, ◌+◌, ◌-◌, ◌*◌, ◌≤◌}
-use native.Mathlib.Nat.{mul-le-mul}
 use native.Mathlib.Omega.{arith}
 use borrow.Author.Tests.{le-leb, lt-ltb, eq-eqb}
 use lib.ListN.{length}
@@ -76,17 +75,3 @@ module _ (n : ℕ) (l : Layout) (s : Step) (top from to : ℕ) (sigmas src dst :
         le-leb from to p,
         le-leb to l.height q,
       )
-
--- the blocks of a filter region, in machine integers
-pub record BlocksRoom (l : Layout) : Type 0 where
-  pub height-le : l.height ≤ 16384
-  pub width-le : l.width ≤ 16384
-  pub count-le : block_rows l * block_columns l ≤ 4198401
-
-pub blocks-room : (l : Layout) → LayoutFits l → BlocksRoom l
-blocks-room l f =
-    let h : l.height ≤ 16384 = omega (arith, f.down, f.height-le) in
-    let w : l.width ≤ 16384 = omega (arith, f.across, f.width-le) in
-    let a : block_rows l ≤ 2049 = omega arith in
-    let b : block_columns l ≤ 2049 = omega arith in
-    record { height-le = h; width-le = w; count-le = mul-le-mul a b }
