@@ -94,8 +94,8 @@ impl From<EpfStep> for Step {
 
 // Writes rows `from` up to `to` of the result region: copies outside the filter region, then filtered samples inside
 // it.
-// Form: `src`, `dst` and `n` are two sets of one layout here and in ten other functions, of which no two have the same other
-// parameters; a struct would take the target from its owner for each call.
+// Form: `src`, `dst` and `n` travel together in other crates too, where `n` counts planes, columns or rows; a struct would borrow
+// the target anew for each call.
 fn epf_band(
     src: &[f32],
     dst: &mut [f32],

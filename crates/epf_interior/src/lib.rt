@@ -87,7 +87,7 @@ fn mix(src: &[f32], stride: usize, corner: usize, w: Weights) -> f32
 
 // Filters a row of n samples in each plane. Its corners start at `corner`, its slopes at index `first`.
 // Form: the hot loop stays as it was measured. It reads around a run and writes one in each of three planes, so no slice is what
-// it goes over. That `dst` is as long as `src` is one clause here and one of `rows_of`.
+// it goes over. That `dst` is as long as `src`, and `n` at most `plane`, is a clause here and a fact of `RectFits` above.
 #[tactic(auto, unfolding(epf_rects::specs::Three::three_fill, planes::specs::Fill::fill))]
 fn row(
     dst: &mut [f32],

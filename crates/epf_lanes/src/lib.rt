@@ -36,6 +36,7 @@ pub(crate) struct LaneWeights {
 
 // Filters a rectangle of at most 8 rows and 56 columns in each plane; its row 0 is at y = `top`. Does nothing if the
 // rectangle or the set does not fit.
+// Form: the tile's arrays stay side by side; why, the head of `rows.rt` says.
 #[tactic(auto, unfolding(crate::specs::Lanes::lanes_stored))]
 pub fn filter_tile(
     dst: &mut [f32],

@@ -21,7 +21,7 @@ use planes::Layout;
 // Filters n lanes of row r in step STEP, in three planes that lie `plane` apart in the target. The row's slopes start at
 // index `first`.
 // Form: the hot loop stays as it was measured. It writes a run in each of three planes of one slice, so `at`, `plane` and `n`
-// stand for what no one slice is.
+// stand for what no one slice is; a struct that holds `RowFits` of `first`, `r` and `n` would be made for each row.
 #[tactic(auto, unfolding(epf_rects::specs::Three::three_fill, planes::specs::Fill::fill))]
 fn three_lanes<const STEP: usize>(
     dst: &mut [f32],
@@ -76,8 +76,8 @@ fn one_lanes<const STEP: usize>(
 }
 
 // The row of three planes in any step. Steps 1 and 2 have the same lanes.
-// Form: a step is a number that `filter_tile` takes as it comes, and is turned into the const parameter here. `one_row` has
-// other parameters; what both share is the test, and each loop is to be called in one place.
+// Form: a step is a number that `filter_tile` takes as it comes, and is turned into the const parameter here, with the run
+// handed on. `one_row` has other parameters; what both share is the test.
 fn three_row(
     dst: &mut [f32],
     at: usize,

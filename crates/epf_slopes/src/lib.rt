@@ -36,6 +36,7 @@ pub fn first_slope(row: usize) -> usize
 }
 
 // Computes the slopes of the eight columns of a block.
+// Form: `scale` and `edge` are two settings of `epf_tiles::Step`, above this crate; a struct of both would serve it alone.
 #[tactic(auto, unfolding(planes::specs::Fill::fill))]
 fn block_slopes(
     slopes: &mut [f32; SLOPES],
@@ -56,7 +57,7 @@ fn block_slopes(
 
 // Computes the slopes of all columns of the blocks, for rows like `row`.
 // Form: `slope_at` counts sigmas from the start of the list, and a slice of the tile's blocks would need a law that moves the
-// start. `scale` and `edge` are two settings of `epf_tiles::Step`, above this crate; a struct of both would serve it alone.
+// start.
 #[tactic(auto, unfolding(planes::specs::Fill::fill))]
 fn row_slopes(
     slopes: &mut [f32; SLOPES],
