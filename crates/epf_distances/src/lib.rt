@@ -324,13 +324,7 @@ pub fn distances(
     ensures { fields.new ≡ distances_of step planes scales.now win.now rows
         fields.old }
 {
-    if PLANES < planes {
-        return;
-    }
-    if rows < 1 {
-        return;
-    }
-    if TILE_ROWS < rows {
+    if PLANES < planes || rows < 1 || TILE_ROWS < rows {
         return;
     }
     fill_fields(fields, win, step, scales, planes, rows)

@@ -177,16 +177,11 @@ pub fn filter_inside(
     ensures { dst.new ≡ inside_filled l scales.now slopes.now top rect
         src.now dst.old }
 {
-    if !rect.fits(l, PLANES, dst.len()) {
-        return;
-    }
-    if src.len() != dst.len() {
-        return;
-    }
-    if COLUMNS < rect.cols {
-        return;
-    }
-    if !lies_inside(l, rect) {
+    if !rect.fits(l, PLANES, dst.len())
+        || src.len() != dst.len()
+        || COLUMNS < rect.cols
+        || !lies_inside(l, rect)
+    {
         return;
     }
     rows_of(dst, src, l, scales, slopes, top, rect);

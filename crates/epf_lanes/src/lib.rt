@@ -52,13 +52,7 @@ pub fn filter_tile(
     ensures { dst.new ≡ lanes_stored step fields.now slopes.now
         win.now l planes top rect dst.old }
 {
-    if !rect.fits(l, planes, dst.len()) {
-        return;
-    }
-    if TILE_ROWS < rect.rows {
-        return;
-    }
-    if LANES < rect.cols {
+    if !rect.fits(l, planes, dst.len()) || TILE_ROWS < rect.rows || LANES < rect.cols {
         return;
     }
     if planes == PLANES {

@@ -93,10 +93,7 @@ fn store_planes(
 pub fn copy_rect(dst: &mut [f32], src: &[f32], l: Layout, n: usize, rect: Rect)
     ensures { dst.new ≡ copied_rect l n rect src.now dst.old }
 {
-    if !rect.fits(l, n, dst.len()) {
-        return;
-    }
-    if src.len() != dst.len() {
+    if !rect.fits(l, n, dst.len()) || src.len() != dst.len() {
         return;
     }
     let stride = l.image.width;

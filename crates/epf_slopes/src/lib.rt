@@ -29,10 +29,7 @@ const BORDER_ROW: usize = 0;
 pub fn first_slope(row: usize) -> usize
     ensures { result ≡ first_slope row }
 {
-    if at_border(row) {
-        return BORDER;
-    }
-    0
+    if at_border(row) { BORDER } else { 0 }
 }
 
 // Computes the slopes of the eight columns of a block.
@@ -93,13 +90,7 @@ pub fn tile_slopes(
     ensures { slopes.new ≡ slopes_of sigmas.now first blocks scale edge
         slopes.old }
 {
-    if BLOCKS < blocks {
-        return;
-    }
-    if sigmas.len() < blocks {
-        return;
-    }
-    if sigmas.len() - blocks < first {
+    if BLOCKS < blocks || sigmas.len() < blocks || sigmas.len() - blocks < first {
         return;
     }
     row_slopes(slopes, 0, sigmas, first, blocks, scale, edge, INNER_ROW);

@@ -96,25 +96,14 @@ pub fn filter_region(
     ensures { dst.new ≡ region_of n l s top from to sigmas.now src.now
         dst.old }
 {
-    if !set_fits(l, n, src.len()) {
-        return;
-    }
-    if !set_fits(l, n, dst.len()) {
-        return;
-    }
-    if sigmas.len() != blocks_of(l.height) * blocks_of(l.width) {
-        return;
-    }
-    if LAST_STEP < s.step {
-        return;
-    }
-    if MAX_TOP < top {
-        return;
-    }
-    if to < from {
-        return;
-    }
-    if l.height < to {
+    if !set_fits(l, n, src.len())
+        || !set_fits(l, n, dst.len())
+        || sigmas.len() != blocks_of(l.height) * blocks_of(l.width)
+        || LAST_STEP < s.step
+        || MAX_TOP < top
+        || to < from
+        || l.height < to
+    {
         return;
     }
     let pass = Pass {

@@ -103,25 +103,14 @@ pub fn load(
 )
     ensures { win.new ≡ loaded l n src.now x y top rows cols win.old }
 {
-    if !set_fits(l, n, src.len()) {
-        return;
-    }
-    if l.width <= x {
-        return;
-    }
-    if l.height <= y {
-        return;
-    }
-    if WINDOW_ROWS < top {
-        return;
-    }
-    if WINDOW_ROWS - top < rows {
-        return;
-    }
-    if cols < LEFT {
-        return;
-    }
-    if STRIDE < cols {
+    if !set_fits(l, n, src.len())
+        || l.width <= x
+        || l.height <= y
+        || WINDOW_ROWS < top
+        || WINDOW_ROWS - top < rows
+        || cols < LEFT
+        || STRIDE < cols
+    {
         return;
     }
     let part = WindowPart {
