@@ -2,7 +2,7 @@
 use mathlib.Core.Path.{◌≡◌, refl, sym, ap, ◌∙◌, subst}
 use mathlib.Core.Bool.{true, false, cond}
 use borrow.Author.Rules.{rules}
-use Prim.Native.Nat.{ℕ, ◌≤◌, ◌<◌}
+use Prim.Native.Nat.{ℕ, ◌+◌, ◌*◌, ◌≤◌, ◌<◌}
 use native.Mathlib.Omega.{arith}
 use lib.Dec.{T}
 use lib.ListN.{length, get_or, take}
@@ -24,16 +24,14 @@ record Ended (t : CutTable) (end : ℕ) : Type 0 where
   all_fit : rectangles_fit (rectangle t) t.count ≡ true
   ends : end ≡ file_length (rectangle t) t.count
 
-ended : (t : CutTable) (i end : ℕ) → i ≡ t.count → end ≡ body_at (rectangle t) t.count i → T (rectangles_fit (rectangle t) i) → Ended t end
-ended t i end all e f =
+ended : (t : CutTable) (i end : ℕ) → false ≡ bad_count t.count → length t.regions ≡ 64 → i ≤ length (take t.count t.regions) → length (take t.count t.regions) ≤ i
+    → (end ≡ body_at (rectangle t) t.count i) × T (rectangles_fit (rectangle t) i) × (end ≤ 1030 + 201326592 * i) → Ended t end
+ended t i end b n l h v =
+    let all : i ≡ t.count = omega (arith, (count-range t.count (sym b)).1, length-take t.count t.regions) in
     record {
-      all_fit = is_true (rectangles_fit (rectangle t) t.count) (subst (λ (k : ℕ). T (rectangles_fit (rectangle t) k)) all f);
-      ends = e ∙ ap (body_at (rectangle t) t.count) all;
+      all_fit = is_true (rectangles_fit (rectangle t) t.count) (subst (λ (k : ℕ). T (rectangles_fit (rectangle t) k)) all v.1);
+      ends = v.0 ∙ ap (body_at (rectangle t) t.count) all;
     }
-
--- the loop goes over `count` rectangles
-all-taken : (t : CutTable) (i : ℕ) → bad_count t.count ≡ false → length t.regions ≡ 64 → i ≤ length (take t.count t.regions) → length (take t.count t.regions) ≤ i → i ≡ t.count
-all-taken t i e n l h = omega (arith, (count-range t.count e).1, length-take t.count t.regions)
 
 -- rectangle i of those that the loop goes over: its samples
 record Taken (t : CutTable) (i n : ℕ) : Type 0 where
@@ -45,47 +43,39 @@ below-count : (t : CutTable) (i : ℕ) → i < length (take t.count t.regions) �
 below-count t i l = omega (arith, length-take t.count t.regions)
 
 taken : (t : CutTable) (i n : ℕ) (r : Region) → i < length (take t.count t.regions) → r ≡ get_or (take t.count t.regions) i zero_region
-    → picture_fits r ≡ true → n ≡ cond (picture_fits r) (sample_count r) 0 → Taken t i n
+    → true ≡ picture_fits r → n ≡ cond (picture_fits r) (sample_count r) 0 → Taken t i n
 taken t i n r l e f m =
     let below : i < t.count = below-count t i l in
     let is : r ≡ rectangle t i = e ∙ get_or-take t.count t.regions i zero_region below in
-    let fits : T (picture_fits (rectangle t i)) = of-true (picture_fits (rectangle t i)) (ap picture_fits (sym is) ∙ f) in
+    let fits : T (picture_fits (rectangle t i)) = of-true (picture_fits (rectangle t i)) (ap picture_fits (sym is) ∙ sym f) in
     record { below = below; fits = fits; samples = sampled (rectangle t i) n fits (m ∙ ap (λ (q : Region). cond (picture_fits q) (sample_count q) 0) is) }
 
 pub returns-then-bad_count : goal.returns-then-bad_count
-returns-then-bad_count c = (sym (count-refused c.args.table (sym c.bad_count.ensures ∙ c.if-bad_count.true)), tt)
+returns-then-bad_count c = (sym (count-refused _ (sym c.if-bad_count.ensures)), tt)
 
 pub loop-r-init : goal.loop-r-init
 unfolding body_at rectangles_fit
-loop-r-init c =
-    let few : c.args.table.count ≤ 64 = (count-range c.args.table.count (sym c.bad_count.ensures ∙ c.if-bad_count.false)).1 in
-    (c.entry_at-end.ensures, tt, omega (arith, c.entry_at-end.ensures, few))
+loop-r-init c = (c.entry_at-end.ensures, tt, omega (arith, c.entry_at-end.ensures, (count-range c.args.table.count (sym c.if-bad_count.ensures)).1))
 
 pub returns-then-not-picture_fits : goal.returns-then-not-picture_fits
 returns-then-not-picture_fits c =
-    let t : CutTable = c.args.table in
-    let counted : bad_count t.count ≡ false = sym c.bad_count.ensures ∙ c.if-bad_count.false in
-    let below : c.loop-r.r-index < t.count = below-count t c.loop-r.r-index c.loop-r-test.true in
-    let misfit : picture_fits (rectangle t c.loop-r.r-index) ≡ false
-    = ap picture_fits (sym (get_or-take t.count t.regions c.loop-r.r-index zero_region below)) ∙ sym c.picture_fits.ensures ∙ c.if-not-picture_fits.true in
-    (sym (limits-refused t counted (one-misfits (rectangle t) t.count c.loop-r.r-index below misfit)), tt)
+    let below : c.loop-r.r-index < c.args.table.count = below-count _ _ c.loop-r-test.true in
+    let misfit : picture_fits (rectangle c.args.table c.loop-r.r-index) ≡ false
+    = ap picture_fits (sym (get_or-take c.args.table.count c.args.table.regions c.loop-r.r-index zero_region below)) ∙ sym c.if-not-picture_fits.ensures in
+    (sym (limits-refused _ (sym c.if-bad_count.ensures) (one-misfits _ _ _ below misfit)), tt)
 
 pub overflow_mul-end : goal.overflow_mul-end
-overflow_mul-end c =
-    let k = taken c.args.table c.loop-r.r-index c.sample_count.result _ c.loop-r-test.true refl (sym c.picture_fits.ensures ∙ c.if-not-picture_fits.false) c.sample_count.ensures in
-    omega (arith, k.samples.le)
+overflow_mul-end c = omega (arith, (taken c.args.table _ _ _ c.loop-r-test.true refl c.if-not-picture_fits.ensures c.sample_count.ensures).samples.le)
 
 pub overflow_add-end : goal.overflow_add-end
 overflow_add-end c =
-    let t : CutTable = c.args.table in
-    let few : t.count ≤ 64 = (count-range t.count (sym c.bad_count.ensures ∙ c.if-bad_count.false)).1 in
-    let k = taken t c.loop-r.r-index c.sample_count.result _ c.loop-r-test.true refl (sym c.picture_fits.ensures ∙ c.if-not-picture_fits.false) c.sample_count.ensures in
-    omega (arith, k.samples.le, k.below, few, c.loop-r.invariant.2)
+    let k = taken c.args.table _ _ _ c.loop-r-test.true refl c.if-not-picture_fits.ensures c.sample_count.ensures in
+    omega (arith, k.samples.le, k.below, (count-range c.args.table.count (sym c.if-bad_count.ensures)).1, c.loop-r.invariant.2)
 
 pub loop-r-preserved : goal.loop-r-preserved
 loop-r-preserved c =
     let t : CutTable = c.args.table in
-    let k = taken t c.loop-r.r-index c.sample_count.result _ c.loop-r-test.true refl (sym c.picture_fits.ensures ∙ c.if-not-picture_fits.false) c.sample_count.ensures in
+    let k = taken t _ _ _ c.loop-r-test.true refl c.if-not-picture_fits.ensures c.sample_count.ensures in
     let v = c.loop-r.invariant in (
       omega (arith, k.samples.are, v.0, body-next (rectangle t) t.count c.loop-r.r-index),
       one_more (rectangle t) c.loop-r.r-index v.1 (is_true (picture_fits (rectangle t c.loop-r.r-index)) k.fits),
@@ -94,16 +84,10 @@ loop-r-preserved c =
 
 pub returns-then-end-gt-MAX_FILE : goal.returns-then-end-gt-MAX_FILE
 returns-then-end-gt-MAX_FILE c =
-    let t : CutTable = c.args.table in
-    let counted : bad_count t.count ≡ false = sym c.bad_count.ensures ∙ c.if-bad_count.false in
-    let regions : length t.regions ≡ 64 = search rules in
-    let d : Ended t c.loop-r.end = ended t c.loop-r.r-index c.loop-r.end (all-taken t c.loop-r.r-index counted regions c.loop-r.auto.r-index-end c.loop-r-test.false) c.loop-r.invariant.0 c.loop-r.invariant.1 in
-    (sym (long-refused t counted d.all_fit (omega (arith, d.ends))), tt)
+    let d = ended c.args.table _ _ c.if-bad_count.ensures (search rules) c.loop-r.auto.r-index-end c.loop-r-test.false c.loop-r.invariant in
+    (sym (long-refused _ (sym c.if-bad_count.ensures) d.all_fit (omega (arith, d.ends))), tt)
 
 pub returns : goal.returns
 returns c =
-    let t : CutTable = c.args.table in
-    let counted : bad_count t.count ≡ false = sym c.bad_count.ensures ∙ c.if-bad_count.false in
-    let regions : length t.regions ≡ 64 = search rules in
-    let d : Ended t c.loop-r.end = ended t c.loop-r.r-index c.loop-r.end (all-taken t c.loop-r.r-index counted regions c.loop-r.auto.r-index-end c.loop-r-test.false) c.loop-r.invariant.0 c.loop-r.invariant.1 in
-    (sym (table-accepted t counted d.all_fit (omega (arith, d.ends))), d.ends)
+    let d = ended c.args.table _ _ c.if-bad_count.ensures (search rules) c.loop-r.auto.r-index-end c.loop-r-test.false c.loop-r.invariant in
+    (sym (table-accepted _ (sym c.if-bad_count.ensures) d.all_fit (omega (arith, d.ends))), d.ends)

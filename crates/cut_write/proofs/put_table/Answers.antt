@@ -4,7 +4,7 @@ use mathlib.Core.Bool.{cond}
 use Prim.Native.Nat.{ℕ, ◌+◌, ◌*◌, ◌≤◌, ◌<◌}
 use native.Mathlib.Omega.{arith}
 use lib.ListN.{length}
-use lib.Seq.{sets, length-sets}
+use lib.Seq.{length-sets}
 use Rattle.refusals.proofs.Tables.{of-true}
 use Rattle.region.specs.Measures.{picture_fits}
 use Rattle.cut_file.specs.declared.CutTable.{CutTable}
@@ -36,39 +36,28 @@ loop-i-init c = (omega arith, c.entry_at-end.ensures, refl)
 
 pub overflow_cast-end : goal.overflow_cast-end
 overflow_cast-end c =
-    omega (arith, short c.args.table (length c.args.file.now) c.loop-i.i c.loop-i.end c.requires c.loop-i.invariant.0 c.loop-i.invariant.1)
+    omega (arith, short _ _ _ _ c.requires c.loop-i.invariant.0 c.loop-i.invariant.1)
 
 pub put_entry-requires : goal.put_entry-requires
 put_entry-requires c =
     let kept : length c.loop-i.file ≡ length c.args.file.now = ap length c.loop-i.invariant.2 ∙ simp length-sets in
-    let r : 22 + 16 * c.loop-i.i ≤ length c.args.file.now = room c.args.table (length c.args.file.now) c.loop-i.i c.requires (omega arith) in
+    let r : 22 + 16 * c.loop-i.i ≤ length c.args.file.now = room _ _ c.loop-i.i c.requires (omega arith) in
     omega (arith, c.entry_at.ensures, kept, r)
 
 pub overflow_mul-end : goal.overflow_mul-end
 overflow_mul-end c =
-    let s : Sampled (rectangle c.args.table c.loop-i.i) c.sample_count.result
-    = counted c.args.table (length c.args.file.now) c.loop-i.i c.sample_count.result c.requires (omega arith) c.sample_count.ensures in
-    omega (arith, s.le)
+    omega (arith, (counted _ _ c.loop-i.i _ c.requires (omega arith) c.sample_count.ensures).le)
 
 pub overflow_add-end : goal.overflow_add-end
 overflow_add-end c =
-    let s : Sampled (rectangle c.args.table c.loop-i.i) c.sample_count.result
-    = counted c.args.table (length c.args.file.now) c.loop-i.i c.sample_count.result c.requires (omega arith) c.sample_count.ensures in
-    omega (arith, s.le, short c.args.table (length c.args.file.now) c.loop-i.i c.loop-i.end c.requires c.loop-i.invariant.0 c.loop-i.invariant.1)
+    omega (arith, (counted _ _ c.loop-i.i _ c.requires (omega arith) c.sample_count.ensures).le, short _ _ _ _ c.requires c.loop-i.invariant.0 c.loop-i.invariant.1)
 
 pub loop-i-preserved : goal.loop-i-preserved
 loop-i-preserved c =
     let t : CutTable = c.args.table in
-    let s : Sampled (rectangle t c.loop-i.i) c.sample_count.result
-    = counted t (length c.args.file.now) c.loop-i.i c.sample_count.result c.requires (omega arith) c.sample_count.ensures in
+    let s = counted _ _ c.loop-i.i _ c.requires (omega arith) c.sample_count.ensures in
     let v = c.loop-i.invariant in (
       omega arith,
       omega (arith, s.are, v.1, body-next (rectangle t) t.count c.loop-i.i),
       table-parts (rectangle t) t.count c.args.file.now _ _ c.loop-i.i _ _ v.2 c.entry_at.ensures v.1 c.put_entry.ensures,
     )
-
-pub returns : goal.returns
-returns c =
-    let t : CutTable = c.args.table in
-    let e : c.loop-i.i ≡ t.count = omega arith in
-    c.loop-i.invariant.2 ∙ ap (λ (k : ℕ). sets c.args.file.now 6 (table_bytes (rectangle t) t.count k)) e
