@@ -94,21 +94,21 @@ module _ (s : List ℕ) (k : ℕ) (slice : List ℕ) where
 
 -- ---- the answers at the C boundary
 
-pub count-answer : (s : List ℕ) (r : Result ℕ Refusal) → IsOutcome r (first_of (file_checks s)) (count_in s) → count_answer_of r ≡ count_outcome s
+pub count_answer : (s : List ℕ) (r : Result ℕ Refusal) → IsOutcome r (first_of (file_checks s)) (count_in s) → count_answer_of r ≡ count_outcome s
 unfolding count_outcome
-count-answer s (Ok n) (e, v) = rw (sym e) (λ j. record { number = 0; count = v j })
-count-answer s (Err x) (e, v) = rw (sym e, ne_eqb (number x) 0 (number-nonzero x))
+count_answer s (Ok n) (e, v) = rw (sym e) (λ j. record { number = 0; count = v j })
+count_answer s (Err x) (e, v) = rw (sym e, ne_eqb (number x) 0 (number-nonzero x))
 
 cut-answer : (s : List ℕ) (k n : ℕ) (r : Result Region Refusal) → IsOutcome r n (region_in s k) → cut_answer_of r ≡ cut_answer n s k
 unfolding cut_answer
 cut-answer s k n (Ok q) (e, v) = rw (sym e) (λ j. record { number = 0; region = v j })
 cut-answer s k n (Err x) (e, v) = rw (sym e, ne_eqb (number x) 0 (number-nonzero x))
 
-pub region-answer : (s : List ℕ) (k : ℕ) (r : Result Region Refusal) → IsOutcome r (first_of (region_checks s k)) (region_in s k) → cut_answer_of r ≡ region_outcome s k
+pub region_answer : (s : List ℕ) (k : ℕ) (r : Result Region Refusal) → IsOutcome r (first_of (region_checks s k)) (region_in s k) → cut_answer_of r ≡ region_outcome s k
 unfolding region_outcome
-region-answer s k r h = cut-answer s k (first_of (region_checks s k)) r h
+region_answer s k r h = cut-answer s k (first_of (region_checks s k)) r h
 
-pub read-answer : (s : List ℕ) (k : ℕ) (slice : List ℕ) (r : Result Region Refusal) (xs : List ℕ) → IsOutcome r (first_of (read_checks s k (length slice))) (region_in s k)
+pub read_answer : (s : List ℕ) (k : ℕ) (slice : List ℕ) (r : Result Region Refusal) (xs : List ℕ) → IsOutcome r (first_of (read_checks s k (length slice))) (region_in s k)
     → xs ≡ (read_outcome s k slice).samples → ◌≡◌ {A = ReadOutcome} (record { answer = cut_answer_of r; samples = xs }) (read_outcome s k slice)
 unfolding read_outcome
-read-answer s k slice r xs h e = λ j. record { answer = cut-answer s k (first_of (read_checks s k (length slice))) r h j; samples = e j }
+read_answer s k slice r xs h e = λ j. record { answer = cut-answer s k (first_of (read_checks s k (length slice))) r h j; samples = e j }

@@ -90,10 +90,10 @@ module _ (t : CutTable) where
 
   -- ---- the answer at the C boundary
 
-  pub length-answer : (r : Result ℕ Refusal) → IsOutcome r (first_of (table_checks t)) (file_length (rectangle t) t.count) → length_answer_of r ≡ length_outcome t
+  pub length_answer : (r : Result ℕ Refusal) → IsOutcome r (first_of (table_checks t)) (file_length (rectangle t) t.count) → length_answer_of r ≡ length_outcome t
   unfolding length_outcome
-  length-answer (Ok n) (e, v) = rw (sym e) (λ j. record { number = 0; length = v j })
-  length-answer (Err x) (e, v) = rw (sym e, ne_eqb (number x) 0 (number-nonzero x))
+  length_answer (Ok n) (e, v) = rw (sym e) (λ j. record { number = 0; length = v j })
+  length_answer (Err x) (e, v) = rw (sym e, ne_eqb (number x) 0 (number-nonzero x))
 
 -- ---- the number of a call that writes
 

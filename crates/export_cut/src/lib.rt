@@ -1,4 +1,5 @@
 // The C boundary of cut files: each function passes its arguments on to one function of the library.
+// Form: the C interface has a number, with zeros beside a refusal.
 #![tactic(auto)]
 
 ghost use Rattle.std.specs.Prelude.{◌≡◌};
@@ -18,6 +19,7 @@ use refusals::number_of;
 // not the end of what precedes its body; 14 if the file does not end where its last body does; 0.
 // A refused call returns 0 in every other field.
 #[unsafe(no_mangle)]
+#[tactic(auto, using(cut_read::proofs::Numbers::count_answer))]
 pub extern "C" fn restoration_cut_count(file: &[u8]) -> CountAnswer
     ensures { result ≡ count_outcome file.now }
 {
@@ -28,6 +30,7 @@ pub extern "C" fn restoration_cut_count(file: &[u8]) -> CountAnswer
 // Numbers: those of `restoration_cut_count`; then 9 if `k` is not below the number of rectangles. A refused call
 // returns 0 in every other field.
 #[unsafe(no_mangle)]
+#[tactic(auto, using(cut_read::proofs::Numbers::region_answer))]
 pub extern "C" fn restoration_cut_region(file: &[u8], k: u32) -> CutAnswer
     ensures { result ≡ region_outcome file.now k }
 {
@@ -51,6 +54,7 @@ pub extern "C" fn restoration_read_cut(file: &[u8], k: u32, samples: &mut [u32])
 // outside 1 to 16,384, an area over 16,777,216, or a left or top outside -1,048,576 to 1,048,576; 7 if the file would
 // be longer than 16,777,216 bytes; 0. A refused call returns 0 in every other field.
 #[unsafe(no_mangle)]
+#[tactic(auto, using(cut_write::proofs::Tables::length_answer))]
 pub extern "C" fn restoration_cut_length(table: CutTable) -> LengthAnswer
     ensures { result ≡ length_outcome table }
 {
