@@ -54,7 +54,7 @@ impl Encoding {
 }
 
 // A filter that is off: zeros in all fields (Specification 5.8).
-// Form: tried as a derive; it says nothing of an array as a whole, and the proof of `read` did not close.
+// Form: tried as a derive, whose clause has a length and each element of an array: the proof of `read` did not close.
 impl Default for EdgePreservingFilter {
     ghost is_default = { λ filter. filter ≡ epf_off };
 

@@ -28,7 +28,7 @@ const SIDE: f32 = 0.115169525;
 const CORNER: f32 = 0.061248592;
 
 // A filter that is off: zeros in all fields (Specification 5.8).
-// Form: tried as a derive; it says nothing of an array as a whole, and the proof of `read` did not close.
+// Form: tried as a derive, whose clause has a length and each element of an array: the proof of `read` did not close.
 impl Default for Gabor {
     ghost is_default = { λ gabor. gabor ≡ gabor_off };
 
