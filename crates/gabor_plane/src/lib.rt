@@ -56,16 +56,7 @@ pub fn gabor_plane(
 )
     ensures { dst.new ≡ plane_outcome r from n w0 w1 src.now dst.old }
 {
-    if !r.fits(src) {
-        return;
-    }
-    if dst.len() != src.len() {
-        return;
-    }
-    if r.height < n {
-        return;
-    }
-    if r.height - n < from {
+    if !r.fits(src) || dst.len() != src.len() || r.height < n || r.height - n < from {
         return;
     }
     let source = Source {
