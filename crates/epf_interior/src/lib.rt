@@ -122,6 +122,7 @@ fn row(
 // Filters the rows of a rectangle; its row 0 is at y = `top`.
 // Form: a target, its source and a rectangle travel together from `epf_tiles` on, but with a pass there and a layout here; a
 // struct of two borrowed sets would have to be taken apart in each contract.
+#[tactic(auto, using(epf_rects::proofs::Three::rows_none))]
 fn rows_of(
     dst: &mut [f32],
     src: &[f32],

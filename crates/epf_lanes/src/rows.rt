@@ -129,6 +129,7 @@ fn one_row(
 // Filters a rectangle in three planes; its row 0 is at y = `top`.
 // Form: `filter_tile` tests the rectangle's rows and columns, and hands it on to two functions; a type for a rectangle so small
 // would be made there alone.
+#[tactic(auto, using(epf_rects::proofs::Three::rows_none))]
 pub(crate) fn filter_three(
     dst: &mut [f32],
     fields: &[f32; FIELDS],

@@ -29,6 +29,8 @@ unfolding planes_fill
 columns-none w h left top m v d zero = refl
 columns-none w h left top m v d (suc k) = rw (← (columns-none w h left top m v d k)) (rows_empty d ((k * h + top) * w + left) w m (λ i x. v k x i))
 
+pub ruleset no_columns = (columns-none)
+
 rows_none : (w h left n top : ℕ) (v : Picture) (d : List Float) (k : ℕ) → d ≡ planes_fill w h left n top 0 v d k
 unfolding planes_fill rows_fill
 rows_none w h left n top v d zero = refl

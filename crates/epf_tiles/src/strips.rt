@@ -24,6 +24,7 @@ struct RowSpan {
 
 // Filters a strip of rows, tile by tile.
 // Form: `dst`, `src` and `sigmas` are three slices that `filter_region` was given, handed on twice.
+#[tactic(auto, using(crate::proofs::Region::no_columns))]
 fn strip(
     dst: &mut [f32],
     src: &[f32],
@@ -50,6 +51,7 @@ fn strip(
 }
 
 // Filters rows `from` up to `to`, strip by strip; it has the arrays that a tile is computed in.
+#[tactic(auto, using(crate::proofs::Region::rows_start))]
 fn strips(dst: &mut [f32], src: &[f32], pass: Pass, sigmas: &[f32], from: usize, to: usize)
     requires pass_fits { PassFits pass (length src.now) (length dst.old) (length sigmas.now) }
     requires from_le_to { (from ≤ to) × (to ≤ pass.layout.height) }

@@ -1,8 +1,7 @@
-use mathlib.Core.Path.{refl, ◌∙◌}
+use mathlib.Core.Path.{◌∙◌}
 use native.Mathlib.Omega.{arith}
 use lib.ListN.{length}
 use Rattle.epf_slopes.proofs.Slopes.{first_small}
-use Rattle.epf_rects.proofs.Three.{rows_none}
 use Rattle.epf_interior.proofs.Inside.{RowRoom, row_room, row_next}
 use Rattle.epf_interior.proofs.rows_of.Goals as goal
 
@@ -14,9 +13,6 @@ loop-r-preserved c =
       c.row.auto.dst ∙ inv.1,
       row_next a.l a.src.now a.scales.now a.slopes.now a.top a.rect c.loop-r.r _ _ _ _ c.requires.0 c.requires.1 c.loop-r-test.true c.first_slope-first.ensures inv.2 c.row.ensures,
     )
-
-pub loop-r-init : goal.loop-r-init
-loop-r-init c = (omega arith, refl, rows_none _ _ _ _ _ _ _)
 
 pub row-requires : goal.row-requires
 row-requires c =

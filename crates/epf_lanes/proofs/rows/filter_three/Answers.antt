@@ -1,7 +1,6 @@
 use mathlib.Core.Path.{refl, ◌∙◌}
 use native.Mathlib.Omega.{arith}
 use lib.ListN.{length}
-use Rattle.epf_rects.proofs.Three.{rows_none}
 use Rattle.epf_slopes.proofs.Slopes.{first_small}
 use Rattle.epf_lanes.proofs.Lanes.{ThreeRoom, three-room, three-next}
 use Rattle.epf_lanes.proofs.rows.filter_three.Goals as goal
@@ -17,6 +16,3 @@ pub three_row-requires : goal.three_row-requires
 three_row-requires c =
     let room : ThreeRoom c.args.l c.args.rect c.loop-r.r (length c.args.dst.now) = three-room c.args.l c.args.rect c.loop-r.r (length c.args.dst.now) c.requires.0 c.loop-r-test.true in
     (record { first-le = first_small _ _ c.first_slope-first.ensures; row_lt = omega (arith, c.loop-r-test.true, c.requires.1); lanes-le = c.requires.2 }, room.cols-le, omega (arith, room.end-le, c.loop-r.invariant.1))
-
-pub loop-r-init : goal.loop-r-init
-loop-r-init c = (omega arith, refl, rows_none _ _ _ _ _ _ _)

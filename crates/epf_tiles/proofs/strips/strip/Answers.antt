@@ -1,12 +1,9 @@
-use mathlib.Core.Path.{◌≡◌, refl, ◌∙◌}
+use mathlib.Core.Path.{◌≡◌, ◌∙◌}
 use Prim.Native.Nat.{◌+◌}
 use native.Mathlib.Omega.{arith}
 use Rattle.epf_tiles.specs.Tile.{pass_over}
-use Rattle.epf_tiles.proofs.Region.{columns-none, tile-beside}
+use Rattle.epf_tiles.proofs.Region.{tile-beside}
 use Rattle.epf_tiles.proofs.strips.strip.Goals as goal
-
-pub loop-x-init : goal.loop-x-init
-loop-x-init c = (omega arith, refl, refl, columns-none _ _ _ _ _ _ _ _)
 
 pub loop-x-preserved : goal.loop-x-preserved
 loop-x-preserved c =

@@ -1,11 +1,8 @@
-use mathlib.Core.Path.{refl, ◌∙◌}
+use mathlib.Core.Path.{◌∙◌}
 use native.Mathlib.Omega.{arith}
 use Rattle.epf_tiles.specs.Tile.{pass_over}
-use Rattle.epf_tiles.proofs.Region.{rows_start, strip-below}
+use Rattle.epf_tiles.proofs.Region.{strip-below}
 use Rattle.epf_tiles.proofs.strips.strips.Goals as goal
-
-pub loop-y-init : goal.loop-y-init
-loop-y-init c = (omega arith, c.requires.from_le_to.0, refl, rows_start _ _ _ _ _ _ _ _ _)
 
 pub loop-y-preserved : goal.loop-y-preserved
 loop-y-preserved c = (
