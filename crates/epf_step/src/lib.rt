@@ -11,7 +11,7 @@ ghost use Rattle.epf_step.specs.Bounds.{WeightBounded};
 pub const LAST_STEP: usize = 2;
 
 // NaN and negatives become 0.
-// Form: `f32::max` leaves open which of 0 and -0 it answers; the definition has 0 for -0.
+// Form: `f32::max` answers 0 for NaN too, but leaves open which of 0 and -0 it answers for -0; the definition has 0.
 #[tactic(auto, unfolding(crate::specs::Steps::positive))]
 fn positive(x: f32) -> f32
     ensures { result ≡ positive_of x }
