@@ -10,6 +10,8 @@ use borrow.Author.Tests.{ltb-false, ne_eqb}
 use lib.Dec.{ltb}
 use lib.Pow.{pow_pos, pow-add, pow_mono}
 use lib.Count.{count_trailing_zeros}
+use Rattle.std.specs.Int.{div_ceil}
+use Rattle.std.proofs.lemmas.Grind.{div_ceil_times}
 use Rattle.refusals.specs.Numbers.{out_of_limits, out_of_range}
 use Rattle.refusals.specs.Checks.{always, first_of}
 use Rattle.frame.specs.declared.Frame.{Frame}
@@ -29,6 +31,12 @@ pub divided-up-least : (a b q : ℕ) → 0 < b → a ≤ q * b → divided_up a 
 divided-up-least a b q p h =
     let l : a + (b - 1) < suc q * b = omega (arith, suc-mul q b) in
     omega (arith, (div-lt_iff_lt-mul {k = b} {x = a + (b - 1)} {y = suc q} p).1 l)
+
+-- The library's `div_ceil` is that q.
+pub div-ceil-is : (a b : ℕ) → 0 < b → div_ceil a b ≡ divided_up a b
+div-ceil-is a b p =
+    let t = div_ceil_times a b p in
+    omega (arith, divided-up-least a b (div_ceil a b) p t.0, (le-div_iff_mul-le {k = b} {x = div_ceil a b} {y = a + (b - 1)} p).1 (omega (arith, t.1)))
 
 -- It is at least 1 if a is,
 pub divided-up-pos : (a b : ℕ) → 0 < b → 1 ≤ a → 1 ≤ divided_up a b

@@ -5,7 +5,7 @@
 ghost use Rattle.std.specs.Prelude.{◌≡◌, false, ◌<◌, ◌≤◌, IfOk};
 ghost use Rattle.refusals.specs.Checks.{first_of};
 ghost use Rattle.refusals.specs.Refusals.{number_of, IsOutcome};
-ghost use Rattle.frame.specs.Sizes.{divided_up, sample_side, groups_along, sizes_of, split_of};
+ghost use Rattle.frame.specs.Sizes.{sample_side, groups_along, sizes_of, split_of};
 ghost use Rattle.frame.specs.Outcome.{bad_side, bad_sides, bad_upsampling, bad_settings};
 ghost use Rattle.frame.specs.Outcome.{frame_checks, split_checks, frame_answer, split_answer};
 ghost use Rattle.frame.specs.Sound.{Sound};
@@ -51,6 +51,7 @@ pub struct FrameAnswer {
 }
 
 // The group of a column or row of blocks, and the cell in that group.
+// Form: the fields are a group and a cell of it; a grid's sides, a count and a place, which other types have, mean something else.
 #[derive(Clone, Copy)]
 pub struct Split {
     pub group: u32,
@@ -66,21 +67,13 @@ pub struct SplitAnswer {
     pub inner: u32,
 }
 
-// a / b, rounded up.
-fn div_ceil(a: u32, b: u32) -> u32
-    requires { (a ≤ 16384) × (0 < b) × (b ≤ 16384) }
-    ensures { result ≡ divided_up a b }
-{
-    (a + (b - 1)) / b
-}
-
 // A frame side in samples: ⌈⌈side / upsampling⌉ / 8^level⌉.
 fn sample_side(side: u32, upsampling: u32, level: u32) -> u32
     requires { (side ≤ 16384) × (0 < upsampling) × (upsampling ≤ 8) × (level ≤ 4) }
     ensures { result ≡ sample_side side upsampling level }
 {
     let div = 1u32 << (3 * level);
-    div_ceil(div_ceil(side, upsampling), div)
+    side.div_ceil(upsampling).div_ceil(div)
 }
 
 // LF groups along a sample side.
@@ -89,7 +82,7 @@ fn groups_along(side: u32, shift: GroupShift) -> u32
     ensures groups { result ≡ groups_along side shift.value }
     ensures range { result ≤ 16 }
 {
-    div_ceil(side, BLOCK_U32 * shift.dim())
+    side.div_ceil(BLOCK_U32 * shift.dim())
 }
 
 fn bad_side(side: u32) -> bool
@@ -198,6 +191,7 @@ pub fn split_block(block: u32, group_size_shift: u32) -> Result<Split, Refusal>
 }
 
 // The answers of C stand here and not in crate `export_frame`: crate `instances` speaks of them, and a crate depends on libraries alone.
+// Form: C's answers, a number with zeros beside a refusal; Rust callers get the `Result`, and a refused answer is made here alone.
 impl From<Result<GroupSizes, Refusal>> for FrameAnswer {
     ghost from_gives = { λ r a. a ≡ frame_answer r };
 
@@ -215,6 +209,7 @@ impl From<Result<GroupSizes, Refusal>> for FrameAnswer {
     }
 }
 
+// Form: as above; two zeros by name are no longer than a `Default` for them.
 impl From<Result<Split, Refusal>> for SplitAnswer {
     ghost from_gives = { λ r a. a ≡ split_answer r };
 

@@ -1,15 +1,11 @@
 -- `frame::groups_along` meets its contract. Assumes nothing.
-use mathlib.Core.Path.{ap, ◌∙◌}
-use Prim.Native.Nat.{ℕ, ◌*◌, ◌≤◌}
+use Prim.Native.Nat.{◌*◌}
 use native.Mathlib.Omega.{arith}
-use Rattle.frame.specs.Sizes.{divided_up, groups_along}
-use Rattle.frame.proofs.Laws.{groups-along-le}
+use Rattle.frame.specs.Sizes.{group_dim_of}
+use Rattle.frame.proofs.Laws.{div-ceil-is, group-dim-ge}
 use Rattle.frame.proofs.groups_along.Goals as goal
 
 pub returns-clause-groups : goal.returns-clause-groups
-returns-clause-groups c = c.div_ceil.ensures ∙ ap (λ (d : ℕ). divided_up c.args.side (8 * d)) c.dim.ensures.dim
-
-pub returns-clause-range : goal.returns-clause-range
-returns-clause-range c =
-    let is : c.div_ceil.result ≤ groups_along c.args.side c.args.shift.value = omega (arith, returns-clause-groups c) in
-    omega (arith, groups-along-le c.args.side c.args.shift.value c.requires)
+returns-clause-groups c =
+    let a = c.args in
+    rw c.div_ceil.ensures (rw c.dim.ensures.dim (div-ceil-is a.side (8 * group_dim_of a.shift.value) (omega (arith, group-dim-ge a.shift.value))))

@@ -1,11 +1,6 @@
 -- `frame::SoundFrame::sizes` meets its contract. Assumes nothing.
-use native.Mathlib.Nat.{mul-le-mul}
-use native.Mathlib.Omega.{arith}
 use Rattle.frame.specs.Sizes.{sizes_of}
 use Rattle.frame.proofs.SoundFrame.sizes.Goals as goal
-
-pub overflow_mul-result : goal.overflow_mul-result
-overflow_mul-result c = omega (arith, mul-le-mul c.groups_along-groups_per_row.ensures.range c.groups_along-groups_per_column.ensures.range)
 
 pub returns : goal.returns
 unfolding sizes_of
