@@ -13,30 +13,14 @@ use Rattle.std.specs.Prelude.{Result, Ok, Err}
 use Rattle.refusals.specs.declared.Refusal.{Refusal}
 use Rattle.refusals.specs.Refusals.{IsOutcome, number}
 use Rattle.refusals.proofs.Outcomes.{number-nonzero}
-use Rattle.header_epf_sigma.specs.declared.EpfSigma.{EpfSigma}
 use Rattle.epf.specs.declared.EpfStep.{EpfStep}
 use Rattle.run_passes.specs.declared.Pass.TheVariants.{Gabor, Edge}
 use Rattle.run_passes.specs.declared.Settings.{Settings}
 use Rattle.run_passes.specs.Pass.{Pass, gabor_like, reach, reaches}
 use Rattle.run_passes.specs.PassAt.{pass_at}
-use Rattle.run_passes.specs.Plan.{gabor_at, gabor_on, margin, margin_answer, margin_number, margin_outcome, one_if, plan, scale_of, step, step_index, step_margin, step_of, steps}
+use Rattle.run_passes.specs.Plan.{gabor_at, gabor_on, margin, margin_answer, margin_number, margin_outcome, one_if, plan, step, step_index, step_margin, step_of, steps}
 
 -- ---- laws
-
--- step 2 and every larger number have `pass2_sigma_scale`
-pub scale-last : (s : EpfSigma) (k : ℕ) → 2 ≤ k → scale_of s k ≡ s.pass2_sigma_scale
-unfolding scale_of
-scale-last s zero h = absurd (omega arith)
-scale-last s (suc zero) h = absurd (omega arith)
-scale-last s (suc (suc k)) h = refl
-
--- three or more iterations read 6 samples far
-pub step-margin-most : (i : ℕ) → 3 ≤ i → step_margin i ≡ 6
-unfolding step_margin
-step-margin-most zero h = absurd (omega arith)
-step-margin-most (suc zero) h = absurd (omega arith)
-step-margin-most (suc (suc zero)) h = absurd (omega arith)
-step-margin-most (suc (suc (suc i))) h = refl
 
 -- the margin is how far the passes read together
 margin-is : (n : ℕ) (s : Settings) (on : Bool) (i : ℕ) → reaches (cond on (gabor_like s.gabor.weights ∷ steps n s i) (steps n s i)) ≡ one_if on + step_margin i

@@ -1,14 +1,17 @@
 // The passes of the settings, in order, and how far they read together.
+// Form: `Settings` and `GaborSettings` are what C hands, with a flag as a number; `RestorationFilter` and `Gabor`, which have the same
+// names of fields, are what the header's readers answer, with a bool (docs/DECISIONS.md, "Runs").
 #![tactic(auto)]
 
-ghost use Rattle.std.specs.Prelude.{◌≡◌, ◌≤◌, length};
+ghost use Rattle.std.specs.Prelude.{◌≡◌, ◌≤◌, length, ltb};
 ghost use Rattle.refusals.specs.Refusals.{IsOutcome};
 ghost use Rattle.run_passes.specs.Makers.{no_settings};
 ghost use Rattle.run_passes.specs.Plan.{plan, gabor_on, one_if, step_margin, margin, margin_number, margin_answer};
-ghost use Rattle.run_passes.specs.Plan.{scale_of, step_of, gabor_at, step_index};
+ghost use Rattle.run_passes.specs.Plan.{iterations_fit, scale_of, step_of, gabor_at, step_index};
 ghost use Rattle.run_passes.specs.PassAt.{pass_at};
 
 use epf::EpfStep;
+use epf_step::LAST_STEP;
 use header_epf_sigma::EpfSigma;
 use refusals::{ACCEPTED, Refusal, flag_fits, flag_set};
 
@@ -61,9 +64,8 @@ pub const MAX_ITERS: u32 = 3;
 // Three iterations have all steps; fewer start with step 1.
 const ALL_STEPS: u32 = 3;
 
-const LAST_STEP: u64 = 2;
-
 // How far the steps of so many iterations read together.
+// Form: C hands the iterations as a number, and the four margins are a table of it, as in Specification 12.14.
 #[tactic(auto, unfolding(crate::specs::Plan::step_margin))]
 fn step_margin(iters: u32) -> u32
     ensures { (result ≡ step_margin iters) × (result ≤ 6) }
@@ -76,6 +78,7 @@ fn step_margin(iters: u32) -> u32
     }
 }
 
+// Form: a step is a number on the C boundary, and its scale is asked for here alone.
 #[tactic(auto, unfolding(crate::specs::Plan::scale_of))]
 fn scale_of(sigma: EpfSigma, step: u32) -> f32
     ensures { result ≡ scale_of sigma step }
@@ -88,6 +91,7 @@ fn scale_of(sigma: EpfSigma, step: u32) -> f32
 }
 
 impl Settings {
+    // Form: C hands a number, so that every value has a meaning: 1 is on, and another than 0 and 1 is refused.
     fn gabor_on(&self) -> bool
         ensures { result ≡ gabor_on self.now }
     {
@@ -100,6 +104,20 @@ impl Settings {
         u32::from(self.gabor_on())
     }
 
+    // Whether the iterations are 0 to 3.
+    pub fn iterations_fit(&self) -> bool
+        ensures { result ≡ iterations_fit self.now }
+    {
+        self.epf.iters <= MAX_ITERS
+    }
+
+    // Whether the edge-preserving filter is on: only the iterations decide.
+    pub fn epf_on(&self) -> bool
+        ensures { result ≡ ltb 0 self.now.epf.iters }
+    {
+        0 < self.epf.iters
+    }
+
     // The number of passes.
     pub fn pass_count(&self) -> u32
         ensures { result ≡ length (plan 3 self.now) }
@@ -109,17 +127,19 @@ impl Settings {
 
     // The margin (Specification 12.14): how many samples must lie between a sample and each cut edge. Refused if
     // Gabor's flag or the iterations are out of range.
+    // Form: the flag is C's number, as in `gabor_on`.
     #[tactic(auto, unfolding(crate::specs::Plan::margin_checks))]
     pub fn margin(&self) -> Result<u32, Refusal>
         ensures { IsOutcome result (margin_number self.now) (margin self.now) }
     {
-        if !flag_fits(self.gabor.enabled) || MAX_ITERS < self.epf.iters {
+        if !flag_fits(self.gabor.enabled) || !self.iterations_fit() {
             return Err(Refusal::OutOfRange);
         }
         Ok(self.gabor_passes() + step_margin(self.epf.iters))
     }
 
     // Whether a pass is the Gabor-like filter.
+    // Form: a pass is a number in the record that C hands; `pass_at`, an enum, answers for all callers.
     #[tactic(auto, unfolding(crate::specs::Plan::gabor_at))]
     fn gabor_at(&self, pass: u32) -> bool
         ensures { result ≡ gabor_at self.now pass }
@@ -127,13 +147,14 @@ impl Settings {
         self.gabor_on() && pass == 0
     }
 
+    // Form: the step that fewer iterations skip is a number to add, and no other code asks for it.
     #[tactic(auto, unfolding(crate::specs::Plan::step_index))]
     fn step_index(&self, pass: u32) -> u32
         ensures { result ≡ step_index self.now pass }
     {
-        let skipped = u64::from(self.epf.iters < ALL_STEPS);
-        let before = u64::from(self.gabor_passes());
-        let step = (u64::from(pass) + skipped).saturating_sub(before);
+        let skipped = usize::from(self.epf.iters < ALL_STEPS);
+        let before = self.gabor_passes() as usize;
+        let step = (pass as usize + skipped).saturating_sub(before);
         step.min(LAST_STEP) as u32
     }
 
@@ -189,6 +210,8 @@ impl Default for Settings {
     }
 }
 
+// Form: C's answer, a number with margin 0 beside a refusal; Rust callers get the `Result`. It stands here, since definitions and crate
+// `instances` name it; that it has two numbers, as other structs have, is no common meaning.
 impl From<Result<u32, Refusal>> for MarginAnswer {
     ghost from_gives = { λ margin answer. answer ≡ margin_answer margin };
 
