@@ -3,14 +3,14 @@
 
 ghost use Rattle.std.specs.Prelude.{◌≡◌};
 ghost use Rattle.run_setup.specs.Makers.{no_setup};
-ghost use Rattle.run_setup.specs.Setup.{row_count, size_fits, band_count, blocks_fit, height_fits};
+ghost use Rattle.run_setup.specs.Setup.{full_planes, row_count, size_fits, band_count, blocks_fit, height_fits};
 ghost use Rattle.run_setup.specs.Setup.{numbers_fit, result_region, setup_fits};
 
 use limits::{MAX_AREA_U32, MAX_SIDE_U32};
 use refusals::{flag_fits, flag_set};
 use region::Region;
 use region_placement::{on_blocks, placed};
-use run_passes::{MAX_ITERS, Settings};
+use run_passes::Settings;
 
 // The largest number of bands of a pass (Specification 4.1).
 pub const MAX_BANDS: usize = 256;
@@ -40,11 +40,19 @@ pub fn size_fits(r: Region) -> bool
 }
 
 impl Setup {
+    // Whether the result region is the image region.
+    // Form: C hands a number, so that every value has a meaning: 1 is yes, and another than 0 and 1 is refused.
+    pub fn full_planes(&self) -> bool
+        ensures { result ≡ full_planes self.now }
+    {
+        flag_set(self.preserve_outside)
+    }
+
     // The region whose samples the run gives: the image region or the filter region.
     pub fn result_region(&self) -> Region
         ensures { result ≡ result_region self.now }
     {
-        if flag_set(self.preserve_outside) {
+        if self.full_planes() {
             return self.image;
         }
         self.filter
@@ -67,13 +75,13 @@ impl Setup {
         if height == 0 {
             return 0;
         }
-        (self.row_count() as usize + height - 1) / height
+        (self.row_count() as usize).div_ceil(height)
     }
 
     fn blocks_fit(&self) -> bool
         ensures { result ≡ blocks_fit self.now }
     {
-        self.settings.epf.iters == 0 || on_blocks(self.filter)
+        !self.settings.epf_on() || on_blocks(self.filter)
     }
 
     fn height_fits(&self) -> bool
@@ -83,11 +91,12 @@ impl Setup {
     }
 
     // Whether the iterations, both flags, the band height and the number of bands are in range.
+    // Form: the flags are C's numbers, as in `full_planes`, and only a table of checks asks whether they are in range.
     #[tactic(auto, unfolding(crate::specs::Setup::numbers_fit))]
     pub fn numbers_fit(&self) -> bool
         ensures { result ≡ numbers_fit self.now }
     {
-        self.settings.epf.iters <= MAX_ITERS
+        self.settings.iterations_fit()
             && flag_fits(self.preserve_outside)
             && flag_fits(self.settings.gabor.enabled)
             && self.height_fits()
