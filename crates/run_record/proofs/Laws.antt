@@ -1,14 +1,16 @@
 -- What a valid record has, and that accepted calls keep it valid. Assumes nothing.
-use mathlib.Core.Path.{◌≡◌, refl}
+use mathlib.Core.Path.{◌≡◌, refl, ap, ◌∙◌}
 use mathlib.Core.Bool.{Bool, true, false, not, ◌&&◌, ◌||◌}
 use mathlib.Core.List.{List, [], ◌∷◌}
-use Prim.Native.Nat.{ℕ, zero, suc, ◌<◌, ◌≤◌}
+use Prim.Native.Nat.{ℕ, zero, suc, ◌+◌, ◌<◌, ◌≤◌}
 use native.Mathlib.Omega.{arith}
 use borrow.Author.Tests.{lt-leb, leb-false, eqb-false, ltb-false, le-ltb, not-true, not-false}
 use lib.Dec.{T, eqb, leb, ltb, leb→le, le→leb}
-use lib.ListN.{get_or, set, replicate}
+use lib.ListN.{length, get_or, set, take, replicate}
 use lib.Seq.{get_or-set_other}
 use lib.Ieee.Fits.{and_l, and_r, and_i}
+use Rattle.std.specs.List.{list_any}
+use Rattle.std.proofs.lemmas.List.Folds.{list_any_more}
 use Rattle.sigma_grids.specs.Table.{some_below}
 use Rattle.sigma_grids.proofs.Laws.{neither, none_below}
 use Rattle.run_passes.specs.Plan.{one_if}
@@ -25,6 +27,17 @@ pub none_has : (n : ℕ) (has : ℕ → Bool) → ((k : ℕ) → k < n → has k
 unfolding some_below
 none_has zero has f = refl
 none_has (suc n) has f = rw (none_has n has (λ k l. f k (omega arith)), f n (omega arith))
+
+-- some of the first n elements passes a test
+pub some_of : {X : Type 0} (test : X → Bool) (xs : List X) (d : X) (has : ℕ → Bool) (n : ℕ) → n ≤ length xs → ((k : ℕ) → k < n → test (get_or xs k d) ≡ has k)
+    → list_any test (take n xs) ≡ some_below n has
+unfolding some_below
+some_of test xs d has zero h same = refl
+some_of test xs d has (suc n) h same =
+    let next : suc n ≡ n + 1 = omega arith in
+    ap (λ (k : ℕ). list_any test (take k xs)) next
+    ∙ list_any_more test xs n d h
+    ∙ rw (some_of test xs d has n (omega arith) (λ k l. same k (omega arith)), same n (omega arith))
 
 -- a flag of a valid record is 0 or 1, and 0 from the open bands on
 flag-most : (bands k f : ℕ) → bad_flag bands k f ≡ false → f ≤ 1

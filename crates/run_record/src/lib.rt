@@ -1,7 +1,7 @@
 // The record of a run: the setup, the number of completed passes, and the done bands of the next pass.
 #![tactic(auto)]
 
-ghost use Rattle.std.specs.Prelude.{◌≡◌, not, ℕ, ◌<◌, ◌≤◌, get_or};
+ghost use Rattle.std.specs.Prelude.{◌≡◌, not, ℕ, ◌<◌, ◌≤◌, ◌%◌, eqb, get_or};
 ghost use Rattle.refusals.specs.Checks.{first_of};
 ghost use Rattle.refusals.specs.Refusals.{number_of};
 ghost use Rattle.run_setup.specs.Makers.{no_setup};
@@ -46,6 +46,8 @@ impl Run {
         }
     }
 
+    // Whether band k is done.
+    // Form: C hands the flags as bytes, so that every value has a meaning: 1 is done, and another than 0 and 1 is refused.
     #[tactic(auto, unfolding(crate::specs::Record::is_done))]
     fn is_done(&self, k: usize) -> bool
         requires { k < max_bands }
@@ -59,25 +61,30 @@ impl Run {
         ensures { result ≡ bad_done self.now }
     {
         let bands = self.open_bands();
-        for k in 0..MAX_BANDS {
-            if bad_flag(bands, k, self.done[k]) {
-                return true;
-            }
-        }
-        false
+        self.done
+            .iter()
+            .enumerate()
+            .any(|(k, flag)| bad_flag(bands, k, *flag))
     }
 
     // Whether a band of the pass is not done.
+    // Form: the flags are C's bytes, as in `is_done`.
     fn band_missing(&self) -> bool
         requires { band_count self.now.setup ≤ max_bands }
         ensures { result ≡ band_missing self.now }
     {
-        for k in 0..self.setup.band_count() {
-            if !self.is_done(k) {
-                return true;
-            }
-        }
-        false
+        let bands = self.setup.band_count();
+        self.done[..bands]
+            .iter()
+            .any(|flag| !flag_set(u32::from(*flag)))
+    }
+
+    // Whether the next pass reads the first set: each advance exchanges the sets.
+    // Form: an advance counts passes, and an enum for the two sets would be one more field of C's record.
+    pub fn reads_first(&self) -> bool
+        ensures { result ≡ eqb (self.now.pass % 2) 0 }
+    {
+        self.pass % 2 == 0
     }
 
     // Whether all passes are completed.

@@ -1,22 +1,22 @@
-use mathlib.Core.Path.{◌≡◌, refl, sym, ap, ◌∙◌}
+-- `Run::band_missing` meets its contract: some band's flag is not set. Assumes nothing.
+use mathlib.Core.Path.{refl, ◌∙◌}
 use mathlib.Core.Bool.{not}
+use Prim.Native.Nat.{ℕ}
 use native.Mathlib.Omega.{arith}
-use Rattle.sigma_grids.specs.Table.{some_below}
-use Rattle.sigma_grids.proofs.Laws.{some-found, some_turn}
-use Rattle.run_record.specs.Record.{band_missing}
+use lib.ListN.{get_or, take}
+use Rattle.std.proofs.Common.{rules, tests}
+use Rattle.std.proofs.lemmas.Iterator.{YieldsList-from_slice}
+use Rattle.std.proofs.lemmas.Iterator.Search.{any_from_yields_List}
+use Rattle.refusals.specs.Flags.{flag_set}
+use Rattle.run_setup.specs.Setup.{band_count}
+use Rattle.run_record.specs.Record.{is_done, band_missing}
+use Rattle.run_record.proofs.Laws.{some_of}
 use Rattle.run_record.proofs.Run.band_missing.Goals as goal
 
-pub loop-k-init : goal.loop-k-init
-unfolding some_below
-loop-k-init c = refl
-
-pub returns-then-not-is_done : goal.returns-then-not-is_done
-unfolding band_missing
-returns-then-not-is_done c = sym (some-found _ _ _ (omega arith) (sym (ap not c.is_done.ensures) ∙ ap not c.if-not-is_done.true))
-
-pub loop-k-preserved : goal.loop-k-preserved
-loop-k-preserved c = some_turn _ _ c.loop-k.invariant (sym (ap not c.is_done.ensures) ∙ ap not c.if-not-is_done.false)
-
 pub returns : goal.returns
-unfolding band_missing
-returns c = let e : c.loop-k.k ≡ c.band_count-k-end.result = omega arith in sym (rw (← c.band_count-k-end.ensures, ← e) c.loop-k.invariant)
+unfolding band_missing is_done
+returns c =
+    let r = c.args.self.now in
+    let test = λ (f : ℕ). not (flag_set f) in
+    any_from_yields_List test _ _ _ c.any.ensures.ran (YieldsList-from_slice (take (band_count r.setup) r.done) cc) (λ x b q k. search (rules, tests))
+    ∙ some_of test r.done 0 (λ (k : ℕ). test (get_or r.done k 0)) (band_count r.setup) (omega arith) (λ k l. refl)
