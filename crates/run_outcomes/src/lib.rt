@@ -13,7 +13,6 @@ ghost use Rattle.run_outcomes.specs.Start.{run_answer};
 use planes::PLANES;
 use refusals::{ACCEPTED, Refusal, flag_fits, number_of};
 use region::Region;
-use run_passes::MAX_ITERS;
 use run_record::Run;
 use run_setup::{Setup, size_fits};
 use sigma_groups::blocks::blocks_along;
@@ -40,6 +39,8 @@ impl RunAnswer {
 }
 
 // The answer of a start.
+// Form: C's answer, a number with a record of zeros beside a refusal; Rust callers get the `Result`. It stands here, since the outcomes of
+// specs/ name it.
 impl From<Result<Run, Refusal>> for RunAnswer {
     ghost from_gives = { λ started answer. answer ≡ run_answer started };
 
@@ -57,6 +58,7 @@ impl From<Result<Run, Refusal>> for RunAnswer {
     }
 }
 
+// Form: `loupe` has its own: this one asks for a size in range, and so is not public.
 fn set_length(r: Region) -> usize
     requires { size_fits r ≡ true }
     ensures { result ≡ 3 * r.height * r.width }
@@ -84,7 +86,7 @@ fn sigmas_length(s: &Setup) -> usize
     requires { epf_on s.now ≡ true → size_fits s.now.filter ≡ true }
     ensures { result ≡ sigma_length s.now }
 {
-    if s.settings.epf.iters == 0 {
+    if !s.settings.epf_on() {
         return 0;
     }
     let down = blocks_along(s.filter.height) as usize;
@@ -97,8 +99,7 @@ fn sigmas_length(s: &Setup) -> usize
 pub fn check_sigmas(s: &Setup, sigmas: &[f32]) -> Result<(), Refusal>
     ensures { number_of result ≡ first_of (sigma_check 3 s.now (length sigmas.now) ∷ []) }
 {
-    let iters = s.settings.epf.iters;
-    if MAX_ITERS < iters || 0 < iters && !size_fits(s.filter) {
+    if !s.settings.iterations_fit() || s.settings.epf_on() && !size_fits(s.filter) {
         return Ok(());
     }
     if sigmas.len() != sigmas_length(s) {
@@ -109,6 +110,7 @@ pub fn check_sigmas(s: &Setup, sigmas: &[f32]) -> Result<(), Refusal>
 
 // Refuses a slice of the wrong length for the result; passed over if `preserve_outside` is not a flag or the result
 // region's size does not fit (Specification 12.12).
+// Form: the flag is C's number, and only a table of checks asks whether it is in range.
 pub fn check_slice(s: &Setup, out: &[f32]) -> Result<(), Refusal>
     ensures { number_of result ≡ first_of (slice_check 3 s.now (length out.now) ∷ []) }
 {

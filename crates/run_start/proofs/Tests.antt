@@ -1,23 +1,17 @@
 -- The code's tests and calls agree with the parts. Assumes nothing.
-use mathlib.Core.Path.{◌≡◌, refl, ◌∙◌}
+use mathlib.Core.Path.{◌≡◌, refl}
 use mathlib.Core.Bool.{Bool, true, false, cond, not, ◌&&◌}
-use mathlib.Core.List.{List}
-use Prim.Native.Nat.{ℕ, ◌/◌}
-use lib.Ieee.{Float}
+use Prim.Native.Nat.{ℕ}
 use Rattle.std.specs.Prelude.{Result, Ok, Err, IsErrAnd}
 use Rattle.refusals.specs.Numbers.{out_of_range}
 use Rattle.refusals.specs.declared.Refusal.{Refusal}
 use Rattle.refusals.specs.Refusals.{number}
-use Rattle.frame.specs.declared.Frame.{Frame}
 use Rattle.sigma_groups.specs.declared.blocks.Blocks.{Blocks}
-use Rattle.sigma_groups.specs.Outcome.{sigma_number}
 use Rattle.sigma.specs.Outcome.{sigmas_outcome}
-use Rattle.region_placement.specs.Blocks.{clamp_to_zero}
-use Rattle.run_setup.specs.declared.Setup.{Setup}
 use Rattle.run_record.specs.declared.Run.{Run}
 use Rattle.run_outcomes.specs.declared.RunAnswer.{RunAnswer}
 use Rattle.run_outcomes.specs.Start.{Handed, blocks_of, no_run, run_answer}
-use Rattle.run_start.specs.Pieces.{epf_flag, sigmas_asked}
+use Rattle.run_start.specs.Pieces.{epf_flag}
 
 -- the last five rows, of the setup's settings, as one test
 pub settings-row : (iters full gabor height count : Bool)

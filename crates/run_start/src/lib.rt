@@ -17,7 +17,6 @@ use limits::BLOCK;
 use refusals::Refusal;
 use region_placement::{clamp_to_zero, on_blocks, placed};
 use run_outcomes::check_sets;
-use run_passes::MAX_ITERS;
 use run_record::Run;
 use run_setup::Setup;
 use sigma::block_sigmas;
@@ -39,11 +38,11 @@ fn lowest(a: Result<(), Refusal>, b: Result<(), Refusal>) -> Result<(), Refusal>
 fn runs_epf(s: &Setup) -> bool
     ensures { result ≡ runs_epf s.now }
 {
-    let iters = s.settings.epf.iters;
-    iters <= MAX_ITERS && 0 < iters
+    s.settings.iterations_fit() && s.settings.epf_on()
 }
 
 // The same as a flag, for `block_sigmas`.
+// Form: `block_sigmas` takes what C hands it, a number.
 fn epf_flag(s: &Setup) -> u32
     ensures { result ≡ epf_flag s.now }
 {
@@ -63,13 +62,13 @@ fn blocks_of(s: &Setup) -> Blocks
 }
 
 // The length of the block sigmas, or 0 if the iterations are out of range: then it is not checked.
-fn sigmas_asked(s: &Setup, sigmas: usize) -> usize
-    ensures { result ≡ sigmas_asked s.now sigmas }
+fn sigmas_asked(s: &Setup, sigmas: &[f32]) -> usize
+    ensures { result ≡ sigmas_asked s.now (length sigmas.now) }
 {
-    if MAX_ITERS < s.settings.epf.iters {
+    if !s.settings.iterations_fit() {
         return 0;
     }
-    sigmas
+    sigmas.len()
 }
 
 fn off_blocks(s: &Setup) -> bool
@@ -101,15 +100,17 @@ fn check_setup(s: &Setup, first: &[f32], second: &[f32]) -> Result<(), Refusal>
 }
 
 // Refuses a frame, its group table and grids, and block sigmas.
+// Form: here and below frame, table and grids are parameters apart, as C hands them and `sigma_groups::check` takes them; a struct would
+// only be made and taken apart here.
 fn check_groups(
     s: &Setup,
     frame: Frame,
     table: &[u32],
     grids: &[f32],
-    sigmas: usize,
+    sigmas: &[f32],
 ) -> Result<(), Refusal>
     ensures { number_of result ≡ sigma_number
-        (epf_flag s.now) frame (blocks_of s.now) table.now grids.now (sigmas_asked s.now sigmas) }
+        (epf_flag s.now) frame (blocks_of s.now) table.now grids.now (sigmas_asked s.now (length sigmas.now)) }
 {
     let asked = sigmas_asked(s, sigmas);
     sigma_groups::check(epf_flag(s), frame, blocks_of(s), table, grids, asked)
@@ -123,10 +124,10 @@ fn check_picture(
     grids: &[f32],
     first: &[f32],
     second: &[f32],
-    sigmas: usize,
+    sigmas: &[f32],
 ) -> Result<(), Refusal>
     ensures { number_of result ≡ picture_number 3 s.now frame table.now grids.now
-        (length first.now) (length second.now) sigmas }
+        (length first.now) (length second.now) (length sigmas.now) }
 {
     let place = check_placed(s);
     let own = check_setup(s, first, second);
@@ -156,7 +157,7 @@ pub fn start(
           sigmas = sigmas.old;
         })) }
 {
-    check_picture(&setup, frame, table, grids, first, second, sigmas.len())?;
+    check_picture(&setup, frame, table, grids, first, second, sigmas)?;
     let on = epf_flag(&setup);
     let modular = setup.settings.epf.sigma_for_modular;
     block_sigmas(on, frame, blocks_of(&setup), table, grids, modular, sigmas)?;
