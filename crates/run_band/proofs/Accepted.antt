@@ -1,11 +1,11 @@
 -- What holds of the state that an accepted band is given, and that the code's tests give the outcomes of the definition. Assumes nothing.
-use mathlib.Core.Path.{◌≡◌, sym, ap, ◌∙◌}
+use mathlib.Core.Path.{◌≡◌, ap, ◌∙◌}
 use mathlib.Core.Bool.{Bool, true, false, cond, not, ◌&&◌, ◌||◌}
-use mathlib.Core.List.{List, ◌∷◌}
-use Prim.Native.Nat.{ℕ, suc, ◌+◌, ◌-◌, ◌*◌, ◌%◌, ◌<◌, ◌≤◌}
+use mathlib.Core.List.{List}
+use Prim.Native.Nat.{ℕ, suc, ◌+◌, ◌-◌, ◌*◌, ◌%◌, ◌<◌, ◌≤◌, min}
 use native.Mathlib.Nat.{mul-le-mul, suc-mul, le-div_iff_mul-le}
 use native.Mathlib.Omega.{arith}
-use borrow.Author.Tests.{eq-eqb, ne_eqb, le-leb}
+use borrow.Author.Tests.{ne_eqb, le-leb}
 use lib.Dec.{T, eqb, eqb→eq}
 use lib.ListN.{length}
 use lib.Ieee.{Float}
@@ -13,14 +13,13 @@ use lib.Ieee.Fits.{and_l, and_r}
 use Rattle.region.proofs.Laws.{picture-bounds, bounds-height}
 use Rattle.planes_layout.specs.Outcome.{layout_of}
 use Rattle.run_setup.specs.declared.Setup.{Setup}
-use Rattle.run_record.specs.declared.Run.{Run}
 use Rattle.run_setup.specs.Setup.{max_bands, full_planes, epf_on, row_count, band_count, band_from, band_to, size_fits, iters_fit, set_length, sigma_length}
-use Rattle.run_record.specs.Record.{marked, open_checks}
+use Rattle.run_record.specs.Record.{marked}
 use Rattle.refusals.proofs.Tables.{of-true, met-given}
 use Rattle.run_setup.specs.SetupFits.{SetupFits}
 use Rattle.run_setup.proofs.Laws.{setup-fits, image-size, filter-size}
 use Rattle.run_record.proofs.Laws.{pass-left}
-use Rattle.run_outcomes.specs.Band.{State, BandOutcome, set_check, sigma_check, reads_first, source, target, band_checks, band_number, banded, band_outcome}
+use Rattle.run_outcomes.specs.Band.{State, BandOutcome, set_check, sigma_check, reads_first, band_checks, band_number, banded, band_outcome}
 use Rattle.refusals.proofs.Rows.{here, below, row-passed}
 use Rattle.run_outcomes.proofs.Laws.{BandFits, band-fits}
 use Rattle.run_band.specs.Rows.{RowsFit, passed_rows, band_written}
@@ -83,7 +82,11 @@ module _ (t : State) (k : ℕ) (e : band_number 3 t k ≡ 0) where
       let c : k ≤ max_bands = omega arith in
       record { band = b; height = setup.height-most; from = mul-le-mul c setup.height-most; rows = rows-most }
 
-  -- band k starts before the last row
+  -- it ends with the rows of the definition
+  pub band-end : (rows to : ℕ) → rows ≡ row_count s → to ≡ min (k * s.band_height + s.band_height) rows → to ≡ band_to s k
+  band-end rows to r m = omega (arith, r, m)
+
+  -- it starts before the last row
   begins : band_from s k ≤ row_count s
   unfolding band_count
   begins =
@@ -112,15 +115,15 @@ module _ (t : State) (k : ℕ) where
   abbrev Written : List Float → List Float → Type 0
   Written first second = ◌≡◌ {A = State} (record { run = t.run; sigmas = t.sigmas; first = first; second = second }) (band_written 3 t k)
 
-  pub second-written : t.run.pass % 2 ≡ 0 → (b : List Float) → b ≡ passed_rows 3 t.run t.sigmas (band_from t.run.setup k) (band_to t.run.setup k) t.first t.second
+  pub second-written : eqb (t.run.pass % 2) 0 ≡ true → (b : List Float) → b ≡ passed_rows 3 t.run t.sigmas (band_from t.run.setup k) (band_to t.run.setup k) t.first t.second
       → Written t.first b
   unfolding banded reads_first
-  second-written e b h = rw (eq-eqb (t.run.pass % 2) 0 e, h)
+  second-written e b h = rw (e, h)
 
-  pub first-written : (t.run.pass % 2 ≡ 0 → ⊥) → (b : List Float) → b ≡ passed_rows 3 t.run t.sigmas (band_from t.run.setup k) (band_to t.run.setup k) t.second t.first
+  pub first-written : eqb (t.run.pass % 2) 0 ≡ false → (b : List Float) → b ≡ passed_rows 3 t.run t.sigmas (band_from t.run.setup k) (band_to t.run.setup k) t.second t.first
       → Written b t.second
   unfolding banded reads_first
-  first-written e b h = rw (ne_eqb (t.run.pass % 2) 0 e, h)
+  first-written e b h = rw (e, h)
 
   pub band-refused : (n : ℕ) → n ≡ band_number 3 t k → (n ≡ 0 → ⊥) → ◌≡◌ {A = BandOutcome} (record { number = n; state = t }) (band_outcome 3 t k)
   unfolding band_outcome

@@ -14,6 +14,7 @@ use run_passes::Pass;
 use run_record::Run;
 
 // Refuses a band call: for the sets, the block sigmas, then the record.
+// Form: record and sets are what C hands; `result`, of another crate, takes them too, but no sigmas, so a struct would serve one of the two.
 fn check(run: &Run, sigmas: &[f32], first: &[f32], second: &[f32], k: u32) -> Result<(), Refusal>
     ensures { number_of result ≡ band_number 3 (record {
       run = run.now;
@@ -28,6 +29,7 @@ fn check(run: &Run, sigmas: &[f32], first: &[f32], second: &[f32], k: u32) -> Re
 }
 
 // Runs the next pass over rows `from` up to `to` of the result region. Neither filter refuses arguments that fit.
+// Form: the three slices go to `epf_pass` as its parameters; the tiles of that pass take them too, but no run.
 fn pass_rows(run: &Run, sigmas: &[f32], src: &[f32], dst: &mut [f32], from: u32, to: u32)
     requires { RowsFit run.now (length sigmas.now) (length src.now) (length dst.old) from to }
     ensures { dst.new
@@ -46,8 +48,8 @@ fn pass_rows(run: &Run, sigmas: &[f32], src: &[f32], dst: &mut [f32], from: u32,
     }
 }
 
-// Runs the next pass over the rows of band k. Each advance exchanges the sets: even passes read the first, odd passes
-// read the second.
+// Runs the next pass over the rows of band k.
+// Form: here and in `band` the sets and the sigmas are lent apart, as C hands them; a struct of them would be lent again for each call.
 fn filter_band(run: &Run, sigmas: &[f32], first: &mut [f32], second: &mut [f32], k: u32)
     requires { band_number 3 (record {
       run = run.now;
@@ -70,7 +72,7 @@ fn filter_band(run: &Run, sigmas: &[f32], first: &mut [f32], second: &mut [f32],
     let height = run.setup.band_height;
     let from = k * height;
     let to = (from + height).min(run.setup.row_count());
-    if run.pass % 2 == 0 {
+    if run.reads_first() {
         pass_rows(run, sigmas, first, second, from, to);
         return;
     }

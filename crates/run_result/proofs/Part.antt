@@ -21,7 +21,7 @@ use Rattle.planes.specs.Band.{result_width, result_height, inner}
 use Rattle.run_setup.specs.declared.Setup.{Setup}
 use Rattle.run_setup.specs.Setup.{full_planes, layout, set_length, result_length}
 use Rattle.run_setup.specs.SetupFits.{SetupFits}
-use Rattle.run_setup.proofs.Laws.{placed-accepted, setup-layout}
+use Rattle.run_setup.proofs.Laws.{setup-layout}
 use Rattle.run_outcomes.specs.Result.{result_of}
 use Rattle.run_result.specs.Part.{part_of, rows_of}
 

@@ -1,6 +1,6 @@
 -- What holds of the arguments of an accepted result call, and the outcomes of refused and accepted calls. Assumes nothing.
 use mathlib.Core.Path.{◌≡◌}
-use mathlib.Core.Bool.{◌&&◌}
+use mathlib.Core.Bool.{true, false, ◌&&◌}
 use mathlib.Core.List.{List}
 use Prim.Native.Nat.{ℕ, ◌%◌}
 use borrow.Author.Tests.{ne_eqb}
@@ -63,12 +63,12 @@ module _ (n : ℕ) (r : Run) (first second out : List Float) where
       slice = eqb→eq _ _ slice;
     }
 
-    pub from_first : r.pass % 2 ≡ 0 → (c : List Float) → c ≡ result_of n (layout r.setup) first
+    pub from_first : eqb (r.pass % 2) 0 ≡ true → (c : List Float) → c ≡ result_of n (layout r.setup) first
         → ◌≡◌ {A = ResultOutcome} (record { number = 0; out = c }) (result_outcome n r first second out)
     unfolding result_outcome reads_first
     from_first p c h = rw (z, p, h)
 
-    pub from_second : (r.pass % 2 ≡ 0 → ⊥) → (c : List Float) → c ≡ result_of n (layout r.setup) second
+    pub from_second : eqb (r.pass % 2) 0 ≡ false → (c : List Float) → c ≡ result_of n (layout r.setup) second
         → ◌≡◌ {A = ResultOutcome} (record { number = 0; out = c }) (result_outcome n r first second out)
     unfolding result_outcome reads_first
-    from_second p c h = rw (z, ne_eqb (r.pass % 2) 0 p, h)
+    from_second p c h = rw (z, p, h)

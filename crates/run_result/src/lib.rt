@@ -14,13 +14,14 @@ ghost use Rattle.run_result.specs.Part.{part_of, rows_of};
 
 use planes::{Layout, PLANES, copy_run};
 use planes_layout::layout_of;
-use refusals::{Refusal, flag_set};
+use refusals::Refusal;
 use run_outcomes::{check_sets, check_slice};
 use run_record::Run;
 use run_setup::Setup;
 
 // Copies the filter region's rows of one plane. In `src` the image row of the first one starts at index `from`; in
 // `out` they start at index `at`.
+// Form: `rows_fill`, which says what is written, counts from the start of a set; a plane's part of a slice would need laws that join the parts.
 fn copy_rows(src: &[f32], from: usize, out: &mut [f32], at: usize, l: Layout)
     requires { LayoutFits l × (from + l.height * l.image.width ≤ length src.now)
         × (at + l.height * l.width ≤ length out.old) }
@@ -33,15 +34,16 @@ fn copy_rows(src: &[f32], from: usize, out: &mut [f32], at: usize, l: Layout)
     }
 }
 
-// Copies the filter region of n planes.
-fn copy_planes(src: &[f32], out: &mut [f32], l: Layout, n: usize)
+// Copies the filter region of each plane.
+// Form: here and in `copy_rows` that a layout fits is asked; a struct with this fact would be made for these two private functions alone.
+fn copy_planes(src: &[f32], out: &mut [f32], l: Layout)
     requires layout_fits { LayoutFits l }
-    requires n_bound { (n ≤ 3) × (length src.now ≡ n * l.image.height * l.image.width)
-        × (length out.old ≡ n * l.height * l.width) }
+    requires lengths { (length src.now ≡ 3 * l.image.height * l.image.width)
+        × (length out.old ≡ 3 * l.height * l.width) }
     ensures { out.new ≡ planes_fill l.width l.height
-        0 l.width 0 l.height (inner l src.now) out.old n }
+        0 l.width 0 l.height (inner l src.now) out.old 3 }
 {
-    for c in 0..n {
+    for c in 0..PLANES {
         let from = (c * l.image.height + l.top) * l.image.width;
         let at = c * l.height * l.width;
         copy_rows(src, from, out, at, l);
@@ -69,13 +71,13 @@ fn copy_result(s: &Setup, src: &[f32], out: &mut [f32])
     requires { SetupFits s.now × (length src.now ≡ set_length 3 s.now) × (length out.old ≡ result_length 3 s.now) }
     ensures { out.new ≡ result_of 3 (layout s.now) src.now }
 {
-    let full = flag_set(s.preserve_outside);
-    let l = layout_of(s.image, s.filter, full).unwrap();
+    let l = layout_of(s.image, s.filter, s.full_planes()).unwrap();
     let part = part_of(l);
-    copy_planes(src, out, part, PLANES)
+    copy_planes(src, out, part)
 }
 
 // Refuses a result call: for the sets, the slice, then the record.
+// Form: here and in `result` record and sets are what C hands; a band takes them too, but with sigmas, so a struct would serve one of the two.
 fn check(run: &Run, first: &[f32], second: &[f32], out: &[f32]) -> Result<(), Refusal>
     ensures { number_of result ≡ result_number 3 run.now first.now second.now out.now }
 {
@@ -91,7 +93,7 @@ pub fn result(run: &Run, first: &[f32], second: &[f32], out: &mut [f32]) -> Resu
         (result_outcome 3 run.now first.now second.now out.old) }
 {
     check(run, first, second, out)?;
-    if run.pass % 2 == 0 {
+    if run.reads_first() {
         copy_result(&run.setup, first, out);
         return Ok(());
     }

@@ -4,7 +4,6 @@ use native.Mathlib.Nat.{suc-mul, mul-le-mul, mul-le-mul_right, add-mul}
 use native.Mathlib.Omega.{arith}
 use Rattle.planes.specs.declared.Layout.{Layout}
 use Rattle.planes.specs.Rect.{planes_fill}
-use Rattle.planes.proofs.Rect.{planes-end}
 use Rattle.planes.specs.Fits.{LayoutFits}
 use Rattle.planes.proofs.Room.{PlaneRoom, plane-room}
 use Rattle.run_result.proofs.Part.{plane-next}
@@ -14,21 +13,21 @@ pub loop-c-init : goal.loop-c-init
 unfolding planes_fill
 loop-c-init c = (refl, refl)
 
-record Room (c n : ℕ) (l : Layout) : Type 0 where
-  pub read : PlaneRoom l n c
+record Room (c : ℕ) (l : Layout) : Type 0 where
+  pub read : PlaneRoom l 3 c
   pub written : c * l.height ≤ 49152
   pub at : c * l.height * l.width ≤ 49152 * 16384
-  pub stored : c * l.height * l.width + l.height * l.width ≤ n * l.height * l.width
+  pub stored : c * l.height * l.width + l.height * l.width ≤ 3 * l.height * l.width
 
-room : (c n : ℕ) (l : Layout) → c < n → n ≤ 3 → LayoutFits l → Room c n l
-room c n l p q f =
+room : (c : ℕ) (l : Layout) → c < 3 → LayoutFits l → Room c l
+room c l p f =
     let few : c ≤ 3 = omega arith in
     let h : l.height ≤ 16384 = omega (arith, f.height-le, f.down) in
     let w : l.width ≤ 16384 = omega (arith, f.width-le, f.across) in
     let g : c * l.height ≤ 3 * 16384 = mul-le-mul few h in
-    let k : c * l.height + l.height ≤ n * l.height = omega (arith, suc-mul c l.height, mul-le-mul_right l.height p) in
+    let k : c * l.height + l.height ≤ 3 * l.height = omega (arith, suc-mul c l.height, mul-le-mul_right l.height p) in
     record {
-      read = plane-room l n c f q p;
+      read = plane-room l 3 c f (omega arith) p;
       written = omega arith;
       at = mul-le-mul g w;
       stored = omega (arith, add-mul (c * l.height) l.height l.width, mul-le-mul_right l.width k);
@@ -36,11 +35,8 @@ room c n l p q f =
 
 pub copy_rows-requires : goal.copy_rows-requires
 copy_rows-requires c =
-    let here : Room c.loop-c.c c.args.n c.args.l = room c.loop-c.c c.args.n c.args.l c.loop-c-test.true c.requires.n_bound.0 c.requires.layout_fits in
+    let here : Room c.loop-c.c c.args.l = room c.loop-c.c c.args.l c.loop-c-test.true c.requires.layout_fits in
     (c.requires.layout_fits, omega (arith, here), omega (arith, here))
-
-pub returns : goal.returns
-returns c = planes-end _ _ _ _ _ _ _ _ _ _ _ c.loop-c.invariant.1 (omega arith) c.loop-c-test.false
 
 pub loop-c-preserved : goal.loop-c-preserved
 loop-c-preserved c =

@@ -3,7 +3,6 @@ use Prim.Native.Nat.{◌+◌, ◌*◌, ◌≤◌}
 use native.Mathlib.Omega.{arith}
 use Rattle.planes.proofs.Copy.{copied-run}
 use Rattle.planes.specs.Rect.{rows_fill}
-use Rattle.planes.proofs.Rect.{rows_end}
 use Rattle.planes.proofs.Room.{row_room}
 use Rattle.run_result.proofs.Part.{row_next}
 use Rattle.run_result.proofs.copy_rows.Goals as goal
@@ -21,6 +20,3 @@ loop-y-preserved c =
       c.copy_run.auto.dst ∙ inv.0,
       row_next l _ _ _ _ _ _ _ _ _ inv.1 refl refl (c.copy_run.ensures ∙ copied-run _ _ _ _ _ (omega arith) (omega arith)),
     )
-
-pub returns : goal.returns
-returns c = rows_end _ _ _ _ _ _ _ _ c.loop-y.invariant.1 (omega arith) c.loop-y-test.false

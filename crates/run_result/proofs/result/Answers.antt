@@ -15,8 +15,8 @@ copy_result-requires c =
     let given : Lent 3 c.args.run.now.setup c.args.first.now c.args.second.now c.args.out.now = lent 3 c.args.run.now _ _ _ (sym c.in_ok-check.ensures) in
     (given.setup, given.one, given.slice)
 
-pub returns-then-run-eq0 : goal.returns-then-run-eq0
-returns-then-run-eq0 c = from_first 3 c.args.run.now _ _ _ (sym c.in_ok-check.ensures) c.if-run-eq0.true _ c.copy_result.ensures
+pub returns-then-reads_first : goal.returns-then-reads_first
+returns-then-reads_first c = from_first 3 c.args.run.now _ _ _ (sym c.in_ok-check.ensures) (sym c.reads_first.ensures ∙ c.if-reads_first.true) _ c.copy_result.ensures
 
 pub copy_result-requires-2 : goal.copy_result-requires-2
 copy_result-requires-2 c =
@@ -24,4 +24,4 @@ copy_result-requires-2 c =
     (given.setup, given.two, given.slice)
 
 pub returns : goal.returns
-returns c = from_second 3 c.args.run.now _ _ _ (sym c.in_ok-check.ensures) c.if-run-eq0.false _ c.copy_result-2.ensures
+returns c = from_second 3 c.args.run.now _ _ _ (sym c.in_ok-check.ensures) (sym c.reads_first.ensures ∙ c.if-reads_first.false) _ c.copy_result-2.ensures
