@@ -2,16 +2,12 @@
 -- nothing.
 use mathlib.Core.Path.{◌≡◌, refl, sym, ap, ◌∙◌}
 use mathlib.Core.Bool.{Bool, true, false, true≢false, cond, not, ◌&&◌}
-use mathlib.Core.List.{[]}
 use Prim.Native.Nat.{ℕ, ◌%◌}
 use borrow.Author.Tests.{eqb-true, eqb-false, eq-eqb, ne_eqb}
 use lib.Dec.{eqb, eqb→eq}
 use lib.ListN.{length}
-use Rattle.refusals.specs.Numbers.{out_of_range}
-use Rattle.refusals.specs.Checks.{always, first_of}
 use Rattle.refusals.proofs.Tables.{met}
-use Rattle.refusals.proofs.Rows.{here, below, row-passed, none, drop, same_number, or_else}
-use Rattle.run_passes.specs.Plan.{gabor_fits, iterations_fit, margin_checks}
+use Rattle.refusals.proofs.Rows.{here, below, row-passed, or_else}
 use Rattle.run_outcomes.specs.Start.{start_number, start_outcome}
 use Rattle.run_record.specs.declared.Run.{Run}
 use Rattle.run_record.specs.Record.{pass_count}
@@ -19,9 +15,9 @@ use Rattle.run_outcomes.specs.Band.{reads_first}
 use Rattle.run_outcomes.proofs.Laws.{start-number, start-refused}
 use Rattle.run_calls.specs.Calls.{StartAccepted, start_state}
 use Rattle.loupe_region.specs.Fits.{WantedFits}
-use Rattle.loupe_region.specs.Outcome.{regions_in_limits, wanted_inside, whole_on_blocks, widened_checks, widened_region}
+use Rattle.loupe_region.specs.Outcome.{regions_in_limits, wanted_inside, widened_region}
 use Rattle.loupe.specs.Outcome.{LoupeHanded, LoupeOutcome, run_setup_of, as_run, final_state, wanted_length, wanted_samples, slice_length, loupe_number, loupe_accepted, loupe_refused, loupe_outcome}
-use Rattle.loupe.specs.Pieces.{unless_margin, early_checks, passed_outcome}
+use Rattle.loupe.specs.Pieces.{early_checks, passed_outcome}
 use Rattle.loupe.specs.Whole.{WholeEqual, LoupeTheorem}
 use Rattle.loupe.proofs.Numbers.{early, parted}
 use Rattle.loupe.proofs.Early.{wanted-passed}
@@ -70,15 +66,6 @@ module _ (n : ℕ) (h : LoupeHanded) where
   accepted-outcome e f =
       let t = taken_of e in
       rw (eq-eqb (loupe_number n h) 0 (accepted-number e f), ← read-last t.wanted f, copied-wanted n h t.wanted f t.room)
-
-  -- then the widened rectangle is known
-  pub place-known : early n h ≡ 0 → first_of (widened_checks h.setup) ≡ 0
-  unfolding early_checks widened_checks margin_checks
-  place-known e =
-      let s = h.setup in
-      let passed = row-passed (early_checks n s h.frame h.table h.grids (length h.sigmas) (length h.out)) tt e in
-      let m = met-unless (gabor_fits s.settings) (iterations_fit s.settings) (passed (unless_margin s (always out_of_range true)) (search (here, below) depth 20)) in
-      same_number (widened_checks s) [] (drop (passed (regions_in_limits s) here) (drop (passed (wanted_inside s) (search (here, below) depth 20)) (drop (passed (whole_on_blocks s) (search (here, below) depth 20)) (drop m.0 (drop m.1 none)))))
 
   -- ---- a refused one
 

@@ -2,7 +2,7 @@
 // widened rectangle gives the samples; its calls are used by their contracts alone.
 #![tactic(auto)]
 
-ghost use Rattle.std.specs.Prelude.{◌≡◌, ◌*◌, T, eqb};
+ghost use Rattle.std.specs.Prelude.{◌≡◌, ◌*◌, T, eqb, length};
 ghost use Rattle.refusals.specs.Checks.{first_of};
 ghost use Rattle.refusals.specs.Refusals.{number, number_of, IsOutcome};
 ghost use Rattle.region.specs.Measures.{picture_fits};
@@ -44,12 +44,15 @@ fn one_block() -> Blocks
 }
 
 // Refuses a frame, its group table and its grids alone, with 4, 7 or 9.
+// Form: here and below frame, table and grids are parameters apart, as C hands them and `sigma_groups::check` takes them; a struct would
+// only be made and taken apart here.
 fn check_groups(frame: Frame, table: &[u32], grids: &[f32]) -> Result<(), Refusal>
     ensures { number_of result ≡ first_of (groups_checks frame table.now grids.now) }
 {
     check(NO, frame, one_block(), table, grids, 0)
 }
 
+// Form: as `set_length` of `run_outcomes`, which asks for a size in range, and so is not public.
 fn wanted_length(wanted: Region) -> usize
     requires { T (picture_fits wanted) }
     ensures { result ≡ 3 * wanted.height * wanted.width }
@@ -68,13 +71,13 @@ fn is_refused<T: Copy>(answer: Result<T, Refusal>, refusal: Refusal) -> bool
 }
 
 // The refusal of a call whose settings leave the margin unknown: 7 or 9. `groups` is the answer of `check_groups`, not 4.
-fn settings_refusal(groups: Result<(), Refusal>, iters: u32, sigmas: usize) -> Refusal
-    ensures { number result ≡ settings_number (number_of groups) iters sigmas }
+fn settings_refusal(groups: Result<(), Refusal>, settings: Settings, sigmas: &[f32]) -> Refusal
+    ensures { number result ≡ settings_number (number_of groups) settings.epf.iters (length sigmas.now) }
 {
     if is_refused(groups, Refusal::WrongLength) {
         return Refusal::WrongLength;
     }
-    if iters == 0 && sigmas != 0 {
+    if !settings.epf_on() && !sigmas.is_empty() {
         return Refusal::WrongLength;
     }
     Refusal::OutOfRange
@@ -87,11 +90,12 @@ fn checked_place(
     frame: Frame,
     table: &[u32],
     grids: &[f32],
-    sigmas: usize,
-    out: usize,
+    sigmas: &[f32],
+    out: &[f32],
 ) -> Result<Region, Refusal>
     ensures { IsOutcome result
-        (first_of (early_checks 3 s frame table.now grids.now sigmas out)) (widened_region s) }
+        (first_of (early_checks 3 s frame table.now grids.now (length sigmas.now) (length out.now)))
+        (widened_region s) }
 {
     let place = loupe_widened(s);
     if is_refused(place, Refusal::OutOfLimits) {
@@ -107,13 +111,13 @@ fn checked_place(
     if is_refused(place, Refusal::NotOnBlocks) {
         return place;
     }
-    if out != wanted_length(s.wanted) {
+    if out.len() != wanted_length(s.wanted) {
         return Err(Refusal::WrongLength);
     }
     if place.is_ok() {
         return place;
     }
-    Err(settings_refusal(groups, s.settings.epf.iters, sigmas))
+    Err(settings_refusal(groups, s.settings, sigmas))
 }
 
 // A run over the widened rectangle: image and filter region alike, and one band.
@@ -130,6 +134,7 @@ fn run_setup(widened: Region, settings: Settings) -> Setup
 }
 
 // A pass: its only band, and an advance.
+// Form: here and below the sets and the sigmas are lent apart, as C hands them; a struct of them would be lent again for each call.
 fn one_pass(run: &mut Run, sigmas: &[f32], first: &mut [f32], second: &mut [f32])
     ensures { ◌≡◌ {A = State} (record {
       run = run.new;
@@ -180,6 +185,7 @@ fn copy_wanted(widened: Region, wanted: Region, set: &[f32], out: &mut [f32])
 }
 
 // All passes, and the copy from the set that a next pass would read.
+// Form: this holds for any record, so `Run::reads_first` would answer for the passes that were accepted, and not for all of them.
 fn finish(
     run: Run,
     passes: u32,
@@ -248,7 +254,7 @@ pub fn loupe_smooth(
       out = out.old;
     }) (number_of result) out.new }
 {
-    let widened = checked_place(s, frame, table, grids, sigmas.len(), out.len())?;
+    let widened = checked_place(s, frame, table, grids, sigmas, out)?;
     let setup = run_setup(widened, s.settings);
     let run = start(setup, frame, table, grids, first, second, sigmas)?;
     let passes = s.settings.pass_count();

@@ -1,17 +1,11 @@
 -- The number of a call of `loupe_widened`, by the first check that applies. Assumes nothing.
-use mathlib.Core.Path.{◌≡◌, sym, ap, ◌∙◌}
+use mathlib.Core.Path.{◌≡◌}
 use mathlib.Core.Bool.{true, false}
-use Prim.Native.Nat.{ℕ}
-use borrow.Author.Tests.{ne_eqb}
 use Rattle.refusals.specs.Checks.{first_of}
 use Rattle.region.specs.Measures.{picture_fits, rectangle_fits}
-use Rattle.region.specs.Regions.{zero_region}
-use Rattle.region_arithmetic.specs.declared.RegionAnswer.{RegionAnswer}
-use Rattle.run_passes.specs.declared.Settings.{Settings}
-use Rattle.run_passes.specs.declared.MarginAnswer.{MarginAnswer}
-use Rattle.run_passes.specs.Plan.{margin, margin_number, margin_outcome}
+use Rattle.run_passes.specs.Plan.{margin_number}
 use Rattle.loupe_region.specs.declared.LoupeSetup.{LoupeSetup}
-use Rattle.loupe_region.specs.Outcome.{bad_wanted, off_blocks, widened_checks, widened_region, widened_outcome}
+use Rattle.loupe_region.specs.Outcome.{bad_wanted, off_blocks, widened_checks}
 
 module _ (s : LoupeSetup) where
   pub whole-outside : picture_fits s.whole ≡ false → first_of (widened_checks s) ≡ 4

@@ -32,7 +32,7 @@ use Rattle.run_passes.specs.Plan.{gabor_fits, iterations_fit, margin_checks}
 use Rattle.loupe_region.specs.declared.LoupeSetup.{LoupeSetup}
 use Rattle.loupe_region.specs.Widened.{widened}
 use Rattle.loupe_region.specs.Fits.{WantedFits}
-use Rattle.loupe_region.specs.Outcome.{bad_wanted, off_blocks, regions_in_limits, wanted_inside, whole_on_blocks, widened_checks}
+use Rattle.loupe_region.specs.Outcome.{bad_wanted, widened_checks}
 use Rattle.loupe_region.proofs.Axis.{start-before, Clipped, clipped-facts, clipped-on-block}
 
 -- ---- the widened rectangle
@@ -181,20 +181,6 @@ wanted-of whole wanted p q e =
     record { whole-fits = p; wanted-fits = rectangle-picture wanted q n.0; wanted-inside = met (inside whole wanted) n.1 }
 
 module _ (s : LoupeSetup) (e : first_of (widened_checks s) ≡ 0) where
-  pub wanted-facts : WantedFits s.whole s.wanted
-  unfolding widened_checks margin_checks
-  wanted-facts =
-      let passed = row-passed (widened_checks s) tt e in
-      let both = met (picture_fits s.whole && rectangle_fits s.wanted) (passed (regions_in_limits s) here) in
-      wanted-of s.whole s.wanted
-      (and_l (picture_fits s.whole) (rectangle_fits s.wanted) both)
-      (and_r (picture_fits s.whole) (rectangle_fits s.wanted) both)
-      (passed (wanted_inside s) (search (here, below) depth 20))
-
-  pub accepted-blocks : off_blocks s ≡ false
-  unfolding widened_checks margin_checks
-  accepted-blocks = row-passed (widened_checks s) tt e (whole_on_blocks s) (search (here, below) depth 20)
-
   pub accepted-gabor : T (gabor_fits s.settings)
   unfolding widened_checks margin_checks
   accepted-gabor = met (gabor_fits s.settings) (row-passed (widened_checks s) tt e (always out_of_range (not (gabor_fits s.settings))) (search (here, below) depth 20))

@@ -16,7 +16,7 @@ use region_axis::check_span;
 use region_interval::overlap::meet;
 use region_interval::{Axis, Span};
 use region_placement::on_blocks;
-use run_passes::{MAX_ITERS, Settings};
+use run_passes::Settings;
 
 // What the loupe shows: the filter region of a whole picture, the wanted rectangle of it, and the settings of the
 // filters.
@@ -54,20 +54,14 @@ impl LoupeSetup {
     fn bad_wanted(self) -> bool
         ensures { result ≡ bad_wanted self.whole self.wanted }
     {
-        if self.wanted.width == 0 || self.wanted.height == 0 {
-            return true;
-        }
-        !self.whole.surrounds(self.wanted)
+        self.wanted.width == 0 || self.wanted.height == 0 || !self.whole.surrounds(self.wanted)
     }
 
     // Whether the EPF runs and the whole does not start at multiples of 8.
     fn off_blocks(self) -> bool
         ensures { result ≡ off_blocks self }
     {
-        if MAX_ITERS < self.settings.epf.iters {
-            return false;
-        }
-        self.settings.epf.iters != 0 && !on_blocks(self.whole)
+        self.settings.iterations_fit() && self.settings.epf_on() && !on_blocks(self.whole)
     }
 }
 

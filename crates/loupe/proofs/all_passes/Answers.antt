@@ -1,7 +1,5 @@
-use mathlib.Core.Path.{◌≡◌, refl, ap, ◌∙◌}
-use Prim.Native.Nat.{◌-◌}
+use mathlib.Core.Path.{refl, ap, ◌∙◌}
 use native.Mathlib.Numerals.{add-one}
-use native.Mathlib.Omega.{arith}
 use Rattle.loupe.specs.Outcome.{after_pass, after_passes}
 use Rattle.loupe.proofs.all_passes.Goals as goal
 
@@ -15,9 +13,3 @@ loop-k-preserved c =
     let i = c.loop-k.invariant in
     let o = c.one_pass in
     (o.auto.first ∙ i.0, o.auto.second ∙ i.1, rw add-one (o.ensures ∙ ap (after_pass 3) i.2))
-
-pub returns : goal.returns
-returns c =
-    let i = c.loop-k.invariant in
-    let e : c.loop-k._k ≡ c.args.passes = omega arith in
-    rw (← e) i.2

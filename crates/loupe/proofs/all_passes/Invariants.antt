@@ -1,6 +1,5 @@
 -- `loupe::all_passes` meets its contract. The loop's invariant: the state is that after k passes, and both sets keep their lengths. Assumes nothing.
 use mathlib.Core.Path.{◌≡◌}
-use Prim.Native.Nat.{◌≤◌, ◌-◌}
 use lib.ListN.{length}
 use Rattle.run_outcomes.specs.Band.{State}
 use Rattle.loupe.specs.Outcome.{after_passes}

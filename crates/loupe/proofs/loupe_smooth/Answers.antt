@@ -6,11 +6,24 @@ use Rattle.refusals.proofs.Outcomes.{number-nonzero}
 use Rattle.loupe.specs.Outcome.{LoupeHanded}
 use Rattle.loupe.proofs.Answers.{answered-early, answered-start, answered-accepted}
 use Rattle.loupe.proofs.loupe_smooth.Goals as goal
+use Rattle.loupe.proofs.loupe_smooth.Goals.{Start}
+
+abbrev handed_at : Start → LoupeHanded
+handed_at c = record {
+  setup = c.args.s;
+  frame = c.args.frame;
+  table = c.args.table.now;
+  grids = c.args.grids.now;
+  first = c.args.first.now;
+  second = c.args.second.now;
+  sigmas = c.args.sigmas.now;
+  out = c.args.out.now;
+}
 
 -- refused before the start
 pub returns-in_err-widened : goal.returns-in_err-widened
 returns-in_err-widened c =
-    let handed : LoupeHanded = record { setup = c.args.s; frame = c.args.frame; table = c.args.table.now; grids = c.args.grids.now; first = c.args.first.now; second = c.args.second.now; sigmas = c.args.sigmas.now; out = c.args.out.now } in
+    let handed = handed_at (goal.at.returns-in_err-widened c).Start in
     let e = c.in_err-widened.field-0.0 in
     let r : number_of c.from_residual.result ≡ number e = search rules in
     let both = answered-early 3 handed (number e) c.in_err-widened.ensures.0 (number-nonzero e) in
@@ -19,7 +32,7 @@ returns-in_err-widened c =
 -- refused by the start
 pub returns-in_err-run : goal.returns-in_err-run
 returns-in_err-run c =
-    let handed : LoupeHanded = record { setup = c.args.s; frame = c.args.frame; table = c.args.table.now; grids = c.args.grids.now; first = c.args.first.now; second = c.args.second.now; sigmas = c.args.sigmas.now; out = c.args.out.now } in
+    let handed = handed_at (goal.at.returns-in_err-run c).Start in
     let e = c.in_err-run.field-0.0 in
     let r : number_of c.from_residual-in_err-run.result ≡ number e = search rules in
     let both = answered-start 3 handed (sym c.in_ok-widened.ensures.0) _ c.in_ok-widened.ensures.1 _ c.run_setup-setup.ensures _ c.in_err-run.ensures (number-nonzero e) in
@@ -27,6 +40,6 @@ returns-in_err-run c =
 
 pub returns : goal.returns
 returns c =
-    let handed : LoupeHanded = record { setup = c.args.s; frame = c.args.frame; table = c.args.table.now; grids = c.args.grids.now; first = c.args.first.now; second = c.args.second.now; sigmas = c.args.sigmas.now; out = c.args.out.now } in
+    let handed = handed_at (goal.at.returns c).Start in
     let both = answered-accepted 3 handed (sym c.in_ok-widened.ensures.0) _ c.in_ok-widened.ensures.1 _ c.run_setup-setup.ensures _ c.in_ok-run.ensures refl _ c.pass_count-passes.ensures _ c.finish.ensures in
     record { fact = both.0; whole_equal = both.1 }

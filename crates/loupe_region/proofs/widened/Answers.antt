@@ -4,7 +4,7 @@ use mir.Facts.{to_z-of_z}
 use Rattle.std.specs.Prelude.{Option, Some, IsSome}
 use Rattle.region_interval.specs.declared.Axis.{Axis}
 use Rattle.region_interval.specs.declared.Span.{Span}
-use Rattle.region_interval.specs.Interval.{extent, reaching}
+use Rattle.region_interval.specs.Interval.{reaching}
 use Rattle.region_interval.specs.Overlap.{meet}
 use Rattle.region_axis.specs.Measures.{axis_of}
 use Rattle.region_axis.proofs.Laws.{axis_some, axis_start}
