@@ -1,4 +1,5 @@
 // The C boundary of frames and block sigmas: each function passes its arguments on to one function of the library.
+// Form: C's interface: a refusal is a number, with zeros beside it in an answer, and a frame, its table and its grids are parameters apart.
 #![tactic(auto)]
 
 ghost use Rattle.std.specs.Prelude.{◌≡◌};

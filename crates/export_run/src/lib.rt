@@ -1,4 +1,6 @@
 // The C boundary of runs: each function passes its arguments on to one function of the library.
+// Form: C's interface: a refusal is a number, with zeros beside it in an answer, and a frame, its table and its grids are parameters apart,
+// as the sigmas and both sets are.
 #![tactic(auto)]
 
 ghost use Rattle.std.specs.Prelude.{◌≡◌};

@@ -209,7 +209,7 @@ impl From<Result<GroupSizes, Refusal>> for FrameAnswer {
     }
 }
 
-// Form: as above; two zeros by name are no longer than a `Default` for them.
+// Form: as above; two zeros by name are no longer than a `Default` for them. `BlockRow`, with three numbers too, is a row of blocks.
 impl From<Result<Split, Refusal>> for SplitAnswer {
     ghost from_gives = { λ r a. a ≡ split_answer r };
 

@@ -59,7 +59,7 @@ pub enum Pass {
     Edge(EpfStep),
 }
 
-pub const MAX_ITERS: u32 = 3;
+const MAX_ITERS: u32 = 3;
 
 // Three iterations have all steps; fewer start with step 1.
 const ALL_STEPS: u32 = 3;
