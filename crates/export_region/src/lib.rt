@@ -1,4 +1,6 @@
 // The C boundary of regions: each function passes its arguments on to one function of the library.
+// Form: the C interface has a number, with zeros beside a refusal, and one impl makes each of its structs, since an impl that
+// a macro writes is refused.
 #![tactic(auto)]
 
 ghost use Rattle.std.specs.Prelude.{◌≡◌, false, pos};

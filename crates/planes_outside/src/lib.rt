@@ -61,6 +61,7 @@ fn copy_planes_outside(src: &[f32], dst: &mut [f32], l: Layout, n: usize, from: 
 }
 
 // Whether the filter region is the whole image region.
+// Form: a `Layout` has no `Size` of the filter region to compare with that of the image.
 fn fills_image(l: Layout) -> bool
     ensures { result ≡ (eqb l.width l.image.width && eqb l.height l.image.height) }
 {
