@@ -6,7 +6,7 @@ use native.Mathlib.Omega.{arith}
 use borrow.Author.Tests.{eq-eqb, ne_eqb}
 use lib.ListN.{length}
 use borrow.Author.Rules.{rules}
-use Rattle.refusals.specs.Refusals.{number, number_of}
+use Rattle.refusals.specs.Refusals.{number}
 use Rattle.refusals.proofs.Outcomes.{number-nonzero}
 use Rattle.refusals.specs.Numbers.{accepted, wrong_end}
 use Rattle.refusals.specs.Checks.{first_of}
@@ -62,8 +62,7 @@ returns-in_err-check_entry c =
     let a = c.args in
     let e = c.in_err-check_entry.field-0.0 in
     let n : number e ≡ entry_number a.file.now c.loop-i.i = c.in_err-check_entry.ensures in
-    let r : number_of c.from_residual.result ≡ number e = search rules in
-    r ∙ n ∙ sym (c.loop-i.invariant.number_is ∙ stopped a.file.now a.count c.loop-i.i c.loop-i-test.true (λ z. number-nonzero e (n ∙ z)))
+    search rules ∙ n ∙ sym (c.loop-i.invariant.number_is ∙ stopped a.file.now a.count c.loop-i.i c.loop-i-test.true (λ z. number-nonzero e (n ∙ z)))
 
 pub loop-i-preserved : goal.loop-i-preserved
 loop-i-preserved c =

@@ -3,7 +3,7 @@ use mathlib.Core.Path.{◌≡◌, sym, ◌∙◌}
 use Prim.Native.Nat.{◌≤◌, ◌<◌}
 use borrow.Author.Rules.{rules}
 use Rattle.refusals.specs.Checks.{first_of}
-use Rattle.refusals.specs.Refusals.{number, number_of}
+use Rattle.refusals.specs.Refusals.{number}
 use Rattle.refusals.proofs.Outcomes.{number-nonzero}
 use Rattle.cut_file.specs.Read.{count_in, file_checks}
 use Rattle.cut_read.proofs.Numbers.{file-refused, rectangle-missing, rectangle-there}
@@ -13,8 +13,7 @@ pub returns-in_err-count : goal.returns-in_err-count
 returns-in_err-count c =
     let e = c.in_err-count.field-0.0 in
     let n : number e ≡ first_of (file_checks c.args.file.now) = c.in_err-count.ensures.0 in
-    let r : number_of c.from_residual.result ≡ number e = search rules in
-    (r ∙ n ∙ sym (file-refused _ _ (λ z. number-nonzero e (n ∙ z))), search rules)
+    (search rules ∙ n ∙ sym (file-refused _ _ (λ z. number-nonzero e (n ∙ z))), search rules)
 
 pub returns-then-count-k : goal.returns-then-count-k
 returns-then-count-k c =

@@ -8,7 +8,7 @@ use borrow.Author.Rules.{rules}
 use lib.ListN.{length}
 use Rattle.refusals.specs.Numbers.{wrong_length}
 use Rattle.refusals.specs.Checks.{first_of}
-use Rattle.refusals.specs.Refusals.{number, number_of}
+use Rattle.refusals.specs.Refusals.{number}
 use Rattle.refusals.proofs.Tables.{is_true}
 use Rattle.refusals.proofs.Outcomes.{number-nonzero}
 use Rattle.region.specs.declared.Region.{Region}
@@ -61,8 +61,7 @@ returns-in_err-region c =
     let e = c.in_err-region.field-0.0 in
     let n : number e ≡ first_of (region_checks c.args.file.now c.args.k) = c.in_err-region.ensures.0 in
     let m = region-refused _ _ (length c.args.samples.now) (λ z. number-nonzero e (n ∙ z)) ∙ sym n in
-    let r : number_of c.from_residual.result ≡ number e = search rules in
-    record { answer = (r ∙ sym m, search rules); stored = kept _ _ (number e) _ m (number-nonzero e) }
+    record { answer = (search rules ∙ sym m, search rules); stored = kept _ _ (number e) _ m (number-nonzero e) }
 
 pub returns-then-samples-sample_count : goal.returns-then-samples-sample_count
 returns-then-samples-sample_count c =
