@@ -33,6 +33,7 @@ pub enum Refusal {
 // The number of a call that is not refused.
 pub const ACCEPTED: u32 = 0;
 
+// The number of a refusal.
 // Form: the C interface answers numbers, and this is the step to them.
 impl From<Refusal> for u32 {
     ghost from_gives = { λ r n. n ≡ number r };
