@@ -139,7 +139,7 @@ impl Settings {
     }
 
     // Whether a pass is the Gabor-like filter.
-    // Form: a pass is a number in the record that C hands; `pass_at`, an enum, answers for all callers.
+    // Form: a pass is a number in the record that C hands; callers ask `pass_at`, whose answer is an enum.
     #[tactic(auto, unfolding(crate::specs::Plan::gabor_at))]
     fn gabor_at(&self, pass: u32) -> bool
         ensures { result ≡ gabor_at self.now pass }

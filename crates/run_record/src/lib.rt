@@ -80,7 +80,7 @@ impl Run {
     }
 
     // Whether the next pass reads the first set: each advance exchanges the sets.
-    // Form: an advance counts passes, and an enum for the two sets would be one more field of C's record.
+    // Form: C's record has the number of passes alone, and an enum of the two sets would be asked for its one case by both callers.
     pub fn reads_first(&self) -> bool
         ensures { result ≡ eqb (self.now.pass % 2) 0 }
     {
