@@ -43,6 +43,7 @@ pub struct GroupSizes {
 }
 
 // The sizes of a frame.
+// Form: C's answer, a number with zeros beside a refusal.
 #[repr(C)]
 #[derive(Clone, Copy)]
 pub struct FrameAnswer {
@@ -59,6 +60,7 @@ pub struct Split {
 }
 
 // The group of a column or row of blocks, and the cell in it.
+// Form: C's answer, a number with zeros beside a refusal; a `BlockRow` is a row of blocks.
 #[repr(C)]
 #[derive(Clone, Copy)]
 pub struct SplitAnswer {

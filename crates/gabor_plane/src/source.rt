@@ -15,8 +15,6 @@ use gabor_kernel::Kernel;
 // slice of the same length.
 // The methods take the index o where row y starts: where they computed it from y, the loops along a row of 7 columns
 // took 1.6 times as long.
-// Form: so `o` and its premise stand in three contracts; a struct of y and o would need the region in its ghost field. `dst`
-// is a parameter, since a struct that holds it as `&mut` is not `Copy` and would have each contract say what else stays.
 #[derive(Clone, Copy)]
 pub(crate) struct Source<'a> {
     pub samples: &'a [f32],
@@ -25,6 +23,8 @@ pub(crate) struct Source<'a> {
     ghost fits: { RegionFits region (length samples.now) },
 }
 
+// Form: `o` and its premise stand in three contracts, as a struct of y and o would need the region in its ghost field. `dst`
+// is a parameter, since a struct that holds it as `&mut` is not `Copy` and would have each contract say what else stays.
 impl Source<'_> {
     // Filters row y.
     fn filter_row(&self, dst: &mut [f32], y: usize, o: usize)

@@ -1,4 +1,4 @@
--- A reader of a header's bits: what a reading answers, and where it leaves the reader.
+-- A reader of a header's bits: what a reading answers, and where it leaves the reader (Specification 3.3, 5.3).
 use Rattle.std.specs.Prelude.{ℕ, List, ◌≡◌, Result, Ok, Err, OnErr}
 use Rattle.refusals.specs.Refusals.{number}
 use Rattle.refusals.specs.declared.Refusal.{Refusal}

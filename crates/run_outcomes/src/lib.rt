@@ -19,6 +19,7 @@ use sigma_groups::blocks::blocks_along;
 
 // The number and the record after the call. A refused band or advance returns the record that it was given, a refused
 // start returns zeros.
+// Form: C's answer, a number with a record of zeros beside a refusal.
 #[repr(C)]
 #[derive(Clone, Copy)]
 pub struct RunAnswer {
