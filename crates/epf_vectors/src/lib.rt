@@ -1,0 +1,26 @@
+// Four lanes at a time: what the edge-preserving filter computes with comparisons. The compiler joins no loop with a comparison of floats
+// to vector code, so vectors are written here; the contracts say what each lane is.
+#![tactic(auto)]
+
+ghost use Rattle.std.specs.Prelude.{◌≡◌};
+ghost use Rattle.epf_vectors.specs.Lanes.{lanes_apart, lanes_weighed};
+
+use std::simd::prelude::*;
+
+// The magnitudes of x - y, lane by lane, as `rounding::difference` has them.
+pub fn differences(x: f32x4, y: f32x4) -> f32x4
+    ensures { result ≡ lanes_apart x y }
+{
+    let d = x - y;
+    let e = y - x;
+    f32x4::splat(0.0) + d.simd_lt(e).select(e, d)
+}
+
+// The weights of four neighbours or lanes, from their distances and slopes, as `epf_step::weight` has them.
+pub fn weights(distances: f32x4, slopes: f32x4) -> f32x4
+    ensures { result ≡ lanes_weighed distances slopes }
+{
+    let x = f32x4::splat(1.0) + distances * slopes;
+    let zero = f32x4::splat(0.0);
+    zero.simd_lt(x).select(x, zero)
+}
