@@ -2,3 +2,4 @@ pub mod Fields
 pub mod Runs
 pub mod Seen
 pub mod Taps
+mod Vectors

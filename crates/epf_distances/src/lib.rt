@@ -16,6 +16,7 @@ ghost use Rattle.epf_distances.specs.Fields.{dist_at, fields_fill, distances_of,
 use epf_sizes::{CENTRE, FIELDS, STRIDE, TILE_ROWS, WINDOW_PLANE, WINDOWS};
 use planes::PLANES;
 use rounding::difference;
+use std::simd::prelude::*;
 
 // CENTRE + LANES - STRIDE: the index past the last lane of a tile is rows * STRIDE + PAST.
 const PAST: usize = 188;
@@ -141,9 +142,34 @@ pub fn neighbour(step: usize, q: usize) -> Tap
     backward_tap(step, h)
 }
 
-// Absolute differences in plane c between the samples from index `from` on and those k after them.
+// Absolute differences in plane c between the samples from index `from` on and those k after them, four at a time.
 // Form: the planes of a window are one array, so a plane is its number; a type for a number below 3 would be made from the index
 // in each loop over planes, where the bound is known.
+#[tactic(auto, unfolding(planes::specs::Fill::fill))]
+fn difference_vectors(
+    d: &mut [f32; WINDOW_PLANE],
+    win: &[f32; WINDOWS],
+    c: usize,
+    k: usize,
+    from: usize,
+    vectors: usize,
+)
+    requires { (c < 3) × (from + 4 * vectors + k ≤ window_plane) }
+    ensures { d.new ≡ fill d.old from (4 * vectors)
+        (λ (i : ℕ). apart_by win.now c k (from + i)) }
+{
+    let base = c * WINDOW_PLANE + from;
+    for v in 0..vectors {
+        let at = from + 4 * v;
+        let p = base + 4 * v;
+        let q = p + k;
+        let x = f32x4::from_slice(&win[q..q + 4]);
+        let y = f32x4::from_slice(&win[p..p + 4]);
+        epf_vectors::differences(x, y).copy_to_slice(&mut d[at..at + 4]);
+    }
+}
+
+// The same for n samples. The last n % 4 are taken one by one, since a whole vector could read past the last plane.
 #[tactic(auto, unfolding(planes::specs::Fill::fill, crate::specs::Seen::apart_by))]
 fn differences(
     d: &mut [f32; WINDOW_PLANE],
@@ -158,7 +184,9 @@ fn differences(
         (λ (i : ℕ). apart_by win.now c k (from + i)) }
 {
     let base = c * WINDOW_PLANE;
-    for i in 0..n {
+    let vectors = n / 4;
+    difference_vectors(d, win, c, k, from, vectors);
+    for i in 4 * vectors..n {
         let p = from + i;
         d[from + i] = difference(win[base + (p + k)], win[base + p]);
     }
@@ -200,7 +228,39 @@ fn add_nearby(
     }
 }
 
-// The same for step 2, which compares single samples. It stands apart since it reads the window and stores no differences.
+// Adds one channel's scaled differences to distances of step 2, which compares single samples, four at a time. It stands apart from
+// `add_nearby`, since it reads the window and stores no differences.
+#[tactic(auto, unfolding(planes::specs::Fill::fill))]
+fn add_single_vectors(
+    fields: &mut [f32; FIELDS],
+    at: usize,
+    win: &[f32; WINDOWS],
+    c: usize,
+    k: usize,
+    scale: f32,
+    from: usize,
+    vectors: usize,
+)
+    requires { (c < 3) × (from + 4 * vectors + k ≤ window_plane)
+        × (at + 4 * vectors ≤ fields_length) }
+    ensures { fields.new ≡ fill fields.old at (4 * vectors)
+        (λ (i : ℕ). get_or fields.old (at + i) nan ⊕ scale ⊗ nearby_of 2 (apart_by win.now c k)
+        (from + i)) }
+{
+    let base = c * WINDOW_PLANE + from;
+    for v in 0..vectors {
+        let i = at + 4 * v;
+        let p = base + 4 * v;
+        let q = p + k;
+        let x = f32x4::from_slice(&win[q..q + 4]);
+        let y = f32x4::from_slice(&win[p..p + 4]);
+        let apart = f32x4::splat(0.0) + epf_vectors::differences(x, y);
+        let sum = f32x4::from_slice(&fields[i..i + 4]) + f32x4::splat(scale) * apart;
+        sum.copy_to_slice(&mut fields[i..i + 4]);
+    }
+}
+
+// The same for n distances. The last n % 4 are taken one by one, as in `differences`.
 #[tactic(auto, using(crate::proofs::Runs::later), unfolding(planes::specs::Fill::fill, crate::specs::Seen::apart_by, crate::specs::Seen::nearby))]
 fn add_single(
     fields: &mut [f32; FIELDS],
@@ -218,7 +278,9 @@ fn add_single(
         (from + i)) }
 {
     let base = c * WINDOW_PLANE;
-    for i in 0..n {
+    let vectors = n / 4;
+    add_single_vectors(fields, at, win, c, k, scale, from, vectors);
+    for i in 4 * vectors..n {
         let p = from + i;
         fields[at + i] = fields[at + i]
             + scale * (0.0 + difference(win[base + (p + k)], win[base + p]));

@@ -9,4 +9,4 @@ use Rattle.epf_distances.specs.Seen.{nearby, apart_by}
 use Rattle.epf_distances.proofs.add_single.Given as goal
 
 abbrev pub invariant-loop-i : goal.invariant-loop-i
-invariant-loop-i l = l.fields ≡ fill l.initial.fields l.at l.i (λ (j : ℕ). get_or l.initial.fields (l.at + j) nan ⊕ l.scale ⊗ nearby 2 (apart_by l.win l.c l.k) (l.from + j))
+invariant-loop-i l = l.fields ≡ fill l.fn.fields l.at l.i (λ (j : ℕ). get_or l.fn.fields (l.at + j) nan ⊕ l.scale ⊗ nearby 2 (apart_by l.win l.c l.k) (l.from + j))

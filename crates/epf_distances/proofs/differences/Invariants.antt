@@ -6,4 +6,4 @@ use Rattle.epf_distances.specs.Seen.{apart_by}
 use Rattle.epf_distances.proofs.differences.Given as goal
 
 abbrev pub invariant-loop-i : goal.invariant-loop-i
-invariant-loop-i l = l.d ≡ fill l.initial.d l.from l.i (λ (j : ℕ). apart_by l.win l.c l.k (l.from + j))
+invariant-loop-i l = l.d ≡ fill l.fn.d l.from l.i (λ (j : ℕ). apart_by l.win l.c l.k (l.from + j))
