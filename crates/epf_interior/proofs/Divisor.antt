@@ -1,5 +1,5 @@
 -- The divisor of a sample is from 1 to 5, as specs/Divisor.antt states. Assumes nothing.
-use mathlib.Core.Path.{◌≡◌, refl, ap}
+use mathlib.Core.Path.{◌≡◌, refl}
 use mathlib.Core.List.{List}
 use Prim.Native.Nat.{ℕ, zero, suc, ◌+◌, ◌*◌}
 use native.Mathlib.Omega.{arith}
@@ -12,8 +12,7 @@ use Rattle.rounding.proofs.Rounded.{Within}
 use Rattle.epf_step.specs.Steps.{kernel, dists, along, scaled, scaled_from, apart, distance, weight_by}
 use Rattle.epf_step.specs.Bounds.{not_negative, ScalesNotNegative, Between, most}
 use Rattle.epf_step.proofs.Bounds.{weight-within, one-within, sum-within, most-within, distance-not-negative}
-use Rattle.epf_interior.specs.declared.Weights.{Weights}
-use Rattle.epf_interior.specs.Inside.{far_at, with_sum, weights_of}
+use Rattle.epf_interior.specs.Inside.{far_at, weights_of}
 use Rattle.epf_interior.proofs.Inside.{channel, far_of, far-is}
 use Rattle.epf_interior.specs.Divisor.{ThreeScalesBounded}
 
@@ -40,13 +39,9 @@ unfolding kernel
 four-bounded a b c d p q r s =
     most-within 2 _ (sum-within _ d 4 (omega arith) (sum-within _ c 3 (omega arith) (sum-within _ b 2 (omega arith) (sum-within b1 a 1 (omega arith) one-within p) q) r) s)
 
--- `weights_at`'s contract
-module _ (src : List Float) (stride plane : ℕ) (scales : List Float) (k : ℕ) (slope up down left right : Float) where
-  pub weights-bounded : with_sum up down left right ≡ weights_of src stride plane scales k slope
-      → (with_sum up down left right ≡ weights_of src stride plane scales k slope) × ThreeScalesBounded scales slope (with_sum up down left right).sum
-  weights-bounded e = (
-    e,
-    λ h s.
-        let each : (p : ℕ) → Within 0 1 (weight_by slope (far_at src plane scales p (k + stride + 1))) = λ p. weight-within _ slope (far-not-negative src plane scales p (k + stride + 1) h) s in
-        rw (ap (λ (w : Weights). w.sum) e) (four-bounded _ _ _ _ (each (k + 1)) (each (k + 2 * stride + 1)) (each (k + stride)) (each (k + stride + 2))),
-  )
+-- the divisor of the sample with corner k
+pub weights-bounded : (src : List Float) (stride plane : ℕ) (scales : List Float) (k : ℕ) (slope : Float) → ThreeScalesBounded scales slope (weights_of src stride plane scales k slope).sum
+weights-bounded src stride plane scales k slope h s = four-bounded _ _ _ _ (each (k + 1)) (each (k + 2 * stride + 1)) (each (k + stride)) (each (k + stride + 2))
+  where
+    each : (p : ℕ) → Within 0 1 (weight_by slope (far_at src plane scales p (k + stride + 1)))
+    each p = weight-within _ slope (far-not-negative src plane scales p (k + stride + 1) h) s

@@ -5,8 +5,8 @@ use mathlib.Core.List.{List}
 use Prim.Native.Nat.{ℕ, suc, ◌+◌, ◌-◌, ◌*◌, ◌%◌, ◌<◌, ◌≤◌}
 use native.Mathlib.Nat.{add-mul, mul_assoc, mul-le-mul, mul-le-mul_right}
 use native.Mathlib.Omega.{arith}
-use borrow.Author.Tests.{leb-true, ltb-true, le-leb, le-ltb, eq-eqb}
-use lib.Dec.{leb, ltb}
+use borrow.Author.Tests.{leb-true, ltb-true, eqb-true, le-leb, le-ltb, eq-eqb}
+use lib.Dec.{leb, ltb, eqb}
 use lib.ListN.{length, get_or}
 use lib.IntN.{ℤ, pos, negsuc, ◌+ℤ◌, nat_abs}
 use lib.Ieee.{Float, nan}
@@ -26,8 +26,7 @@ use Rattle.epf_rects.specs.Rects.{rect_filled, RectFits}
 use Rattle.epf_rects.specs.Three.{three_fill}
 use Rattle.epf_rects.proofs.Rects.{rect-true, taken-inner}
 use Rattle.epf_rects.proofs.Three.{rows_to, row_below}
-use Rattle.epf_interior.specs.declared.Weights.{Weights}
-use Rattle.epf_interior.specs.Inside.{far_at, weights_of, mix_of, lane_in, lies_inside, Inside, corner_of, inside_of, inside_filled}
+use Rattle.epf_interior.specs.Inside.{far_at, lane_in, lies_inside, Inside, corner_of, inside_of, inside_filled}
 
 -- ---- a sample and its neighbours, each a function of the channel
 
@@ -39,11 +38,6 @@ channel src plane p = λ c. get_or src (p + c * plane) nan
 unfoldable pub far_of : List Float → (ℕ → Float) → (ℕ → Float) → Float
 far_of scales f g =
     b0 ⊕ get_or scales 0 nan ⊗ (b0 ⊕ magnitude (f 0 ⊖ g 0)) ⊕ get_or scales 1 nan ⊗ (b0 ⊕ magnitude (f 1 ⊖ g 1)) ⊕ get_or scales 2 nan ⊗ (b0 ⊕ magnitude (f 2 ⊖ g 2))
-
-pub lane-at : (src : List Float) (stride plane : ℕ) (scales slopes : List Float) (first k c i q : ℕ) (w : Weights) (v : Float) → q ≡ k + i + c * plane
-    → w ≡ weights_of src stride plane scales (k + i) (get_or slopes (first + i) nan) → v ≡ mix_of src stride q w → v ≡ lane_in src stride plane scales slopes first k c i
-unfolding lane_in
-lane-at src stride plane scales slopes first k c i q w v eq ew ev = ev ∙ rw (ew, eq)
 
 -- ---- the code reads the samples of the definition
 
@@ -159,13 +153,16 @@ module _ (l : Layout) (q : Rect) where
   inside-facts e =
       let right = ltb (q.x + q.cols) l.width in
       let below = ltb (q.y + q.rows) l.height in
-      let a = and_second (leb 1 q.x) (leb 1 q.y && (right && below)) e in
-      let b = and_second (leb 1 q.y) (right && below) a in
+      let whole = eqb (q.cols % 4) 0 in
+      let a = and_second (leb 1 q.x) (leb 1 q.y && (right && (below && whole))) e in
+      let b = and_second (leb 1 q.y) (right && (below && whole)) a in
+      let d = and_second right (below && whole) b in
       record {
-        left = leb-true _ _ (and_first (leb 1 q.x) (leb 1 q.y && (right && below)) e);
-        above = leb-true _ _ (and_first (leb 1 q.y) (right && below) a);
-        right = ltb-true _ _ (and_first right below b);
-        below = ltb-true _ _ (and_second right below b);
+        left = leb-true _ _ (and_first (leb 1 q.x) (leb 1 q.y && (right && (below && whole))) e);
+        above = leb-true _ _ (and_first (leb 1 q.y) (right && (below && whole)) a);
+        right = ltb-true _ _ (and_first right (below && whole) b);
+        below = ltb-true _ _ (and_first below whole d);
+        vectors = eqb-true _ _ (and_second below whole d);
       }
 
 -- ---- a rectangle that fits

@@ -1,2 +1,4 @@
 pub mod Divisor
 pub mod Inside
+pub mod Lanes
+pub mod Runs

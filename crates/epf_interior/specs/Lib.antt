@@ -1,2 +1,3 @@
 pub mod Inside
 pub mod Divisor
+pub mod Vectors

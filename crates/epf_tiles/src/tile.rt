@@ -147,7 +147,7 @@ fn filter(
     let first = first_sigma(l, rect);
     tile_slopes(slopes, sigmas, first, blocks_of(rect.cols), s.scale, s.edge);
     let scales = s.scales;
-    // Away from the filter region's edges step 2 needs no window.
+    // Away from the filter region's edges, where rows are whole vectors, step 2 needs no window.
     if s.step == LAST_STEP && n == PLANES && lies_inside(l, rect) {
         filter_inside(dst, src, l, &scales, slopes, pass.top + rect.y, rect);
         return;

@@ -17,4 +17,4 @@ loop-r-preserved c =
 pub row-requires : goal.row-requires
 row-requires c =
     let room : RowRoom c.args.l c.args.rect c.loop-r.r (length c.args.dst.now) = row_room c.args.l c.args.rect c.loop-r.r (length c.args.dst.now) c.requires.0 c.requires.1 c.loop-r-test.true in
-    let p = c.requires in (room.stride-pos, room.cols-le, omega (arith, first_small _ _ c.first_slope-first.ensures, p.3), omega (arith, c.loop-r.invariant.1, p.2), omega (arith, room.end-le, p.2))
+    let p = c.requires in (room.stride-pos, room.cols-le, omega (arith, first_small _ _ c.first_slope-first.ensures, p.3), omega (arith, c.loop-r.invariant.1, p.2), omega (arith, room.end-le, p.2), c.requires.0.vectors)
