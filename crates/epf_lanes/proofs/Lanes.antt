@@ -1,5 +1,5 @@
 -- A lane computed by four neighbours at a time is the lane of the definition; rows of lanes make a tile. Assumes nothing.
-use mathlib.Core.Path.{◌≡◌, refl, ap, ◌∙◌}
+use mathlib.Core.Path.{◌≡◌, refl, sym, ap, ◌∙◌}
 use mathlib.Core.List.{List}
 use Prim.Native.Nat.{ℕ, zero, suc, ◌+◌, ◌*◌, ◌%◌, ◌<◌, ◌≤◌}
 use native.Mathlib.Nat.{add-mul, mul_assoc, mul-le-mul, mul-le-mul_right}
@@ -17,15 +17,17 @@ use Rattle.epf_rects.specs.Rects.{rect_filled, RectFits}
 use Rattle.epf_rects.specs.Three.{three_fill}
 use Rattle.epf_rects.proofs.Rects.{rect-true}
 use Rattle.epf_rects.proofs.Three.{rows_to, row_below}
-use Rattle.epf_step.specs.Steps.{kernel, weight_by}
+use Rattle.epf_step.specs.Steps.{kernel}
 use Rattle.epf_slopes.specs.Slopes.{first_slope}
 use Rattle.epf_slopes.proofs.Slopes.{first-same}
 use Rattle.epf_distances.specs.Taps.{tap_of}
 use Rattle.epf_lanes.specs.declared.Four.{Four}
 use Rattle.epf_lanes.specs.declared.LaneWeights.{LaneWeights}
-use Rattle.epf_lanes.specs.Lanes.{weights_to, samples_to, weight_in, weight_of, sample_of, neighbour_of, lane_of, four_of, no_four, weights_of, sample_at, mix_of, row_of, tile_of, lanes_stored}
+use Rattle.epf_vectors.specs.Lanes.{lanes_of}
+use Rattle.epf_lanes.specs.Lanes.{weights_to, samples_to, weight_in, weight_of, neighbour_of, lane_of, ◌⊞◌, field_weight, weights_in, four_of, no_four, sums_of, weights_of, mix_of, row_of, row_lanes, tile_of, lanes_stored}
 use Rattle.epf_lanes.specs.Divisors.{LaneBounded}
 use Rattle.epf_lanes.proofs.Divisors.{lane-bounded}
+use Rattle.epf_lanes.proofs.Vectors.{each-lane, lane-is}
 
 twelve-neighbours : length (kernel 0) ≡ 12
 unfolding kernel
@@ -59,8 +61,11 @@ weights-four f v q e =
     let d : q + 4 ≡ suc (suc (suc (suc q))) = omega arith in
     rw (e, a, b, c, d)
 
-samples-four : (f s : ℕ → Float) (x v : Float) (q : ℕ) → v ≡ samples_to f s x q
-    → v ⊕ f q ⊗ s q ⊕ f (q + 1) ⊗ s (q + 1) ⊕ f (q + 2) ⊗ s (q + 2) ⊕ f (q + 3) ⊗ s (q + 3) ≡ samples_to f s x (q + 4)
+-- the weighted samples of neighbours q to q + 3 added to v
+abbrev plus_four : (ℕ → Float) → (ℕ → Float) → Float → ℕ → Float
+plus_four f s v q = v ⊕ f q ⊗ s q ⊕ f (q + 1) ⊗ s (q + 1) ⊕ f (q + 2) ⊗ s (q + 2) ⊕ f (q + 3) ⊗ s (q + 3)
+
+samples-four : (f s : ℕ → Float) (x v : Float) (q : ℕ) → v ≡ samples_to f s x q → plus_four f s v q ≡ samples_to f s x (q + 4)
 unfolding samples_to
 samples-four f s x v q e =
     let a : q + 1 ≡ suc q = omega arith in
@@ -76,68 +81,106 @@ samples-same f s t x y (suc n) e h = rw (samples-same f s t x y n e h, h n)
 
 -- ---- `weights`
 
--- four weights of a lane at index j of a field
-pub four-in : (step : ℕ) (e : List Float) (slope : Float) (r i j q : ℕ) (w : Four) → j ≡ r * 64 + i
-    → w ≡ four_of (λ (k : ℕ). weight_by slope (get_or e ((tap_of step k).start + j) nan)) q → w ≡ four_of (weight_in step e slope r i) q
-four-in step e slope r i j q w ej ew =
-    let at : (k : ℕ) → (tap_of step k).start + j ≡ (tap_of step k).start + r * 64 + i = λ k. omega arith in
-    ew ∙ rw (at q, at (q + 1), at (q + 2), at (q + 3))
+-- four weights of each lane after index j of a field
+pub four-in : (step : ℕ) (e slopes : List Float) (r i j q : ℕ) (w : Four) → j ≡ r * 64 + i → w ≡ four_of (field_weight step e slopes j) q → w ≡ four_of (weights_in step e slopes r i) q
+four-in step e slopes r i j q w ej ew = ew ∙ rw (same q, same (q + 1), same (q + 2), same (q + 3))
+  where
+    same : (n : ℕ) → lanes_of (field_weight step e slopes j n) ≡ lanes_of (weights_in step e slopes r i n)
+    same n = each-lane (field_weight step e slopes j n) (weights_in step e slopes r i n) (λ k. let z : (tap_of step n).start + j + k ≡ (tap_of step n).start + r * 64 + (i + k) = omega arith in rw z)
 
 -- four more weights are added
-summed : (f : ℕ → Float) (q : ℕ) (w : Four) (x y : Float) → w ≡ four_of f q → x ≡ weights_to f q → y ≡ x ⊕ w.a ⊕ w.b ⊕ w.c ⊕ w.d → y ≡ weights_to f (q + 4)
-summed f q w x y ew ex ey = ey ∙ rw ew (weights-four f x q ex)
+summed : (f : ℕ → ℕ → Float) (q : ℕ) (w : Four) (x y : List Float) → w ≡ four_of f q → x ≡ sums_of f q → y ≡ x ⊞ w.a ⊞ w.b ⊞ w.c ⊞ w.d → y ≡ sums_of f (q + 4)
+summed f q w x y ew ex ey =
+    ey ∙ rw (ew, ex)
+    (each-lane (λ k. weights_to (λ n. f n k) q ⊕ f q k ⊕ f (q + 1) k ⊕ f (q + 2) k ⊕ f (q + 3) k) (λ k. weights_to (λ n. f n k) (q + 4)) (λ k. weights-four (λ n. f n k) (weights_to (λ n. f n k) q) q refl))
 
-none-summed : (f : ℕ → Float) → b1 ≡ weights_to f 0
+none-summed : (f : ℕ → ℕ → Float) → lanes_of (λ k. b1) ≡ sums_of f 0
 unfolding weights_to
 none-summed f = refl
 
-module _ (step : ℕ) (e : List Float) (slope : Float) (r i : ℕ) where
-  abbrev each : ℕ → Float
-  each = weight_in step e slope r i
+module _ (step : ℕ) (e slopes : List Float) (r i : ℕ) where
+  abbrev each : ℕ → ℕ → Float
+  each = weights_in step e slopes r i
+
+  abbrev Bounded : List Float → Type 0
+  Bounded sums = (k : ℕ) → k < 4 → LaneBounded step e (get_or slopes k nan) r (i + k) (get_or sums k nan)
+
+  bounded : (n : ℕ) → n ≡ length (kernel step) → Bounded (sums_of each n)
+  bounded n en k l =
+      let lane : get_or (sums_of each n) k nan ≡ weights_to (weight_in step e (get_or slopes k nan) r (i + k)) n = lane-is (λ k. weights_to (λ q. each q k) n) k l in
+      rw (lane, en) (lane-bounded step e (get_or slopes k nan) r (i + k))
 
   abbrev Weighed : LaneWeights → Type 0
-  Weighed w = (w ≡ weights_of step each) × LaneBounded step e slope r i w.sum
+  Weighed w = (w ≡ weights_of step each) × Bounded w.sum
 
-  pub four-weighed : (step ≡ 0 → ⊥) → (u : Four) (x : Float) → u ≡ four_of each 0 → x ≡ b1 ⊕ u.a ⊕ u.b ⊕ u.c ⊕ u.d → Weighed (record { u = u; v = no_four; w = no_four; sum = x })
+  pub four-weighed : (step ≡ 0 → ⊥) → (u : Four) (x : List Float) → u ≡ four_of each 0 → x ≡ lanes_of (λ k. b1) ⊞ u.a ⊞ u.b ⊞ u.c ⊞ u.d → Weighed (record { u = u; v = no_four; w = no_four; sum = x })
   four-weighed h u x eu ex =
-      let sum : x ≡ weights_to each 4 = summed each 0 u b1 x eu (none-summed each) ex in
-      let all : weights_to each 4 ≡ weights_to each (length (kernel step)) = rw (four step h) in
-      (rw (ne_eqb step 0 h, eu, sum), rw (sum ∙ all) (lane-bounded step e slope r i))
+      let sum : x ≡ sums_of each 4 = summed each 0 u (lanes_of (λ k. b1)) x eu (none-summed each) ex in
+      (rw (ne_eqb step 0 h, eu, sum), rw sum (bounded 4 (sym (four step h))))
 
-  pub twelve-weighed : step ≡ 0 → (u v w : Four) (x y z : Float) → u ≡ four_of each 0 → v ≡ four_of each 4 → w ≡ four_of each 8
-      → x ≡ b1 ⊕ u.a ⊕ u.b ⊕ u.c ⊕ u.d → y ≡ x ⊕ v.a ⊕ v.b ⊕ v.c ⊕ v.d → z ≡ y ⊕ w.a ⊕ w.b ⊕ w.c ⊕ w.d → Weighed (record { u = u; v = v; w = w; sum = z })
+  pub twelve-weighed : step ≡ 0 → (u v w : Four) (x y z : List Float) → u ≡ four_of each 0 → v ≡ four_of each 4 → w ≡ four_of each 8
+      → x ≡ lanes_of (λ k. b1) ⊞ u.a ⊞ u.b ⊞ u.c ⊞ u.d → y ≡ x ⊞ v.a ⊞ v.b ⊞ v.c ⊞ v.d → z ≡ y ⊞ w.a ⊞ w.b ⊞ w.c ⊞ w.d → Weighed (record { u = u; v = v; w = w; sum = z })
   twelve-weighed h u v w x y z eu ev ew ex ey ez =
-      let sum : z ≡ weights_to each 12 = summed each 8 w y z ew (summed each 4 v x y ev (summed each 0 u b1 x eu (none-summed each) ex) ey) ez in
-      let all : weights_to each 12 ≡ weights_to each (length (kernel step)) = rw (twelve step h) in
-      (rw (eq-eqb step 0 h, eu, ev, ew, sum), rw (sum ∙ all) (lane-bounded step e slope r i))
+      let sum : z ≡ sums_of each 12 = summed each 8 w y z ew (summed each 4 v x y ev (summed each 0 u (lanes_of (λ k. b1)) x eu (none-summed each) ex) ey) ez in
+      (rw (eq-eqb step 0 h, eu, ev, ew, sum), rw sum (bounded 12 (sym (twelve step h))))
 
--- ---- a lane
+-- ---- four lanes
 
 none-added : (f s : ℕ → Float) (x : Float) → x ≡ samples_to f s x 0
 unfolding samples_to
 none-added f s x = refl
 
-mixed : (step : ℕ) (f : ℕ → Float) (win : List Float) (p : ℕ) → mix_of step win p (weights_of step f) ≡ samples_to f (sample_at step win p) (get_or win (p + 196) nan) (length (kernel step)) ⊘ weights_to f (length (kernel step))
-mixed zero f win p =
-    let s = sample_at 0 win p in
-    let x = get_or win (p + 196) nan in
-    rw twelve-neighbours (ap (λ (y : Float). y ⊘ weights_to f 12) (samples-four f s x _ 8 (samples-four f s x _ 4 (samples-four f s x x 0 (none-added f s x)))))
+-- lane k of the windows from index p on, with the weights f
+module _ (step : ℕ) (f : ℕ → ℕ → Float) (win : List Float) (p k : ℕ) where
+  abbrev weight : ℕ → Float
+  weight q = f q k
+
+  abbrev sample : ℕ → Float
+  sample q = get_or win (p + (tap_of step q).index + k) nan
+
+  abbrev centre : Float
+  centre = get_or win (p + 196 + k) nan
+
+  abbrev mixed_lane : Float
+  mixed_lane = samples_to weight sample centre (length (kernel step)) ⊘ weights_to weight (length (kernel step))
+
+  abbrev added : Float
+  added = plus_four weight sample centre 0
+
+  four-mixed : length (kernel step) ≡ 4 → added ⊘ weights_to weight 4 ≡ mixed_lane
+  four-mixed e = rw e (ap (λ (y : Float). y ⊘ weights_to weight 4) (samples-four weight sample centre centre 0 (none-added weight sample centre)))
+
+  twelve-mixed : length (kernel step) ≡ 12 → plus_four weight sample (plus_four weight sample added 4) 8 ⊘ weights_to weight 12 ≡ mixed_lane
+  twelve-mixed e =
+      rw e
+      (ap (λ (y : Float). y ⊘ weights_to weight 12) (samples-four weight sample centre _ 8 (samples-four weight sample centre _ 4 (samples-four weight sample centre centre 0 (none-added weight sample centre)))))
+
+mixed : (step : ℕ) (f : ℕ → ℕ → Float) (win : List Float) (p : ℕ) → mix_of step win p (weights_of step f) ≡ lanes_of (mixed_lane step f win p)
+mixed zero f win p = rw (twelve-mixed 0 f win p 0 twelve-neighbours, twelve-mixed 0 f win p 1 twelve-neighbours, twelve-mixed 0 f win p 2 twelve-neighbours, twelve-mixed 0 f win p 3 twelve-neighbours)
 mixed (suc n) f win p =
-    let s = sample_at (suc n) win p in
-    let x = get_or win (p + 196) nan in
-    rw (ne_eqb (suc n) 0 (λ z. omega (arith, z)), four-neighbours n) (ap (λ (y : Float). y ⊘ weights_to f 4) (samples-four f s x x 0 (none-added f s x)))
+    rw (ne_eqb (suc n) 0 (λ z. omega (arith, z)))
+    (rw (four-mixed (suc n) f win p 0 (four-neighbours n), four-mixed (suc n) f win p 1 (four-neighbours n), four-mixed (suc n) f win p 2 (four-neighbours n), four-mixed (suc n) f win p 3 (four-neighbours n)))
 
-module _ (step : ℕ) (e slopes win : List Float) (first c i r p : ℕ) (v : Float) (ep : p ≡ c * 896 + r * 64 + i) where
-  -- the windows' samples at p are those of the lane
-  seen_same : (n : ℕ) (f : ℕ → Float) → samples_to f (sample_at step win p) (get_or win (p + 196) nan) n ≡ samples_to f (neighbour_of step win c r i) (sample_of win c r 196 i) n
-  unfolding neighbour_of
-  seen_same n f = samples-same f _ _ _ _ n (ap (λ (k : ℕ). get_or win k nan) (omega arith)) (λ q. ap (λ (k : ℕ). get_or win k nan) (omega arith))
+module _ (step : ℕ) (e slopes win : List Float) (first c i r p : ℕ) (v : List Float) (ep : p ≡ c * 896 + r * 64 + i) where
+  abbrev of_lanes : ℕ → ℕ → Float
+  of_lanes q k = weight_of step e slopes first r (i + k) q
 
-  pub lane-mixed : (w : LaneWeights) → w ≡ weights_of step (weight_in step e (get_or slopes (first + i) nan) r i) → v ≡ mix_of step win p w → v ≡ row_of step e slopes win first r c i
-  unfolding lane_of weight_of
-  lane-mixed w ew ev =
-      let f = weight_in step e (get_or slopes (first + i) nan) r i in
-      ev ∙ rw ew (mixed step f win p ∙ rw (seen_same (length (kernel step)) f))
+  -- the windows' samples after p are those of the lanes
+  seen_same : (k : ℕ) → mixed_lane step of_lanes win p k ≡ row_of step e slopes win first r c (i + k)
+  unfolding lane_of neighbour_of
+  seen_same k =
+      let n = length (kernel step) in
+      ap (λ (y : Float). y ⊘ weights_to (λ q. of_lanes q k) n)
+      (samples-same (λ q. of_lanes q k) _ _ _ _ n (ap (λ (j : ℕ). get_or win j nan) (omega arith)) (λ q. ap (λ (j : ℕ). get_or win j nan) (omega arith)))
+
+  -- the weights by the slopes that start at `first`
+  steep : weights_of step (weights_in step e (lanes_of (λ k. get_or slopes (first + (i + k)) nan)) r i) ≡ weights_of step of_lanes
+  unfolding weight_of
+  steep = refl
+
+  pub lanes-mixed : (s : List Float) (w : LaneWeights) → s ≡ lanes_of (λ k. get_or slopes (first + (i + k)) nan) → w ≡ weights_of step (weights_in step e s r i) → v ≡ mix_of step win p w
+      → v ≡ row_lanes step e slopes win first r i c
+  lanes-mixed s w es ew ev = ev ∙ rw (ew, es, steep) (mixed step of_lanes win p ∙ each-lane (mixed_lane step of_lanes win p) (λ k. row_of step e slopes win first r c (i + k)) seen_same)
 
 -- ---- a row in any step
 

@@ -1,3 +1,4 @@
+pub mod Vectors
 pub mod Divisors
 pub mod Lanes
 pub mod Meaning

@@ -1,6 +1,7 @@
 -- What the loops over a tile's lanes compute from fields, slopes and windows, one neighbour at a time. Definitions only.
 use Rattle.std.specs.Prelude.{cond, ◌&&◌, List, ℕ, zero, suc, ◌+◌, ◌*◌, ◌<◌, ◌≤◌, leb, eqb, length, get_or, Float}
 use Rattle.std.specs.Float.{nan}
+use Rattle.std.specs.Simd.Lanes.{zip2}
 use Rattle.planes.specs.declared.Layout.{Layout}
 use Rattle.planes.specs.Samples.{◌⊕◌, ◌⊗◌, ◌⊘◌, b0, b1}
 use Rattle.planes.specs.Picture.{Picture}
@@ -9,6 +10,7 @@ use Rattle.epf_rects.specs.Rects.{rect_filled, rect_fits}
 use Rattle.epf_step.specs.Steps.{kernel, weight_by}
 use Rattle.epf_slopes.specs.Slopes.{slope_columns, first_slope}
 use Rattle.epf_distances.specs.Taps.{tap_of}
+use Rattle.epf_vectors.specs.Lanes.{lanes_of}
 use Rattle.epf_sizes.specs.Sizes.{lanes, tile_rows, stride, window_plane, window_centre}
 use Rattle.epf_lanes.specs.declared.Four.{Four}
 use Rattle.epf_lanes.specs.declared.LaneWeights.{LaneWeights}
@@ -52,42 +54,70 @@ lane_of step e slopes win first c i r =
     samples_to (weight_of step e slopes first r i) (neighbour_of step win c r i) (sample_of win c r window_centre i) (length (kernel step))
     ⊘ weights_to (weight_of step e slopes first r i) (length (kernel step))
 
--- ---- the same by four neighbours at a time, as the code has it
+-- ---- the same by four neighbours and four lanes at a time, as the code has it
 
--- the weights of neighbours q to q + 3
-abbrev pub four_of : (ℕ → Float) → ℕ → Four
-four_of f q = record { a = f q; b = f (q + 1); c = f (q + 2); d = f (q + 3) }
+-- the sum, the product and the quotient of vectors
+infixl 60 ◌⊞◌
+infixl 70 ◌⊠◌ ◌⧄◌
+abbrev pub ◌⊞◌ : List Float → List Float → List Float
+xs ⊞ ys = zip2 (λ x y. x ⊕ y) xs ys
+
+abbrev pub ◌⊠◌ : List Float → List Float → List Float
+xs ⊠ ys = zip2 (λ x y. x ⊗ y) xs ys
+
+abbrev pub ◌⧄◌ : List Float → List Float → List Float
+xs ⧄ ys = zip2 (λ x y. x ⊘ y) xs ys
+
+-- the weight of neighbour q of lane k after index j of a field, by the lanes' slopes
+abbrev pub field_weight : ℕ → List Float → List Float → ℕ → ℕ → ℕ → Float
+field_weight step e slopes j q k = weight_by (get_or slopes k nan) (get_or e ((tap_of step q).start + j + k) nan)
+
+-- the same of lane i + k of row r
+abbrev pub weights_in : ℕ → List Float → List Float → ℕ → ℕ → ℕ → ℕ → Float
+weights_in step e slopes r i q k = weight_in step e (get_or slopes k nan) r (i + k) q
+
+-- the weights of neighbours q to q + 3; f q k is that of neighbour q of lane k
+abbrev pub four_of : (ℕ → ℕ → Float) → ℕ → Four
+four_of f q = record { a = lanes_of (f q); b = lanes_of (f (q + 1)); c = lanes_of (f (q + 2)); d = lanes_of (f (q + 3)) }
 
 -- x plus the weighted samples of neighbours q to q + 3
-abbrev pub with_four : Float → Four → (ℕ → Float) → ℕ → Float
-with_four x w s q = x ⊕ w.a ⊗ s q ⊕ w.b ⊗ s (q + 1) ⊕ w.c ⊗ s (q + 2) ⊕ w.d ⊗ s (q + 3)
+abbrev pub with_four : List Float → Four → (ℕ → List Float) → ℕ → List Float
+with_four x w s q = x ⊞ w.a ⊠ s q ⊞ w.b ⊠ s (q + 1) ⊞ w.c ⊠ s (q + 2) ⊞ w.d ⊠ s (q + 3)
 
 -- no neighbours
 abbrev pub no_four : Four
-no_four = record { a = b0; b = b0; c = b0; d = b0 }
+no_four = four_of (λ q k. b0) 0
 
--- all weights of a step and the divisor: twelve neighbours, or four
-abbrev pub weights_of : ℕ → (ℕ → Float) → LaneWeights
+-- the divisors of four lanes with n neighbours: 1 plus the sum of the weights
+abbrev pub sums_of : (ℕ → ℕ → Float) → ℕ → List Float
+sums_of f n = lanes_of (λ k. weights_to (λ q. f q k) n)
+
+-- all weights of a step and the divisors: twelve neighbours, or four
+abbrev pub weights_of : ℕ → (ℕ → ℕ → Float) → LaneWeights
 weights_of step f =
-    cond (eqb step 0) (record { u = four_of f 0; v = four_of f 4; w = four_of f 8; sum = weights_to f 12 })
-    (record { u = four_of f 0; v = no_four; w = no_four; sum = weights_to f 4 })
+    cond (eqb step 0) (record { u = four_of f 0; v = four_of f 4; w = four_of f 8; sum = sums_of f 12 })
+    (record { u = four_of f 0; v = no_four; w = no_four; sum = sums_of f 4 })
 
--- the sample of neighbour q of the lane at index p of the windows
-abbrev pub sample_at : ℕ → List Float → ℕ → ℕ → Float
-sample_at step win p q = get_or win (p + (tap_of step q).index) nan
+-- the samples of neighbour q of the four lanes from index p of the windows on
+abbrev pub sample_at : ℕ → List Float → ℕ → ℕ → List Float
+sample_at step win p q = lanes_of (λ k. get_or win (p + (tap_of step q).index + k) nan)
 
--- the sum over the divisor
-abbrev pub mix_of : ℕ → List Float → ℕ → LaneWeights → Float
+-- the sums over the divisors
+abbrev pub mix_of : ℕ → List Float → ℕ → LaneWeights → List Float
 mix_of step win p w =
     let s = sample_at step win p in
-    let x = with_four (get_or win (p + window_centre) nan) w.u s 0 in
-    cond (eqb step 0) (with_four (with_four x w.v s 4) w.w s 8 ⊘ w.sum) (x ⊘ w.sum)
+    let x = with_four (lanes_of (λ k. get_or win (p + window_centre + k) nan)) w.u s 0 in
+    cond (eqb step 0) (with_four (with_four x w.v s 4) w.w s 8 ⧄ w.sum) (x ⧄ w.sum)
 
 -- ---- rows and tiles
 
 -- the lanes of row r: sample i of plane c
 abbrev pub row_of : ℕ → List Float → List Float → List Float → ℕ → ℕ → ℕ → ℕ → Float
 row_of step e slopes win first r = λ c i. lane_of step e slopes win first c i r
+
+-- lanes i to i + 3 of plane c
+abbrev pub row_lanes : ℕ → List Float → List Float → List Float → ℕ → ℕ → ℕ → ℕ → List Float
+row_lanes step e slopes win first r i c = lanes_of (λ k. row_of step e slopes win first r c (i + k))
 
 -- a tile; its row 0 is at y = `top`
 abbrev pub tile_of : ℕ → List Float → List Float → List Float → ℕ → Picture
@@ -109,3 +139,9 @@ pub record RowFits (first r n : ℕ) : Type 0 where
   pub first-le : first ≤ slope_columns
   pub row_lt : r < tile_rows
   pub lanes-le : n ≤ lanes
+
+-- a vector that starts at lane i of row r
+pub record LanesFit (first r i : ℕ) : Type 0 where
+  pub first-le : first ≤ slope_columns
+  pub row_lt : r < tile_rows
+  pub lane_lt : i < lanes

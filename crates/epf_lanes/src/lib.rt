@@ -13,25 +13,26 @@ use epf_rects::Rect;
 use epf_sizes::{FIELDS, LANES, TILE_ROWS, WINDOWS};
 use epf_slopes::SLOPES;
 use planes::{Layout, PLANES};
+use std::simd::prelude::*;
 
-// The weights of four neighbours.
+// The weights of four neighbours, each of four lanes.
 // Form: the contracts name each weight, where an array would be a list; the four fields of `EpfSigma` are settings, no weights.
 #[derive(Clone, Copy)]
 pub(crate) struct Four {
-    a: f32,
-    b: f32,
-    c: f32,
-    d: f32,
+    a: f32x4,
+    b: f32x4,
+    c: f32x4,
+    d: f32x4,
 }
 
-// The weights of a step's neighbours in the order of the kernel offsets, and the divisor: 1 plus their sum. Steps 1 and 2
-// have four neighbours, a cross, and zeros in `v` and `w`.
+// The weights of the neighbours of four lanes in the order of the kernel offsets, and the divisors: 1 plus their sum. Steps 1
+// and 2 have four neighbours, a cross, and zeros in `v` and `w`.
 #[derive(Clone, Copy)]
 pub(crate) struct LaneWeights {
     u: Four,
     v: Four,
     w: Four,
-    sum: f32,
+    sum: f32x4,
 }
 
 // Filters a rectangle of at most 8 rows and 56 columns in each plane; its row 0 is at y = `top`. Does nothing if the

@@ -1,15 +1,18 @@
 // The rows of a tile, stored in the target's planes. Each loop along a row has one call, so that it is inlined where the
 // tile's arrays are declared: only there does the compiler see that they do not overlap the target.
+// A row goes by vectors of four lanes; of its last vector, the lanes inside the row are stored.
 // Three planes go together, since they share a lane's weights; another number of planes goes plane by plane. One function
 // for both would need a loop over planes within the loop over lanes. The tile's arrays stay side by side: with a struct
 // of them each clause would name `tile.entry.fields.now` for `fields.now`.
-ghost use Rattle.std.specs.Prelude.{◌≡◌, ℕ, ◌+◌, ◌*◌, ◌<◌, ◌≤◌, length};
+ghost use Rattle.std.specs.Prelude.{◌≡◌, ℕ, ◌+◌, ◌*◌, ◌<◌, ◌≤◌, length, get_or};
+ghost use Rattle.std.specs.Float.{nan};
 ghost use Rattle.planes.specs.Fill.{fill};
 ghost use Rattle.planes.specs.Rect.{rows_fill};
 ghost use Rattle.epf_rects.specs.Rects.{rect_filled, RectFits};
 ghost use Rattle.epf_rects.specs.Three.{three_fill};
 ghost use Rattle.epf_sizes.specs.Sizes.{lanes, tile_rows};
-ghost use Rattle.epf_lanes.specs.Lanes.{row_of, tile_of, RowFits};
+ghost use Rattle.epf_slopes.specs.Slopes.{slope_columns};
+ghost use Rattle.epf_lanes.specs.Lanes.{row_of, row_lanes, tile_of, RowFits, LanesFit};
 
 use crate::weights::{mix, weights};
 use epf_rects::Rect;
@@ -17,6 +20,60 @@ use epf_sizes::{FIELDS, STRIDE, WINDOW_PLANE, WINDOWS};
 use epf_slopes::{SLOPES, first_slope};
 use limits::BLOCK;
 use planes::Layout;
+use std::simd::prelude::*;
+
+// Stores the first m lanes of a vector from index p on.
+fn store(dst: &mut [f32], p: usize, v: f32x4, m: usize)
+    requires { (m ≤ 4) × (p + m ≤ length dst.old) }
+    ensures { dst.new ≡ fill dst.old p m (λ (k : ℕ). get_or v k nan) }
+{
+    if m == 4 {
+        v.copy_to_slice(&mut dst[p..p + 4]);
+        return;
+    }
+    dst[p..p + m].copy_from_slice(&v.to_array()[..m]);
+}
+
+// Lanes i to i + 3 of row r in step STEP, in three planes. The row's slopes start at index `first`.
+fn three_vectors<const STEP: usize>(
+    fields: &[f32; FIELDS],
+    slopes: &[f32; SLOPES],
+    win: &[f32; WINDOWS],
+    first: usize,
+    r: usize,
+    i: usize,
+) -> (f32x4, f32x4, f32x4)
+    requires { LanesFit first r i }
+    ensures { (result.0 ≡ row_lanes STEP fields.now slopes.now win.now first r i 0)
+        × (result.1 ≡ row_lanes STEP fields.now slopes.now win.now first r i 1)
+        × (result.2 ≡ row_lanes STEP fields.now slopes.now win.now first r i 2) }
+{
+    let s = first + i;
+    let w = weights::<STEP>(fields, f32x4::from_slice(&slopes[s..s + 4]), r, i);
+    let p = r * STRIDE + i;
+    let a = mix::<STEP>(win, p, w);
+    let b = mix::<STEP>(win, WINDOW_PLANE + p, w);
+    let c = mix::<STEP>(win, 2 * WINDOW_PLANE + p, w);
+    (a, b, c)
+}
+
+// Lanes i to i + 3 of row r in step STEP, in plane c.
+fn one_vector<const STEP: usize>(
+    fields: &[f32; FIELDS],
+    slopes: &[f32; SLOPES],
+    win: &[f32; WINDOWS],
+    c: usize,
+    first: usize,
+    r: usize,
+    i: usize,
+) -> f32x4
+    requires { LanesFit first r i × (c < 3) }
+    ensures { result ≡ row_lanes STEP fields.now slopes.now win.now first r i c }
+{
+    let s = first + i;
+    let w = weights::<STEP>(fields, f32x4::from_slice(&slopes[s..s + 4]), r, i);
+    mix::<STEP>(win, c * WINDOW_PLANE + r * STRIDE + i, w)
+}
 
 // Filters n lanes of row r in step STEP, in three planes that lie `plane` apart in the target. The row's slopes start at
 // index `first`.
@@ -38,15 +95,13 @@ fn three_lanes<const STEP: usize>(
     ensures { dst.new ≡ three_fill dst.old at plane n
         (row_of STEP fields.now slopes.now win.now first r) }
 {
-    for i in 0..n {
-        let p = r * STRIDE + i;
-        let w = weights::<STEP>(fields, slopes[first + i], r, i);
-        let a = mix::<STEP>(win, p, w);
-        let b = mix::<STEP>(win, WINDOW_PLANE + p, w);
-        let c = mix::<STEP>(win, 2 * WINDOW_PLANE + p, w);
-        dst[at + i] = a;
-        dst[at + plane + i] = b;
-        dst[at + 2 * plane + i] = c;
+    for b in 0..n.div_ceil(4) {
+        let i = b * 4;
+        let m = (n - i).min(4);
+        let v = three_vectors::<STEP>(fields, slopes, win, first, r, i);
+        store(dst, at + i, v.0, m);
+        store(dst, at + plane + i, v.1, m);
+        store(dst, at + 2 * plane + i, v.2, m);
     }
 }
 
@@ -68,10 +123,11 @@ fn one_lanes<const STEP: usize>(
     ensures { dst.new ≡ fill dst.old at n
         (row_of STEP fields.now slopes.now win.now first r c) }
 {
-    let base = c * WINDOW_PLANE + r * STRIDE;
-    for i in 0..n {
-        let w = weights::<STEP>(fields, slopes[first + i], r, i);
-        dst[at + i] = mix::<STEP>(win, base + i, w);
+    for b in 0..n.div_ceil(4) {
+        let i = b * 4;
+        let m = (n - i).min(4);
+        let v = one_vector::<STEP>(fields, slopes, win, c, first, r, i);
+        store(dst, at + i, v, m);
     }
 }
 

@@ -1,7 +1,10 @@
-use mathlib.Core.Path.{refl}
-use Rattle.planes.proofs.Fill.{fill-turn}
-use Rattle.epf_lanes.proofs.Lanes.{lane-mixed}
+use mathlib.Core.Path.{◌∙◌}
+use native.Mathlib.Omega.{arith}
+use Rattle.epf_lanes.specs.Lanes.{row_of}
+use Rattle.epf_lanes.proofs.Vectors.{one-vector-more}
 use Rattle.epf_lanes.proofs.rows.one_lanes.Goals as goal
 
-pub loop-i-preserved : goal.loop-i-preserved
-loop-i-preserved g c = fill-turn _ _ _ _ _ _ c.loop-i.invariant (lane-mixed g.row.STEP c.args.fields.now c.args.slopes.now c.args.win.now c.args.first c.args.c c.loop-i.i c.args.r _ _ refl _ c.weights-w.ensures.0 c.mix.ensures)
+pub loop-b-preserved : goal.loop-b-preserved
+loop-b-preserved g c =
+    c.store.ensures
+    ∙ one-vector-more c.args.dst.now c.args.at c.loop-b.b c.args.n _ (omega (arith, c.loop-b-test.true, c.div_ceil-b-end.ensures)) c.min-m.ensures (row_of g.row.STEP c.args.fields.now c.args.slopes.now c.args.win.now c.args.first c.args.r c.args.c) _ _ c.loop-b.invariant c.one_vector-v.ensures

@@ -1,13 +1,13 @@
+use mathlib.Core.Path.{◌∙◌}
 use native.Mathlib.Omega.{arith}
-use lib.ListN.{length-set}
-use Rattle.epf_rects.proofs.Three.{three-turn}
-use Rattle.epf_lanes.proofs.Lanes.{lane-mixed}
+use Rattle.epf_lanes.specs.Lanes.{row_of}
+use Rattle.epf_lanes.proofs.Vectors.{three-vectors-more}
 use Rattle.epf_lanes.proofs.rows.three_lanes.Goals as goal
 
-pub loop-i-preserved : goal.loop-i-preserved
-loop-i-preserved g c = (
-  omega arith,
-  simp length-set c.loop-i.invariant.1,
-  three-turn _ _ _ c.args.plane c.loop-i.i _ _ _ _ (omega arith) c.loop-i.invariant.2
-      (lane-mixed g.row.STEP c.args.fields.now c.args.slopes.now c.args.win.now c.args.first 0 c.loop-i.i c.args.r _ _ (omega arith) _ c.weights-w.ensures.0 c.mix-a.ensures) (lane-mixed g.row.STEP c.args.fields.now c.args.slopes.now c.args.win.now c.args.first 1 c.loop-i.i c.args.r _ _ (omega arith) _ c.weights-w.ensures.0 c.mix-b.ensures) (lane-mixed g.row.STEP c.args.fields.now c.args.slopes.now c.args.win.now c.args.first 2 c.loop-i.i c.args.r _ _ (omega arith) _ c.weights-w.ensures.0 c.mix-c.ensures),
+pub loop-b-preserved : goal.loop-b-preserved
+loop-b-preserved g c = (
+  c.store-in-loop-b-2.auto.dst ∙ c.store-in-loop-b.auto.dst ∙ c.store.auto.dst ∙ c.loop-b.invariant.0,
+  rw (c.store-in-loop-b-2.ensures, c.store-in-loop-b.ensures, c.store.ensures)
+      (three-vectors-more c.args.dst.now c.args.at c.loop-b.b c.args.n _ (omega (arith, c.loop-b-test.true, c.div_ceil-b-end.ensures)) c.min-m.ensures c.args.plane (row_of g.row.STEP c.args.fields.now c.args.slopes.now c.args.win.now c.args.first c.args.r) _ _ _ _ c.requires.1 c.loop-b.invariant.1
+      c.three_vectors-v.ensures.0 c.three_vectors-v.ensures.1 c.three_vectors-v.ensures.2),
 )
