@@ -1,18 +1,18 @@
 -- Vectors of four lanes, and rows that are stored by vectors. Assumes nothing.
 use mathlib.Core.Path.{◌≡◌, refl, ap, ◌∙◌}
-use mathlib.Core.List.{List, [], ◌∷◌}
+use mathlib.Core.List.{List}
 use Prim.Native.Nat.{ℕ, zero, suc, ◌+◌, ◌-◌, ◌*◌, ◌<◌, ◌≤◌, min}
 use native.Mathlib.Omega.{arith}
 use lib.Ieee.{Float, nan}
-use borrow.Rule.Slice.PartMut.{put_mid}
-use lib.Lanes.{put_chunk}
-use lib.ListN.{length, get_or, set, take, drop}
+use borrow.Rule.Slice.PartMut.{put_mid, mid_of}
+use lib.ListN.{length, get_or, set, take}
 use lib.Seq.{set_comm}
 use Rattle.planes.specs.Fill.{fill}
-use Rattle.planes.proofs.Fill.{fill-then}
+use Rattle.std.proofs.lemmas.Simd.{length-chunk}
+use Rattle.planes.proofs.Fill.{length-fill, fill-then}
 use Rattle.epf_rects.specs.Three.{three_fill}
 use Rattle.epf_vectors.specs.Lanes.{lanes_of}
-use Rattle.epf_vectors.proofs.Rows.{four-more, some-more}
+use Rattle.epf_vectors.proofs.Rows.{some-more}
 
 -- vectors are the same if their lanes are
 pub each-lane : (f g : ℕ → Float) → ((k : ℕ) → f k ≡ g k) → lanes_of f ≡ lanes_of g
@@ -25,35 +25,20 @@ lane-is f (suc (suc zero)) l = refl
 lane-is f (suc (suc (suc zero))) l = refl
 lane-is f (suc (suc (suc (suc k)))) l = absurd (omega arith)
 
--- a vector has four lanes
-as_lanes : (v : List Float) → length v ≡ 4 → v ≡ lanes_of (λ k. get_or v k nan)
-as_lanes [] h = absurd (omega (arith, h))
-as_lanes (a ∷ []) h = absurd (omega (arith, h))
-as_lanes (a ∷ b ∷ []) h = absurd (omega (arith, h))
-as_lanes (a ∷ b ∷ c ∷ []) h = absurd (omega (arith, h))
-as_lanes (a ∷ b ∷ c ∷ d ∷ []) h = refl
-as_lanes (a ∷ b ∷ c ∷ d ∷ e ∷ v) h = absurd (omega (arith, h))
-
--- ---- a vector stored in a row
+-- ---- the first m lanes of a vector stored in a row
 
 none-filled : (d : List Float) (p : ℕ) (f : ℕ → Float) → d ≡ fill d p 0 f
 unfolding fill
 none-filled d p f = refl
 
-module _ (d : List Float) (p : ℕ) (v : List Float) (four : length v ≡ 4) where
-  abbrev lane : ℕ → Float
-  lane k = get_or v k nan
+length-part : (d : List Float) (p m : ℕ) → p + m ≤ length d → length (mid_of p (p + m - p) d) ≡ m
+length-part d p m h = let size : p + m - p ≡ m = omega arith in rw size (length-chunk p m d h)
 
-  -- its first m lanes,
-  pub some-stored : (m : ℕ) (w : List Float) → w ≡ take m v → m ≤ 4 → p + m ≤ length d → put_mid p (p + m - p) d w ≡ fill d p m lane
-  some-stored m w e l h =
-      let a : p + 0 ≡ p = omega arith in
-      let b : 0 + m ≡ m = omega arith in
-      rw (a, b) at (some-more d d p 0 lane (none-filled d p lane) m w (e ∙ ap (λ (xs : List Float). take m xs) (as_lanes v four)) l (omega (arith, h)))
-
-  -- or all
-  pub four-stored : p + 4 ≤ length d → put_mid p (p + 4 - p) d (put_chunk 0 (take (p + 4 - p) (drop p d)) v) ≡ fill d p 4 lane
-  four-stored h = let a : p + 0 ≡ p = omega arith in rw a at (four-more d d p 0 lane (none-filled d p lane) v (as_lanes v four) (omega (arith, h)))
+stored : (d v w : List Float) (p m : ℕ) (f : ℕ → Float) → v ≡ lanes_of f → m ≤ 4 → p + m ≤ length d → w ≡ take (length (mid_of p (p + m - p) d)) v → put_mid p (p + m - p) d w ≡ fill d p m f
+stored d v w p m f e l h is =
+    let a : p + 0 ≡ p = omega arith in
+    let b : 0 + m ≡ m = omega arith in
+    rw (a, b) at (some-more d d p 0 f (none-filled d p f) m w (is ∙ rw (length-part d p m h, e)) l (omega (arith, h)))
 
 -- ---- runs apart from each other
 
@@ -86,25 +71,62 @@ three-more d o plane n m f x y z l ex ey ez =
     let t3 : fill (fill e3 (o + 2 * plane) n (f 2)) (o + 2 * plane + n) m z ≡ fill e3 (o + 2 * plane) (n + m) (f 2) = fill-then e3 (o + 2 * plane) n m (f 2) z (f 2) (λ k h. refl) ez in
     rw (s1, s2, t1, s3, t2, t3)
 
+three-kept : (d : List Float) (o plane n : ℕ) (f : ℕ → ℕ → Float) → length (three_fill d o plane n f) ≡ length d
+unfolding three_fill
+three-kept d o plane n f = simp length-fill
+
 -- ---- a row of n lanes by vectors, of which the last one is cut: m lanes of vector b
-module _ (d : List Float) (o b n m : ℕ) (below : b * 4 < n) (size : m ≡ min (n - b * 4) 4) where
+module _ (d now : List Float) (o b n m : ℕ) (below : b * 4 < n) (size : m ≡ min (n - b * 4) 4) where
   before : min (b * 4) n ≡ b * 4
   before = omega (arith, below)
 
   after : min ((b + 1) * 4) n ≡ b * 4 + m
   after = omega (arith, below, size)
 
-  lanes-are : (f : ℕ → Float) (v : List Float) → v ≡ lanes_of (λ k. f (b * 4 + k)) → (k : ℕ) → k < m → get_or v k nan ≡ f (b * 4 + k)
-  lanes-are f v e k l = rw e (lane-is (λ k. f (b * 4 + k)) k (omega (arith, l, size)))
+  -- the lanes of the vector
+  abbrev next : (ℕ → Float) → ℕ → Float
+  next f k = f (b * 4 + k)
+
+  -- `part` is what `store` leaves of the samples from index p on
+  abbrev Stores : ℕ → List Float → List Float → List Float → Type 0
+  Stores p d v part = part ≡ take (length (mid_of p (p + m - p) d)) v
 
   -- in one plane
-  pub one-vector-more : (f : ℕ → Float) (now v : List Float) → now ≡ fill d o (min (b * 4) n) f → v ≡ lanes_of (λ k. f (b * 4 + k)) → fill now (o + b * 4) m (λ k. get_or v k nan) ≡ fill d o (min ((b + 1) * 4) n) f
-  one-vector-more f now v is e = rw (is, before, after) (fill-then d o (b * 4) m f (λ k. get_or v k nan) f (λ k l. refl) (lanes-are f v e))
+  pub one-vector-more : (f : ℕ → Float) (v part : List Float) → o + n ≤ length d → now ≡ fill d o (min (b * 4) n) f → v ≡ lanes_of (next f) → Stores (o + b * 4) now v part
+      → put_mid (o + b * 4) (o + b * 4 + m - (o + b * 4)) now part ≡ fill d o (min ((b + 1) * 4) n) f
+  one-vector-more f v part h is e s =
+      let long : length now ≡ length d = rw is (length-fill d o (min (b * 4) n) f) in
+      rw (stored now v part (o + b * 4) m (next f) e (omega (arith, size)) (omega (arith, h, size, below, long)) s, is, before, after)
+      (fill-then d o (b * 4) m f (next f) f (λ k l. refl) (λ k l. refl))
 
   -- in three planes
-  pub three-vectors-more : (plane : ℕ) (f : ℕ → ℕ → Float) (now x y z : List Float) → n ≤ plane → now ≡ three_fill d o plane (min (b * 4) n) f
-      → x ≡ lanes_of (λ k. f 0 (b * 4 + k)) → y ≡ lanes_of (λ k. f 1 (b * 4 + k)) → z ≡ lanes_of (λ k. f 2 (b * 4 + k))
-      → fill (fill (fill now (o + b * 4) m (λ k. get_or x k nan)) (o + plane + b * 4) m (λ k. get_or y k nan)) (o + 2 * plane + b * 4) m (λ k. get_or z k nan) ≡ three_fill d o plane (min ((b + 1) * 4) n) f
-  three-vectors-more plane f now x y z l is ex ey ez =
-      rw (is, before, after)
-      (three-more d o plane (b * 4) m f (λ k. get_or x k nan) (λ k. get_or y k nan) (λ k. get_or z k nan) (omega (arith, l, size)) (lanes-are (f 0) x ex) (lanes-are (f 1) y ey) (lanes-are (f 2) z ez))
+  module _ (plane : ℕ) (f : ℕ → ℕ → Float) (x y z part-x part-y part-z : List Float) where
+    abbrev first : ℕ
+    first = o + b * 4
+
+    abbrev second : ℕ
+    second = o + plane + b * 4
+
+    abbrev third : ℕ
+    third = o + 2 * plane + b * 4
+
+    abbrev now-x : List Float
+    now-x = put_mid first (first + m - first) now part-x
+
+    abbrev now-y : List Float
+    now-y = put_mid second (second + m - second) now-x part-y
+
+    abbrev now-z : List Float
+    now-z = put_mid third (third + m - third) now-y part-z
+
+    pub three-vectors-more : n ≤ plane → o + 2 * plane + n ≤ length d → now ≡ three_fill d o plane (min (b * 4) n) f → x ≡ lanes_of (next (f 0)) → y ≡ lanes_of (next (f 1)) → z ≡ lanes_of (next (f 2))
+        → Stores first now x part-x → Stores second now-x y part-y → Stores third now-y z part-z → now-z ≡ three_fill d o plane (min ((b + 1) * 4) n) f
+    three-vectors-more l h is ex ey ez sx sy sz =
+        let long : length now ≡ length d = rw is (three-kept d o plane (min (b * 4) n) f) in
+        let four : m ≤ 4 = omega (arith, size) in
+        let ax : now-x ≡ fill now first m (next (f 0)) = stored now x part-x first m (next (f 0)) ex four (omega (arith, h, size, below, long)) sx in
+        let long-x : length now-x ≡ length d = rw ax (length-fill now first m (next (f 0)) ∙ long) in
+        let ay : now-y ≡ fill now-x second m (next (f 1)) = stored now-x y part-y second m (next (f 1)) ey four (omega (arith, l, h, size, below, long-x)) sy in
+        let long-y : length now-y ≡ length d = rw ay (length-fill now-x second m (next (f 1)) ∙ long-x) in
+        let az : now-z ≡ fill now-y third m (next (f 2)) = stored now-y z part-z third m (next (f 2)) ez four (omega (arith, h, size, below, long-y)) sz in
+        rw (az, ay, ax, is, before, after) (three-more d o plane (b * 4) m f (next (f 0)) (next (f 1)) (next (f 2)) (omega (arith, l, below, size)) (λ k l. refl) (λ k l. refl) (λ k l. refl))

@@ -4,8 +4,7 @@
 // Three planes go together, since they share a lane's weights; another number of planes goes plane by plane. One function
 // for both would need a loop over planes within the loop over lanes. The tile's arrays stay side by side: with a struct
 // of them each clause would name `tile.entry.fields.now` for `fields.now`.
-ghost use Rattle.std.specs.Prelude.{◌≡◌, ℕ, ◌+◌, ◌*◌, ◌<◌, ◌≤◌, length, get_or};
-ghost use Rattle.std.specs.Float.{nan};
+ghost use Rattle.std.specs.Prelude.{◌≡◌, ℕ, ◌+◌, ◌*◌, ◌<◌, ◌≤◌, length, take};
 ghost use Rattle.planes.specs.Fill.{fill};
 ghost use Rattle.planes.specs.Rect.{rows_fill};
 ghost use Rattle.epf_rects.specs.Rects.{rect_filled, RectFits};
@@ -22,19 +21,22 @@ use limits::BLOCK;
 use planes::Layout;
 use std::simd::prelude::*;
 
-// Stores the first m lanes of a vector from index p on.
-fn store(dst: &mut [f32], p: usize, v: f32x4, m: usize)
-    requires { (m ≤ 4) × (p + m ≤ length dst.old) }
-    ensures { dst.new ≡ fill dst.old p m (λ (k : ℕ). get_or v k nan) }
+// Stores the first lanes of a vector, as many as the slice holds.
+fn store(dst: &mut [f32], v: f32x4)
+    requires { length dst.old ≤ 4 }
+    ensures { dst.new ≡ take (length dst.old) v }
 {
+    let m = dst.len();
     if m == 4 {
-        v.copy_to_slice(&mut dst[p..p + 4]);
+        v.copy_to_slice(dst);
         return;
     }
-    dst[p..p + m].copy_from_slice(&v.to_array()[..m]);
+    dst.copy_from_slice(&v.to_array()[..m]);
 }
 
 // Lanes i to i + 3 of row r in step STEP, in three planes. The row's slopes start at index `first`.
+// Form: `r` and `i` are the place of a lane, here, in `one_vector` and in `weights`, which are the hot loop; a struct of them would be
+// made for each vector.
 fn three_vectors<const STEP: usize>(
     fields: &[f32; FIELDS],
     slopes: &[f32; SLOPES],
@@ -99,9 +101,9 @@ fn three_lanes<const STEP: usize>(
         let i = b * 4;
         let m = (n - i).min(4);
         let v = three_vectors::<STEP>(fields, slopes, win, first, r, i);
-        store(dst, at + i, v.0, m);
-        store(dst, at + plane + i, v.1, m);
-        store(dst, at + 2 * plane + i, v.2, m);
+        store(&mut dst[at + i..at + i + m], v.0);
+        store(&mut dst[at + plane + i..at + plane + i + m], v.1);
+        store(&mut dst[at + 2 * plane + i..at + 2 * plane + i + m], v.2);
     }
 }
 
@@ -127,7 +129,7 @@ fn one_lanes<const STEP: usize>(
         let i = b * 4;
         let m = (n - i).min(4);
         let v = one_vector::<STEP>(fields, slopes, win, c, first, r, i);
-        store(dst, at + i, v, m);
+        store(&mut dst[at + i..at + i + m], v);
     }
 }
 
