@@ -10,7 +10,6 @@ ghost use Rattle.planes.specs.Rect.{rows_fill};
 ghost use Rattle.epf_rects.specs.Rects.{rect_filled, RectFits};
 ghost use Rattle.epf_rects.specs.Three.{three_fill};
 ghost use Rattle.epf_sizes.specs.Sizes.{lanes, tile_rows};
-ghost use Rattle.epf_slopes.specs.Slopes.{slope_columns};
 ghost use Rattle.epf_lanes.specs.Lanes.{row_of, row_lanes, tile_of, RowFits, LanesFit};
 
 use crate::weights::{mix, weights};
