@@ -6,7 +6,7 @@ ghost use Rattle.std.specs.Prelude.{◌≡◌};
 ghost use Rattle.refusals.specs.Flags.{flag_fits, flag_set};
 ghost use Rattle.refusals.specs.Refusals.{number, number_of};
 
-#[derive(Clone, Copy, Debug, PartialEq, Eq)]
+#[derive(Clone, Copy, Debug, PartialEq, Eq, PartialOrd, Ord)]
 pub enum Refusal {
     // From the file.
     BitsRunOut = 1,
@@ -45,11 +45,11 @@ impl From<Refusal> for u32 {
 
 // The number that a call answers on the C boundary: 0, or that of its refusal.
 // Form: the C interface answers numbers, and this is the step to them.
-pub fn number_of(answer: Result<(), Refusal>) -> u32
+pub fn number_of<T: Copy>(answer: Result<T, Refusal>) -> u32
     ensures { result ≡ number_of answer }
 {
     match answer {
-        Ok(()) => ACCEPTED,
+        Ok(_) => ACCEPTED,
         Err(refusal) => u32::from(refusal),
     }
 }
