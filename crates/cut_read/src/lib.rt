@@ -38,7 +38,7 @@ impl From<Result<u32, Refusal>> for CountAnswer {
 
     fn from(counted: Result<u32, Refusal>) -> CountAnswer {
         CountAnswer {
-            number: number_of(counted.map(|_| ())),
+            number: number_of(counted),
             count: counted.unwrap_or_default(),
         }
     }
@@ -51,7 +51,7 @@ impl From<Result<Region, Refusal>> for CutAnswer {
 
     fn from(found: Result<Region, Refusal>) -> CutAnswer {
         CutAnswer {
-            number: number_of(found.map(|_| ())),
+            number: number_of(found),
             region: found.unwrap_or_default(),
         }
     }

@@ -32,7 +32,7 @@ impl From<Result<usize, Refusal>> for LengthAnswer {
 
     fn from(needed: Result<usize, Refusal>) -> LengthAnswer {
         LengthAnswer {
-            number: number_of(needed.map(|_| ())),
+            number: number_of(needed),
             length: needed.unwrap_or_default(),
         }
     }

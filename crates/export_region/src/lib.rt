@@ -27,7 +27,7 @@ impl From<Result<bool, Refusal>> for BoolAnswer {
 
     fn from(answer: Result<bool, Refusal>) -> BoolAnswer {
         BoolAnswer {
-            number: number_of(answer.map(|_| ())),
+            number: number_of(answer),
             holds: answer.unwrap_or_default(),
         }
     }
@@ -46,7 +46,7 @@ impl From<Result<i32, Refusal>> for EdgeAnswer {
 
     fn from(answer: Result<i32, Refusal>) -> EdgeAnswer {
         EdgeAnswer {
-            number: number_of(answer.map(|_| ())),
+            number: number_of(answer),
             edge: answer.unwrap_or_default(),
         }
     }

@@ -146,29 +146,29 @@ periods : (n k h m : ℕ) → k ≡ m + h * (2 * n) → m < 2 * n → mirror (po
 unfolding mirror modℤ
 periods n k h m e l = rw (e, add-mul-mod_self_right m h (2 * n), mod-eq_of_lt l)
 
--- Runs of n indices ascend and descend alternately: in an even run the mirrored index is k mod n,
+-- Laps of n indices ascend and descend alternately: in an even lap the mirrored index is k mod n,
 pub mirror-even : (n k : ℕ) → 0 < n → k / n % 2 ≡ 0 → mirror (pos k) n ≡ k % n
 mirror-even n k p e =
     let l : k % n < n = mod-lt k p in
-    let r : k / n * n ≡ k / n / 2 * (2 * n) = even-run in
+    let r : k / n * n ≡ k / n / 2 * (2 * n) = even-lap in
     periods n k (k / n / 2) (k % n) (omega (arith, div-add-mod' k n)) (omega arith) ∙ folded_low n (k % n) l
   where
-    even-run : k / n * n ≡ k / n / 2 * (2 * n)
-    even-run =
+    even-lap : k / n * n ≡ k / n / 2 * (2 * n)
+    even-lap =
         let h : k / n ≡ k / n / 2 * 2 = omega (arith, div-add-mod' (k / n) 2) in
         ap (λ (q : ℕ). q * n) h ∙ mul_assoc (k / n / 2) 2 n
 
--- and in an odd run it is n - 1 - k mod n.
+-- and in an odd lap it is n - 1 - k mod n.
 pub mirror-odd : (n k : ℕ) → 0 < n → (k / n % 2 ≡ 0 → ⊥) → mirror (pos k) n ≡ n - 1 - k % n
 mirror-odd n k p e =
     let l : k % n < n = mod-lt k p in
-    let r : k / n * n ≡ k / n / 2 * (2 * n) + n = odd-run in
+    let r : k / n * n ≡ k / n / 2 * (2 * n) + n = odd-lap in
     periods n k (k / n / 2) (n + k % n) (omega (arith, div-add-mod' k n)) (omega arith)
     ∙ folded-high n (n + k % n) (omega arith)
     ∙ omega arith
   where
-    odd-run : k / n * n ≡ k / n / 2 * (2 * n) + n
-    odd-run =
+    odd-lap : k / n * n ≡ k / n / 2 * (2 * n) + n
+    odd-lap =
         let h : k / n ≡ suc (k / n / 2 * 2) = omega (arith, div-add-mod' (k / n) 2, mod-lt (k / n) {m = 2} (omega arith)) in
         ap (λ (q : ℕ). q * n) h ∙ suc-mul (k / n / 2 * 2) n ∙ ap (λ (t : ℕ). t + n) (mul_assoc (k / n / 2) 2 n)
 

@@ -13,12 +13,15 @@ ghost use Rattle.mirror.specs.Outcome.{mirror_checks};
 use limits::MAX_SIDE;
 use refusals::{Refusal, number_of};
 
+// Form: a region's left and top have limits of the same value (`region_axis`), but in another row of Specification 4.1 and
+// with another refusal.
 const MIN_OFFSET: isize = -1_048_576;
 
 const MAX_OFFSET: isize = 1_048_576;
 
 // The mirrored place, counted from 0; 0 in a refused call.
-// Form: C's answer, a number with zeros beside a refusal; Rust callers get the `Result`. `LengthAnswer` has a file's length.
+// Form: C's answer, a number with zeros beside a refusal; Rust callers get the `Result`. `LengthAnswer` of `cut_write` has
+// fields of these types too, but a length of a file.
 #[repr(C)]
 #[derive(Clone, Copy)]
 pub struct MirrorAnswer {
@@ -33,14 +36,13 @@ impl From<Result<usize, Refusal>> for MirrorAnswer {
 
     fn from(answer: Result<usize, Refusal>) -> MirrorAnswer {
         MirrorAnswer {
-            number: number_of(answer.map(|_| ())),
+            number: number_of(answer),
             index: answer.unwrap_or_default(),
         }
     }
 }
 
-// The mirrored index of a number that is not negative. Runs of n indices ascend and descend alternately.
-// Form: `run` counts runs of indices and is no step.
+// The mirrored index of a number that is not negative. Laps of n indices ascend and descend alternately.
 fn reflected(index: usize, n: usize) -> usize
     ensures { result ≡ mirror (pos index) n }
 {
@@ -50,9 +52,9 @@ fn reflected(index: usize, n: usize) -> usize
     if n == 0 {
         return 0;
     }
-    let run = index / n;
+    let lap = index / n;
     let inner = index % n;
-    if run % 2 == 0 { inner } else { n - 1 - inner }
+    if lap % 2 == 0 { inner } else { n - 1 - inner }
 }
 
 // The mirrored index of x - back among n samples, 0 if n is 0.

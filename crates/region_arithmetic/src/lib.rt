@@ -34,7 +34,7 @@ impl From<Result<Region, Refusal>> for RegionAnswer {
 
     fn from(made: Result<Region, Refusal>) -> RegionAnswer {
         RegionAnswer {
-            number: number_of(made.map(|_| ())),
+            number: number_of(made),
             region: made.unwrap_or_default(),
         }
     }

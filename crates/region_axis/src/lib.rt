@@ -8,6 +8,8 @@ ghost use Rattle.region_axis.specs.Measures.{corner_fits, span_fits, axis_of};
 use limits::MAX_SIDE_U32;
 use region_interval::{Axis, Span};
 
+// Form: a mirror offset has limits of the same value (`mirror`), but in another row of Specification 4.1 and with another
+// refusal.
 const LOWEST_PLACE: i64 = -1_048_576;
 
 const HIGHEST_PLACE: i64 = 1_048_576;

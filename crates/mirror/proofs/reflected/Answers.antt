@@ -1,4 +1,4 @@
--- `mirror::reflected` meets its contract: inside the row by the identity, outside by the ascending and descending runs. Assumes nothing.
+-- `mirror::reflected` meets its contract: inside the row by the identity, outside by the ascending and descending laps. Assumes nothing.
 use mathlib.Core.Path.{◌≡◌, sym}
 use native.Mathlib.Omega.{arith}
 use lib.IntN.{pos}
@@ -14,8 +14,8 @@ returns-then-n-eq0 c = sym (rw e (mirror-none (pos c.args.index)))
     e : c.args.n ≡ 0
     e = omega arith
 
-pub returns-then-run-eq0 : goal.returns-then-run-eq0
-returns-then-run-eq0 c = sym (mirror-even c.args.n c.args.index (omega arith) (omega arith))
+pub returns-then-lap-eq0 : goal.returns-then-lap-eq0
+returns-then-lap-eq0 c = sym (mirror-even c.args.n c.args.index (omega arith) (omega arith))
 
-pub returns-else-run-eq0 : goal.returns-else-run-eq0
-returns-else-run-eq0 c = sym (mirror-odd c.args.n c.args.index (omega arith) (λ e. omega arith))
+pub returns-else-lap-eq0 : goal.returns-else-lap-eq0
+returns-else-lap-eq0 c = sym (mirror-odd c.args.n c.args.index (omega arith) (λ e. omega arith))
