@@ -1,6 +1,6 @@
 // Numbers in the bytes of a cut file, the least significant byte first (Specification 16.1).
-// Form: `u16_at`, `u32_at`, `i32_at`, `put_u16` and `put_u32` have the widths of the file's form in their names, and each
-// is one call of `bytes_at` or `put` with the library's method.
+// Form: one function for each kind of number in a file, two bytes, four, or four with a sign. Each is one line, and what
+// they share is `bytes_at` and `put`.
 #![tactic(auto)]
 
 ghost use Rattle.std.specs.Prelude.{◌≡◌, ◌+◌, ◌<◌, ℕ, get_or};

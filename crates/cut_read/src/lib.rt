@@ -14,7 +14,8 @@ use refusals::{Refusal, number_of};
 use region::Region;
 
 // How many rectangles a file has; 0 in a refused call.
-// Form: C's answer, a number with zeros beside a refusal; Rust callers get the `Result`. No other counts rectangles.
+// Form: C's answer, a number with zeros beside a refusal; Rust callers get the `Result`. `MarginAnswer` of `run_passes` has
+// fields of these types too, but a margin.
 #[repr(C)]
 #[derive(Clone, Copy)]
 pub struct CountAnswer {
@@ -23,7 +24,8 @@ pub struct CountAnswer {
 }
 
 // The region of a rectangle.
-// Form: C's answer, a number with zeros beside a refusal; Rust callers get the `Result`. `RegionAnswer` has another name in C.
+// Form: C's answer, a number with zeros beside a refusal; Rust callers get the `Result`. `RegionAnswer` has the same fields,
+// but C's interface names two structs.
 #[repr(C)]
 #[derive(Clone, Copy)]
 pub struct CutAnswer {

@@ -17,7 +17,8 @@ use refusals::{Refusal, number_of};
 use region::Region;
 
 // The length of a file, in bytes.
-// Form: C's answer, a number with zeros beside a refusal; Rust callers get the `Result`. `MirrorAnswer` has an index.
+// Form: C's answer, a number with zeros beside a refusal; Rust callers get the `Result`. `MirrorAnswer` of `mirror` has
+// fields of these types too, but an index.
 #[repr(C)]
 #[derive(Clone, Copy)]
 pub struct LengthAnswer {

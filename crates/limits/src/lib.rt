@@ -1,6 +1,6 @@
 // Limits of Specification 4.1, and sizes that several crates use.
-// Form: a limit's value stands once and has a second name as `usize`: sides of regions are `u32`, lengths and indices in
-// planes `usize`, and a cast at each use would be no plainer.
+// Form: `MAX_SIDE` and `BLOCK` are `MAX_SIDE_U32` and `BLOCK_U32` as `usize`: sides of regions and frames are `u32`, sides
+// and indices in planes `usize`, and a cast at each use would be no plainer.
 #![tactic(auto)]
 
 // The longest side of a region or a frame, in samples.

@@ -12,7 +12,7 @@ use limits::MAX_SIDE;
 pub const PLANES: usize = 3;
 
 // The sides of a region, in samples.
-// Form: `Grid` counts cells of a group, in `u32`; `EdgeRow` and `Tap` are indices, and `RowSpan` a row and a count.
+// Form: `Grid` has sides too, but in cells of a group; `EdgeRow`, `Tap` and `RowSpan` have two `usize` too, but no sides.
 #[derive(Clone, Copy, Debug, PartialEq, Eq)]
 pub struct Size {
     pub width: usize,
@@ -21,7 +21,7 @@ pub struct Size {
 
 // The position of a filter region in an image region: `left` and `top` count from the image region's corner.
 // `full`: the result region is the image region (`preserve_outside` is 1), otherwise the filter region.
-// Form: an enum in place of `full` would have no values of its own in either case.
+// Form: `full` is a `bool`: with either result region all other fields are needed, so an enum would be two bare names.
 #[derive(Clone, Copy, Debug, PartialEq, Eq)]
 pub struct Layout {
     pub image: Size,
@@ -51,7 +51,7 @@ pub fn layout_fits(l: Layout) -> bool
 }
 
 // Whether a slice of this length is a set of n planes.
-// Form: the length alone, as no sample is read.
+// Form: the length in place of the slice, since `Rect::fits` of `epf_rects`, which calls this, is told a length too.
 pub fn set_fits(l: Layout, n: usize, len: usize) -> bool
     ensures { result ≡ set_fits l n len }
 {
@@ -78,6 +78,8 @@ pub fn filter_row(l: Layout, y: usize) -> usize
 }
 
 // Copies n samples from index `from` of `src` to index `at` of `dst`. Does nothing if either slice is too short.
+// Form: indices and a count in place of two parts of slices: a part that is not in its slice is skipped here, once for all
+// callers, while a caller that cuts the parts would need a `requires` or a test.
 #[tactic(auto, using(crate::proofs::Copy::no_room, crate::proofs::Copy::no_source))]
 pub fn copy_run(dst: &mut [f32], at: usize, src: &[f32], from: usize, n: usize)
     ensures { dst.new ≡ copied_run dst.old at src.now from n }

@@ -46,6 +46,8 @@ fn copy_rows_outside(src: &[f32], dst: &mut [f32], l: Layout, from: usize, n: us
 }
 
 // The same for these rows in the first n planes.
+// Form: `src`, `dst` and `n` are what `copy_outside` was given, and it alone calls this: a struct of them or a type of
+// layouts that fit would be made for one call.
 fn copy_planes_outside(src: &[f32], dst: &mut [f32], l: Layout, n: usize, from: usize, rows: usize)
     requires layout_fits { LayoutFits l }
     requires n_bound { (n ≤ 3) × (length src.now ≡ n * l.image.height * l.image.width)
@@ -70,6 +72,7 @@ fn fills_image(l: Layout) -> bool
 
 // Copies the samples outside the filter region in rows `from` up to, not including, `to` of the result region. Does
 // nothing if sets, layout or rows do not fit.
+// Form: `src` is read and `dst` written, so they are two parameters, and n is told apart: both are sets of n planes.
 #[tactic(auto, using(planes::proofs::Stored::no_source, planes::proofs::Stored::no_target, planes::proofs::Stored::no_rows))]
 pub fn copy_outside(src: &[f32], dst: &mut [f32], l: Layout, n: usize, from: usize, to: usize)
     ensures { dst.new ≡ copied_outside l n from to src.now dst.old }

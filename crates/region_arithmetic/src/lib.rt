@@ -19,7 +19,8 @@ use region_interval::overlap::{meet, vacant};
 use region_interval::{LARGEST_EXPONENT, Span};
 
 // A region made from others; zeros in a refused call.
-// Form: C's answer, a number with zeros beside a refusal; Rust callers get the `Result`. `CutAnswer` has another name in C.
+// Form: C's answer, a number with zeros beside a refusal; Rust callers get the `Result`. `CutAnswer` of `cut_read` has the
+// same fields, but C's interface names two structs.
 #[repr(C)]
 #[derive(Clone, Copy)]
 pub struct RegionAnswer {

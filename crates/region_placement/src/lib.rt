@@ -12,7 +12,7 @@ use refusals::Refusal;
 use region::Region;
 
 // Columns and rows from the image region's corner.
-// Form: other structs of two `u32` hold sides of a grid, a block's place in its group, or a number beside a value.
+// Form: `Grid`, `Split`, `CountAnswer` and `MarginAnswer` have two `u32` too, but no columns and rows of samples.
 #[derive(Clone, Copy, Debug, PartialEq, Eq)]
 pub struct Place {
     pub x: u32,
