@@ -54,7 +54,11 @@ fn reflected(index: usize, n: usize) -> usize
     }
     let lap = index / n;
     let inner = index % n;
-    if lap % 2 == 0 { inner } else { n - 1 - inner }
+    if lap.is_multiple_of(2) {
+        inner
+    } else {
+        n - 1 - inner
+    }
 }
 
 // The mirrored index of x - back among n samples, 0 if n is 0.

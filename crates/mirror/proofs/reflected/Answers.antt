@@ -1,5 +1,6 @@
 -- `mirror::reflected` meets its contract: inside the row by the identity, outside by the ascending and descending laps. Assumes nothing.
-use mathlib.Core.Path.{◌≡◌, sym}
+use mathlib.Core.Path.{◌≡◌, refl, sym}
+use mathlib.Core.Bool.{false≢true}
 use native.Mathlib.Omega.{arith}
 use lib.IntN.{pos}
 use Rattle.mirror.proofs.Laws.{mirror-in, mirror-none, mirror-even, mirror-odd}
@@ -14,8 +15,8 @@ returns-then-n-eq0 c = sym (rw e (mirror-none (pos c.args.index)))
     e : c.args.n ≡ 0
     e = omega arith
 
-pub returns-then-lap-eq0 : goal.returns-then-lap-eq0
-returns-then-lap-eq0 c = sym (mirror-even c.args.n c.args.index (omega arith) (omega arith))
+pub returns-then-is_multiple_of : goal.returns-then-is_multiple_of
+returns-then-is_multiple_of c = sym (mirror-even c.args.n c.args.index (omega arith) (c.if-is_multiple_of.ensures.0 refl))
 
-pub returns-else-lap-eq0 : goal.returns-else-lap-eq0
-returns-else-lap-eq0 c = sym (mirror-odd c.args.n c.args.index (omega arith) (λ e. omega arith))
+pub returns-else-is_multiple_of : goal.returns-else-is_multiple_of
+returns-else-is_multiple_of c = sym (mirror-odd c.args.n c.args.index (omega arith) (λ e. false≢true (c.if-is_multiple_of.ensures.1 e)))
