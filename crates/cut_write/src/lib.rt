@@ -77,10 +77,9 @@ fn put_table(file: &mut [u8], table: CutTable)
         (table_bytes (rectangle table) table.count table.count) }
 {
     let mut end = entry_at(table.count);
-    for i in 0..table.count {
-        let r = table.regions[i as usize];
-        put_entry(file, entry_at(i), end as u32, r);
-        end += 4 * sample_count(r);
+    for (i, r) in table.regions[..table.count as usize].iter().enumerate() {
+        put_entry(file, entry_at(i as u32), end as u32, *r);
+        end += 4 * sample_count(*r);
     }
 }
 

@@ -3,12 +3,15 @@ use mathlib.Core.Path.{◌≡◌, refl, ap, ◌∙◌}
 use mathlib.Core.Bool.{cond}
 use Prim.Native.Nat.{ℕ, ◌+◌, ◌*◌, ◌≤◌, ◌<◌}
 use native.Mathlib.Omega.{arith}
-use lib.ListN.{length}
-use lib.Seq.{length-sets}
+use lib.ListN.{length, get_or, take}
+use lib.Seq.{sets}
+use Rattle.std.proofs.lemmas.List.{length-take, get_or-take}
 use Rattle.refusals.proofs.Tables.{of-true}
+use Rattle.region.specs.declared.Region.{Region}
 use Rattle.region.specs.Measures.{picture_fits}
+use Rattle.region.specs.Regions.{zero_region}
 use Rattle.cut_file.specs.declared.CutTable.{CutTable}
-use Rattle.cut_file.specs.File.{sample_count, body_at, table_bytes}
+use Rattle.cut_file.specs.File.{sample_count, body_at, entry_bytes, table_bytes}
 use Rattle.cut_file.specs.Write.{rectangle, rectangles_fit}
 use Rattle.cut_write.specs.Fits.{TableFits}
 use Rattle.cut_file.proofs.Laws.{Sampled, sampled, body-next, body-grows}
@@ -17,10 +20,18 @@ use Rattle.cut_write.proofs.Bytes.{table-parts}
 use Rattle.cut_write.proofs.Tables.{each_fits}
 use Rattle.cut_write.proofs.put_table.Goals as goal
 
--- rectangle i of a table that fits: its samples
-counted : (t : CutTable) (len i n : ℕ) → TableFits t len → i < t.count → n ≡ cond (picture_fits (rectangle t i)) (sample_count (rectangle t i)) 0 → Sampled (rectangle t i) n
-counted t len i n f l e =
-    sampled (rectangle t i) n (each_fits (rectangle t) t.count i (of-true (rectangles_fit (rectangle t) t.count) f.rectangles-fit) l) e
+-- rectangle i of those that the loop goes over
+record Taken (t : CutTable) (len i : ℕ) (r : Region) : Type 0 where
+  below : i < t.count
+  is : r ≡ rectangle t i
+  samples : (n : ℕ) → n ≡ cond (picture_fits r) (sample_count r) 0 → Sampled (rectangle t i) n
+
+taken : (t : CutTable) (len i : ℕ) → TableFits t len → i < length (take t.count t.regions) → Taken t len i (get_or (take t.count t.regions) i zero_region)
+taken t len i f l =
+    let below : i < t.count = omega (arith, length-take t.count t.regions) in
+    let is : get_or (take t.count t.regions) i zero_region ≡ rectangle t i = get_or-take t.count t.regions i zero_region below in
+    let fits = each_fits (rectangle t) t.count i (of-true (rectangles_fit (rectangle t) t.count) f.rectangles-fit) below in
+    record { below = below; is = is; samples = λ n e. sampled (rectangle t i) n fits (e ∙ ap (λ (q : Region). cond (picture_fits q) (sample_count q) 0) is) }
 
 -- the bodies so far end in the file
 short : (t : CutTable) (len i end : ℕ) → TableFits t len → i ≤ t.count → end ≡ body_at (rectangle t) t.count i → end ≤ 16777216
@@ -32,32 +43,36 @@ room t len i f l = omega (arith, f.length-is, body-at (rectangle t) t.count t.co
 
 pub loop-i-init : goal.loop-i-init
 unfolding body_at table_bytes
-loop-i-init c = (omega arith, c.entry_at-end.ensures, refl)
+loop-i-init c = (c.entry_at-end.ensures, refl)
 
 pub overflow_cast-end : goal.overflow_cast-end
 overflow_cast-end c =
-    omega (arith, short _ _ _ _ c.requires c.loop-i.invariant.0 c.loop-i.invariant.1)
+    let k = taken _ _ _ c.requires c.loop-i-test.true in
+    omega (arith, short _ _ c.loop-i.i _ c.requires (omega (arith, k.below)) c.loop-i.invariant.0)
 
 pub put_entry-requires : goal.put_entry-requires
 put_entry-requires c =
-    let kept : length c.loop-i.file ≡ length c.args.file.now = ap length c.loop-i.invariant.2 ∙ simp length-sets in
-    let r : 22 + 16 * c.loop-i.i ≤ length c.args.file.now = room _ _ c.loop-i.i c.requires (omega arith) in
-    omega (arith, c.entry_at.ensures, kept, r)
+    let k = taken _ _ _ c.requires c.loop-i-test.true in
+    let r : 22 + 16 * c.loop-i.i ≤ length c.args.file.now = room _ _ c.loop-i.i c.requires k.below in
+    omega (arith, c.entry_at.ensures, c.loop-i.auto.file, r)
 
 pub overflow_mul-end : goal.overflow_mul-end
 overflow_mul-end c =
-    omega (arith, (counted _ _ c.loop-i.i _ c.requires (omega arith) c.sample_count.ensures).le)
+    let k = taken _ _ _ c.requires c.loop-i-test.true in
+    omega (arith, (k.samples _ c.sample_count.ensures).le)
 
 pub overflow_add-end : goal.overflow_add-end
 overflow_add-end c =
-    omega (arith, (counted _ _ c.loop-i.i _ c.requires (omega arith) c.sample_count.ensures).le, short _ _ _ _ c.requires c.loop-i.invariant.0 c.loop-i.invariant.1)
+    let k = taken _ _ _ c.requires c.loop-i-test.true in
+    omega (arith, (k.samples _ c.sample_count.ensures).le, short _ _ c.loop-i.i _ c.requires (omega (arith, k.below)) c.loop-i.invariant.0)
 
 pub loop-i-preserved : goal.loop-i-preserved
 loop-i-preserved c =
     let t : CutTable = c.args.table in
-    let s = counted _ _ c.loop-i.i _ c.requires (omega arith) c.sample_count.ensures in
+    let k = taken _ _ _ c.requires c.loop-i-test.true in
+    let s = k.samples _ c.sample_count.ensures in
+    let stored = c.put_entry.ensures ∙ ap (λ (q : Region). sets c.loop-i.file c.entry_at.result (entry_bytes c.loop-i.end q)) k.is in
     let v = c.loop-i.invariant in (
-      omega arith,
-      omega (arith, s.are, v.1, body-next (rectangle t) t.count c.loop-i.i),
-      table-parts (rectangle t) t.count c.args.file.now _ _ c.loop-i.i _ _ v.2 c.entry_at.ensures v.1 c.put_entry.ensures,
+      omega (arith, s.are, v.0, body-next (rectangle t) t.count c.loop-i.i),
+      table-parts (rectangle t) t.count c.args.file.now _ _ c.loop-i.i _ _ v.1 c.entry_at.ensures v.0 stored,
     )

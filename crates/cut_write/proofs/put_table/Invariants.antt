@@ -1,12 +1,10 @@
 -- `cut_write::put_table` meets its contract: after i turns the first i entries are stored. Assumes nothing.
 use mathlib.Core.Path.{◌≡◌}
-use Prim.Native.Nat.{◌≤◌}
 use lib.Seq.{sets}
 use Rattle.cut_file.specs.File.{body_at, table_bytes}
 use Rattle.cut_file.specs.Write.{rectangle}
 use Rattle.cut_write.proofs.put_table.Given as goal
 
 abbrev pub invariant-loop-i : goal.invariant-loop-i
-invariant-loop-i l = (l.i ≤ l.table.count)
-    × (l.end ≡ body_at (rectangle l.table) l.table.count l.i)
-    × (l.file ≡ sets l.initial.file 6 (table_bytes (rectangle l.table) l.table.count l.i))
+invariant-loop-i l = (l.end ≡ body_at (rectangle l.fn.table) l.fn.table.count l.i)
+    × (l.file ≡ sets l.initial.file 6 (table_bytes (rectangle l.fn.table) l.fn.table.count l.i))
