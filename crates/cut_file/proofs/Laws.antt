@@ -1,5 +1,5 @@
 -- Laws of cut files: where bodies start, the checks of one entry after another, and what holds in a file that is accepted. Assumes nothing.
-use mathlib.Core.Path.{◌≡◌, refl, ◌∙◌, subst}
+use mathlib.Core.Path.{◌≡◌, refl, subst}
 use mathlib.Core.Bool.{Bool, true, false, true≢false, cond, not, ◌&&◌, ◌||◌}
 use mathlib.Core.List.{List}
 use mathlib.Core.Logic.{⊎_elim}
@@ -11,6 +11,7 @@ use borrow.Author.Tests.{ltb-false, eqb-true, eqb-false, not-false}
 use lib.Dec.{T, eqb, leb, ltb, leb→le, eqb→eq}
 use lib.Ieee.Fits.{and_l, and_r}
 use lib.ListN.{length}
+use Rattle.std.specs.Prelude.{Option, Some, None}
 use Rattle.refusals.specs.Checks.{first_of}
 use Rattle.refusals.proofs.Tables.{is_true, numbered, of-true, NoneApplies, zero-none}
 use Rattle.refusals.proofs.Rows.{or_else}
@@ -30,18 +31,36 @@ area-le r t =
     let h = and_r (leb 1 r.width) (leb 1 r.height && leb (r.width * r.height) 16777216) a in
     omega (arith, leb→le (r.width * r.height) 16777216 (and_r (leb 1 r.height) (leb (r.width * r.height) 16777216) h))
 
-pub samples-counted : (r : Region) → picture_fits r ≡ true → cond (picture_fits r) (sample_count r) 0 ≡ sample_count r
-samples-counted r e = rw e
-
 -- a count of the samples of a rectangle within the limits
 pub record Sampled (r : Region) (n : ℕ) : Type 0 where
   pub are : n ≡ sample_count r
   pub le : n ≤ 50331648
 
-pub sampled : (r : Region) (n : ℕ) → T (picture_fits r) → n ≡ cond (picture_fits r) (sample_count r) 0 → Sampled r n
-sampled r n t e =
-    let are : n ≡ sample_count r = e ∙ samples-counted r (is_true (picture_fits r) t) in
-    record { are = are; le = omega (arith, are, area-le r t) }
+pub sampled : (r : Region) (n : ℕ) → T (picture_fits r) → n ≡ sample_count r → Sampled r n
+sampled r n t e = record { are = e; le = omega (arith, e, area-le r t) }
+
+-- the answer of `cut_file::sample_count`
+abbrev pub counted : Region → Option ℕ
+counted r = cond (picture_fits r) (Some (sample_count r)) None
+
+-- what there being a count says, and there being none
+module _ (r : Region) (o : Option ℕ) (is : o ≡ counted r) where
+  pub count-some : (n : ℕ) → o ≡ Some n → T (picture_fits r) × Sampled r n
+  count-some n m = go (picture_fits r) refl
+    where
+      go : (b : Bool) → picture_fits r ≡ b → T (picture_fits r) × Sampled r n
+      go true e = let f : o ≡ Some (sample_count r) = rw e at is in let t = of-true (picture_fits r) e in (t, sampled r n t cc)
+      go false e = let f : ◌≡◌ {A = Option ℕ} o None = rw e at is in cc
+
+  pub count-none : ◌≡◌ {A = Option ℕ} o None → picture_fits r ≡ false
+  count-none m = go (picture_fits r) refl
+    where
+      go : (b : Bool) → picture_fits r ≡ b → picture_fits r ≡ false
+      go true e = let f : o ≡ Some (sample_count r) = rw e at is in cc
+      go false e = e
+
+  pub count-fits : T (picture_fits r) → o ≡ Some (sample_count r)
+  count-fits t = let e = is_true (picture_fits r) t in rw e at is
 
 -- ---- where bodies start
 

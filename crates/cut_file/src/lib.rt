@@ -1,9 +1,9 @@
 // The table of a cut file, and the checks of a file (Specification 16).
 #![tactic(auto)]
 
-ghost use Rattle.std.specs.Prelude.{◌≡◌, ◌+◌, ◌*◌, ◌≤◌, ◌<◌, length, cond};
+ghost use Rattle.std.specs.Prelude.{◌≡◌, ◌+◌, ◌*◌, ◌≤◌, ◌<◌, length, cond, Some, None};
 ghost use Rattle.refusals.specs.Checks.{first_of};
-ghost use Rattle.refusals.specs.Refusals.{number_of};
+ghost use Rattle.refusals.specs.Refusals.{number_of, IsOutcome};
 ghost use Rattle.region.specs.Measures.{picture_fits};
 ghost use Rattle.cut_file.specs.File.{entry_at, sample_count, body_at};
 ghost use Rattle.cut_file.specs.Read.{count_in, region_in, has_marker, bad_count, entry_checks, file_checks};
@@ -44,14 +44,14 @@ pub fn entry_at(i: u32) -> usize
     TABLE_START + ENTRY * i as usize
 }
 
-// The samples of a rectangle's three planes, 0 if it exceeds the limits.
-pub fn sample_count(r: Region) -> usize
-    ensures { result ≡ cond (picture_fits r) (sample_count r) 0 }
+// The samples of a rectangle's three planes, if it is within the limits.
+pub fn sample_count(r: Region) -> Option<usize>
+    ensures { result ≡ cond (picture_fits r) (Some (sample_count r)) None }
 {
     if !r.picture_fits() {
-        return 0;
+        return None;
     }
-    3 * (r.height as usize * r.width as usize)
+    Some(3 * (r.height as usize * r.width as usize))
 }
 
 // Whether a file can't have n rectangles: it has 1 to 64.
@@ -81,21 +81,19 @@ pub fn region_in(file: &[u8], i: u32) -> Region
     }
 }
 
-// Refuses entry i, whose body has to start at byte `end`.
-fn check_entry(file: &[u8], i: u32, end: usize) -> Result<(), Refusal>
+// The samples of entry i, whose body has to start at byte `end`.
+fn check_entry(file: &[u8], i: u32, end: usize) -> Result<usize, Refusal>
     requires { (i < 64) × (end ≡ body_at (region_in file.now) (count_in file.now) i) }
-    ensures { number_of result ≡ entry_number file.now i }
+    ensures { IsOutcome result (entry_number file.now i) (sample_count (region_in file.now i)) }
 {
     if file.len() < entry_at(i + 1) {
         return Err(Refusal::WrongEnd);
     }
-    if !region_in(file, i).picture_fits() {
-        return Err(Refusal::BadEntry);
-    }
+    let samples = sample_count(region_in(file, i)).ok_or(Refusal::BadEntry)?;
     if u32_at(file, entry_at(i)) as usize != end {
         return Err(Refusal::BadEntry);
     }
-    Ok(())
+    Ok(samples)
 }
 
 // Refuses a wrong entry, or a file that doesn't end where its last body does.
@@ -105,8 +103,7 @@ fn check_entries(file: &[u8], count: u32) -> Result<(), Refusal>
 {
     let mut end = entry_at(count);
     for i in 0..count {
-        check_entry(file, i, end)?;
-        end += 4 * sample_count(region_in(file, i));
+        end += 4 * check_entry(file, i, end)?;
     }
     if file.len() != end {
         return Err(Refusal::WrongEnd);

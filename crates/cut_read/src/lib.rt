@@ -84,7 +84,7 @@ pub fn read_cut(file: &[u8], k: u32, samples: &mut [u32]) -> Result<Region, Refu
     ensures stored { samples.new ≡ (read_outcome file.now k samples.old).samples }
 {
     let region = cut_region(file, k)?;
-    if samples.len() != sample_count(region) {
+    if sample_count(region) != Some(samples.len()) {
         return Err(Refusal::WrongLength);
     }
     let at = u32_at(file, entry_at(k)) as usize;

@@ -48,10 +48,7 @@ pub fn cut_length(table: CutTable) -> Result<usize, Refusal>
     }
     let mut end = entry_at(table.count);
     for r in &table.regions[..table.count as usize] {
-        if !r.picture_fits() {
-            return Err(Refusal::OutOfLimits);
-        }
-        end += 4 * sample_count(*r);
+        end += 4 * sample_count(*r).ok_or(Refusal::OutOfLimits)?;
     }
     if MAX_FILE < end {
         return Err(Refusal::WrongLength);
@@ -79,7 +76,7 @@ fn put_table(file: &mut [u8], table: CutTable)
     let mut end = entry_at(table.count);
     for (i, r) in table.regions[..table.count as usize].iter().enumerate() {
         put_entry(file, entry_at(i as u32), end as u32, *r);
-        end += 4 * sample_count(*r);
+        end += 4 * sample_count(*r).unwrap_or_default();
     }
 }
 

@@ -1,5 +1,4 @@
-use mathlib.Core.Path.{◌≡◌, sym, ap, ◌∙◌}
-use mathlib.Core.Bool.{cond}
+use mathlib.Core.Path.{◌≡◌, sym, ◌∙◌}
 use mathlib.Core.List.{List}
 use Prim.Native.Nat.{ℕ, suc, ◌+◌, ◌-◌, ◌≤◌, ◌<◌}
 use native.Mathlib.Omega.{arith}
@@ -10,8 +9,6 @@ use Rattle.refusals.specs.Refusals.{number}
 use Rattle.refusals.proofs.Outcomes.{number-nonzero}
 use Rattle.refusals.specs.Numbers.{accepted, wrong_end}
 use Rattle.refusals.specs.Checks.{first_of}
-use Rattle.region.specs.declared.Region.{Region}
-use Rattle.region.specs.Measures.{picture_fits}
 use Rattle.cut_file.specs.File.{sample_count, body_at}
 use Rattle.cut_file.specs.Read.{count_in, region_in, entry_checks}
 use Rattle.cut_file.specs.Entry.{entry_number}
@@ -44,8 +41,8 @@ unfolding entry_checks
 right_end s count i h n = rw (at-end s count i h, eq-eqb (length s) (body_at (region_in s) (count_in s) i) n)
 
 -- after the check of entry i, which has the number 0: its samples
-counted : (s : List ℕ) (i n : ℕ) (r : Region) → entry_number s i ≡ 0 → r ≡ region_in s i → n ≡ cond (picture_fits r) (sample_count r) 0 → Sampled (region_in s i) n
-counted s i n r e q m = sampled (region_in s i) n (entry-accepted s i e).region-fits (m ∙ ap (λ (q : Region). cond (picture_fits q) (sample_count q) 0) q)
+counted : (s : List ℕ) (i n : ℕ) → (0 ≡ entry_number s i) × (n ≡ sample_count (region_in s i)) → Sampled (region_in s i) n
+counted s i n e = sampled (region_in s i) n (entry-accepted s i (sym e.0)).region-fits e.1
 
 pub loop-i-init : goal.loop-i-init
 unfolding body_at
@@ -57,19 +54,19 @@ loop-i-init c =
       number_is = all_left c.args.file.now c.args.count;
     }
 
-pub returns-in_err-check_entry : goal.returns-in_err-check_entry
-returns-in_err-check_entry c =
+pub returns-in_err-end : goal.returns-in_err-end
+returns-in_err-end c =
     let a = c.args in
-    let e = c.in_err-check_entry.field-0.0 in
-    let n : number e ≡ entry_number a.file.now c.loop-i.i = c.in_err-check_entry.ensures in
+    let e = c.in_err-end.field-0.0 in
+    let n : number e ≡ entry_number a.file.now c.loop-i.i = c.in_err-end.ensures.0 in
     search rules ∙ n ∙ sym (c.loop-i.invariant.number_is ∙ stopped a.file.now a.count c.loop-i.i c.loop-i-test.true (λ z. number-nonzero e (n ∙ z)))
 
 pub loop-i-preserved : goal.loop-i-preserved
 loop-i-preserved c =
     let file : List ℕ = c.args.file.now in
     let inv : Checked file c.args.count c.loop-i.i c.loop-i.end = c.loop-i.invariant in
-    let none : entry_number file c.loop-i.i ≡ 0 = sym c.in_ok-check_entry.ensures in
-    let samples = counted _ _ _ _ none c.region_in.ensures c.sample_count.ensures in
+    let none : entry_number file c.loop-i.i ≡ 0 = sym c.in_ok-end.ensures.0 in
+    let samples = counted _ _ _ c.in_ok-end.ensures in
     record {
       i-le = omega arith;
       end_is = omega (arith, inv.end_is, samples.are, body-next (region_in file) (count_in file) c.loop-i.i);
@@ -91,8 +88,8 @@ returns c =
 
 pub overflow_mul-end : goal.overflow_mul-end
 overflow_mul-end c =
-    omega (arith, (counted _ _ _ _ (sym c.in_ok-check_entry.ensures) c.region_in.ensures c.sample_count.ensures).le)
+    omega (arith, (counted _ _ _ c.in_ok-end.ensures).le)
 
 pub overflow_add-end : goal.overflow_add-end
 overflow_add-end c =
-    omega (arith, (counted _ _ _ _ (sym c.in_ok-check_entry.ensures) c.region_in.ensures c.sample_count.ensures).le, c.loop-i.invariant.end-le, c.requires.0)
+    omega (arith, (counted _ _ _ c.in_ok-end.ensures).le, c.loop-i.invariant.end-le, c.requires.0)

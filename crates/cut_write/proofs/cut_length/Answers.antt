@@ -1,21 +1,24 @@
 -- `cut_write::cut_length`: each return has the number of the first check that applies. Assumes nothing.
-use mathlib.Core.Path.{◌≡◌, refl, sym, ap, ◌∙◌, subst}
-use mathlib.Core.Bool.{true, false, cond}
+use mathlib.Core.Path.{◌≡◌, sym, ap, ◌∙◌, subst}
+use mathlib.Core.Bool.{true, false}
 use borrow.Author.Rules.{rules}
 use Prim.Native.Nat.{ℕ, ◌+◌, ◌*◌, ◌≤◌, ◌<◌}
 use native.Mathlib.Omega.{arith}
 use lib.Dec.{T}
 use lib.ListN.{length, get_or, take}
 use Rattle.std.proofs.lemmas.List.{length-take, get_or-take}
-use Rattle.refusals.proofs.Tables.{is_true, of-true}
-use Rattle.region.specs.declared.Region.{Region}
+use Rattle.std.specs.Prelude.{Option, Some, None, Result, Err, ok_or}
+use Rattle.refusals.specs.Refusals.{number}
+use Rattle.refusals.specs.declared.Refusal.{Refusal}
+use Rattle.refusals.specs.declared.Refusal.TheVariants.{OutOfLimits}
+use Rattle.refusals.proofs.Tables.{is_true}
 use Rattle.region.specs.Measures.{picture_fits}
 use Rattle.region.specs.Regions.{zero_region}
 use Rattle.cut_file.specs.declared.CutTable.{CutTable}
-use Rattle.cut_file.specs.File.{sample_count, body_at, file_length}
+use Rattle.cut_file.specs.File.{body_at, file_length}
 use Rattle.cut_file.specs.Read.{bad_count}
 use Rattle.cut_file.specs.Write.{rectangle, rectangles_fit}
-use Rattle.cut_file.proofs.Laws.{Sampled, sampled, count-range, body-next}
+use Rattle.cut_file.proofs.Laws.{counted, Sampled, count-some, count-none, count-range, body-next}
 use Rattle.cut_write.proofs.Tables.{one-misfits, one_more, count-refused, limits-refused, long-refused, table-accepted}
 use Rattle.cut_write.proofs.cut_length.Goals as goal
 
@@ -42,13 +45,17 @@ record Taken (t : CutTable) (i n : ℕ) : Type 0 where
 below-count : (t : CutTable) (i : ℕ) → i < length (take t.count t.regions) → i < t.count
 below-count t i l = omega (arith, length-take t.count t.regions)
 
-taken : (t : CutTable) (i n : ℕ) (r : Region) → i < length (take t.count t.regions) → r ≡ get_or (take t.count t.regions) i zero_region
-    → true ≡ picture_fits r → n ≡ cond (picture_fits r) (sample_count r) 0 → Taken t i n
-taken t i n r l e f m =
-    let below : i < t.count = below-count t i l in
-    let is : r ≡ rectangle t i = e ∙ get_or-take t.count t.regions i zero_region below in
-    let fits : T (picture_fits (rectangle t i)) = of-true (picture_fits (rectangle t i)) (ap picture_fits (sym is) ∙ sym f) in
-    record { below = below; fits = fits; samples = sampled (rectangle t i) n fits (m ∙ ap (λ (q : Region). cond (picture_fits q) (sample_count q) 0) is) }
+-- the region of turn i, as the table has it
+turn : (t : CutTable) (i : ℕ) (o : Option ℕ) → i < length (take t.count t.regions) → o ≡ counted (get_or (take t.count t.regions) i zero_region) → o ≡ counted (rectangle t i)
+turn t i o l m = m ∙ ap counted (get_or-take t.count t.regions i zero_region (below-count t i l))
+
+taken : (t : CutTable) (i n : ℕ) (o : Option ℕ) → i < length (take t.count t.regions) → o ≡ counted (get_or (take t.count t.regions) i zero_region) → o ≡ Some n → Taken t i n
+taken t i n o l m e =
+    let k = count-some (rectangle t i) o (turn t i o l m) n e in
+    record { below = below-count t i l; fits = k.0; samples = k.1 }
+
+refused : (e : Refusal) (o : Option ℕ) → ◌≡◌ {A = Result ℕ Refusal} (Err e) (ok_or o OutOfLimits) → ◌≡◌ {A = Option ℕ} o None → number e ≡ 4
+refused e o v m = let f : ◌≡◌ {A = Result ℕ Refusal} (Err e) (Err OutOfLimits) = rw m at v in let g : e ≡ OutOfLimits = cc in rw g
 
 pub returns-then-bad_count : goal.returns-then-bad_count
 returns-then-bad_count c = (sym (count-refused _ (sym c.if-bad_count.ensures)), tt)
@@ -57,25 +64,27 @@ pub loop-r-init : goal.loop-r-init
 unfolding body_at rectangles_fit
 loop-r-init c = (c.entry_at-end.ensures, tt, omega (arith, c.entry_at-end.ensures, (count-range c.args.table.count (sym c.if-bad_count.ensures)).1))
 
-pub returns-then-not-picture_fits : goal.returns-then-not-picture_fits
-returns-then-not-picture_fits c =
-    let below : c.loop-r.r-index < c.args.table.count = below-count _ _ c.loop-r-test.true in
-    let misfit : picture_fits (rectangle c.args.table c.loop-r.r-index) ≡ false
-    = ap picture_fits (sym (get_or-take c.args.table.count c.args.table.regions c.loop-r.r-index zero_region below)) ∙ sym c.if-not-picture_fits.ensures in
-    (sym (limits-refused _ (sym c.if-bad_count.ensures) (one-misfits _ _ _ below misfit)), tt)
+pub returns-in_err-end : goal.returns-in_err-end
+returns-in_err-end c =
+    let t : CutTable = c.args.table in
+    let e = c.in_err-end.field-0.0 in
+    let misfit = count-none (rectangle t c.loop-r.r-index) _ (turn t _ _ c.loop-r-test.true c.sample_count.ensures) c.in_err-end.ensures.ok_part in
+    let n : number e ≡ 4 = refused e _ c.in_err-end.ensures.value c.in_err-end.ensures.ok_part in
+    let m = limits-refused t (sym c.if-bad_count.ensures) (one-misfits _ _ _ (below-count t _ c.loop-r-test.true) misfit) in
+    (search rules ∙ n ∙ sym m, search rules)
 
 pub overflow_mul-end : goal.overflow_mul-end
-overflow_mul-end c = omega (arith, (taken c.args.table _ _ _ c.loop-r-test.true refl c.if-not-picture_fits.ensures c.sample_count.ensures).samples.le)
+overflow_mul-end c = omega (arith, (taken c.args.table _ _ _ c.loop-r-test.true c.sample_count.ensures c.in_ok-end.ensures.ok_part).samples.le)
 
 pub overflow_add-end : goal.overflow_add-end
 overflow_add-end c =
-    let k = taken c.args.table _ _ _ c.loop-r-test.true refl c.if-not-picture_fits.ensures c.sample_count.ensures in
+    let k = taken c.args.table _ _ _ c.loop-r-test.true c.sample_count.ensures c.in_ok-end.ensures.ok_part in
     omega (arith, k.samples.le, k.below, (count-range c.args.table.count (sym c.if-bad_count.ensures)).1, c.loop-r.invariant.2)
 
 pub loop-r-preserved : goal.loop-r-preserved
 loop-r-preserved c =
     let t : CutTable = c.args.table in
-    let k = taken t _ _ _ c.loop-r-test.true refl c.if-not-picture_fits.ensures c.sample_count.ensures in
+    let k = taken t _ _ _ c.loop-r-test.true c.sample_count.ensures c.in_ok-end.ensures.ok_part in
     let v = c.loop-r.invariant in (
       omega (arith, k.samples.are, v.0, body-next (rectangle t) t.count c.loop-r.r-index),
       one_more (rectangle t) c.loop-r.r-index v.1 (is_true (picture_fits (rectangle t c.loop-r.r-index)) k.fits),

@@ -1,37 +1,41 @@
 -- `cut_write::put_table`: one more entry is stored. Assumes nothing.
 use mathlib.Core.Path.{◌≡◌, refl, ap, ◌∙◌}
-use mathlib.Core.Bool.{cond}
 use Prim.Native.Nat.{ℕ, ◌+◌, ◌*◌, ◌≤◌, ◌<◌}
 use native.Mathlib.Omega.{arith}
 use lib.ListN.{length, get_or, take}
 use lib.Seq.{sets}
 use Rattle.std.proofs.lemmas.List.{length-take, get_or-take}
+use Rattle.std.specs.Prelude.{Option}
+use Rattle.std.specs.Option.{UnwrapsOrElse}
 use Rattle.refusals.proofs.Tables.{of-true}
 use Rattle.region.specs.declared.Region.{Region}
-use Rattle.region.specs.Measures.{picture_fits}
 use Rattle.region.specs.Regions.{zero_region}
 use Rattle.cut_file.specs.declared.CutTable.{CutTable}
-use Rattle.cut_file.specs.File.{sample_count, body_at, entry_bytes, table_bytes}
+use Rattle.cut_file.specs.File.{body_at, entry_bytes, table_bytes}
 use Rattle.cut_file.specs.Write.{rectangle, rectangles_fit}
 use Rattle.cut_write.specs.Fits.{TableFits}
-use Rattle.cut_file.proofs.Laws.{Sampled, sampled, body-next, body-grows}
+use Rattle.cut_file.proofs.Laws.{counted, Sampled, sampled, count-fits, body-next, body-grows}
 use Rattle.cut_file.proofs.FileLaws.{body-at}
 use Rattle.cut_write.proofs.Bytes.{table-parts}
 use Rattle.cut_write.proofs.Tables.{each_fits}
 use Rattle.cut_write.proofs.put_table.Goals as goal
 
 -- rectangle i of those that the loop goes over
-record Taken (t : CutTable) (len i : ℕ) (r : Region) : Type 0 where
+record Taken (t : CutTable) (len i : ℕ) (r : Region) : Type 1 where
   below : i < t.count
   is : r ≡ rectangle t i
-  samples : (n : ℕ) → n ≡ cond (picture_fits r) (sample_count r) 0 → Sampled (rectangle t i) n
+  samples : (o : Option ℕ) (n : ℕ) (P : ℕ → Type 0) → o ≡ counted r → UnwrapsOrElse o P n → Sampled (rectangle t i) n
 
 taken : (t : CutTable) (len i : ℕ) → TableFits t len → i < length (take t.count t.regions) → Taken t len i (get_or (take t.count t.regions) i zero_region)
 taken t len i f l =
     let below : i < t.count = omega (arith, length-take t.count t.regions) in
     let is : get_or (take t.count t.regions) i zero_region ≡ rectangle t i = get_or-take t.count t.regions i zero_region below in
     let fits = each_fits (rectangle t) t.count i (of-true (rectangles_fit (rectangle t) t.count) f.rectangles-fit) below in
-    record { below = below; is = is; samples = λ n e. sampled (rectangle t i) n fits (e ∙ ap (λ (q : Region). cond (picture_fits q) (sample_count q) 0) is) }
+    record {
+      below = below;
+      is = is;
+      samples = λ o n P m u. sampled (rectangle t i) n fits (rw (count-fits (rectangle t i) o (m ∙ ap counted is) fits) at u);
+    }
 
 -- the bodies so far end in the file
 short : (t : CutTable) (len i end : ℕ) → TableFits t len → i ≤ t.count → end ≡ body_at (rectangle t) t.count i → end ≤ 16777216
@@ -59,18 +63,18 @@ put_entry-requires c =
 pub overflow_mul-end : goal.overflow_mul-end
 overflow_mul-end c =
     let k = taken _ _ _ c.requires c.loop-i-test.true in
-    omega (arith, (k.samples _ c.sample_count.ensures).le)
+    omega (arith, (k.samples _ _ _ c.sample_count.ensures c.unwrap_or_default.ensures).le)
 
 pub overflow_add-end : goal.overflow_add-end
 overflow_add-end c =
     let k = taken _ _ _ c.requires c.loop-i-test.true in
-    omega (arith, (k.samples _ c.sample_count.ensures).le, short _ _ c.loop-i.i _ c.requires (omega (arith, k.below)) c.loop-i.invariant.0)
+    omega (arith, (k.samples _ _ _ c.sample_count.ensures c.unwrap_or_default.ensures).le, short _ _ c.loop-i.i _ c.requires (omega (arith, k.below)) c.loop-i.invariant.0)
 
 pub loop-i-preserved : goal.loop-i-preserved
 loop-i-preserved c =
     let t : CutTable = c.args.table in
     let k = taken _ _ _ c.requires c.loop-i-test.true in
-    let s = k.samples _ c.sample_count.ensures in
+    let s = k.samples _ _ _ c.sample_count.ensures c.unwrap_or_default.ensures in
     let stored = c.put_entry.ensures ∙ ap (λ (q : Region). sets c.loop-i.file c.entry_at.result (entry_bytes c.loop-i.end q)) k.is in
     let v = c.loop-i.invariant in (
       omega (arith, s.are, v.0, body-next (rectangle t) t.count c.loop-i.i),
