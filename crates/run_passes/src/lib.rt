@@ -194,16 +194,10 @@ impl Default for Settings {
             enabled: 0,
             weights: [[0.0; 2]; 3],
         };
-        let sigma = EpfSigma {
-            quant_mul: 0.0,
-            pass0_sigma_scale: 0.0,
-            pass2_sigma_scale: 0.0,
-            border_sad_mul: 0.0,
-        };
         let epf = EpfSettings {
             iters: 0,
             channel_scale: [0.0; 3],
-            sigma,
+            sigma: EpfSigma::default(),
             sigma_for_modular: 0.0,
         };
         Settings { gabor, epf }
