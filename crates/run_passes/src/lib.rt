@@ -18,7 +18,7 @@ use refusals::{ACCEPTED, Refusal, flag_fits, flag_set};
 // The Gabor-like filter. `enabled` is a flag: 1 is on, 0 is off. `weights` has two weights for each of the channels
 // X, Y and B: of the side neighbours and of the diagonal ones.
 #[repr(C)]
-#[derive(Clone, Copy)]
+#[derive(Clone, Copy, Default)]
 pub struct GaborSettings {
     pub enabled: u32,
     pub weights: [[f32; 2]; 3],
@@ -26,7 +26,7 @@ pub struct GaborSettings {
 
 // The edge-preserving filter: off with 0 iterations, on with 1 to 3.
 #[repr(C)]
-#[derive(Clone, Copy)]
+#[derive(Clone, Copy, Default)]
 pub struct EpfSettings {
     pub iters: u32,
     pub channel_scale: [f32; 3],
@@ -185,22 +185,16 @@ impl Settings {
     }
 }
 
-// Zeros: both filters are off. By hand, as a derive says this field by field, and callers need the whole record.
+// Zeros: both filters are off.
+// Form: the clause is the whole record `no_settings`, which definitions name; a derive's clause would say it field by field.
 impl Default for Settings {
     ghost is_default = { λ s. s ≡ no_settings };
 
     fn default() -> Settings {
-        let gabor = GaborSettings {
-            enabled: 0,
-            weights: [[0.0; 2]; 3],
-        };
-        let epf = EpfSettings {
-            iters: 0,
-            channel_scale: [0.0; 3],
-            sigma: EpfSigma::default(),
-            sigma_for_modular: 0.0,
-        };
-        Settings { gabor, epf }
+        Settings {
+            gabor: GaborSettings::default(),
+            epf: EpfSettings::default(),
+        }
     }
 }
 
