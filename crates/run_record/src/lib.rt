@@ -10,7 +10,7 @@ ghost use Rattle.run_record.specs.Record.{started, is_done, bad_flag, bad_done, 
 ghost use Rattle.run_record.specs.Record.{finished, open_bands, run_fits, not_open};
 ghost use Rattle.run_record.specs.Record.{open_checks, over_checks, finished_checks};
 
-use refusals::{Refusal, flag_set};
+use refusals::{Refusal, flag_fits, flag_set};
 use run_setup::{MAX_BANDS, Setup};
 
 // The record of a run. `pass` counts the completed passes. `done` has one flag per band of the next pass: 1 if the
@@ -24,11 +24,12 @@ pub struct Run {
 }
 
 // Whether no accepted calls give band k this flag, if only the first `bands` bands may be done.
+// Form: C hands the flags as bytes, so that every value has a meaning, as in `Run::is_done`.
 fn bad_flag(bands: usize, k: usize, flag: u8) -> bool
     ensures { result ≡ bad_flag bands k flag }
 {
     if k < bands {
-        return 1 < flag;
+        return !flag_fits(u32::from(flag));
     }
     0 < flag
 }
@@ -53,7 +54,7 @@ impl Run {
         requires { k < max_bands }
         ensures { result ≡ is_done self.now k }
     {
-        flag_set(self.done[k] as u32)
+        flag_set(u32::from(self.done[k]))
     }
 
     // Whether no accepted calls give one of the flags.
@@ -80,7 +81,8 @@ impl Run {
     }
 
     // Whether the next pass reads the first set: each advance exchanges the sets.
-    // Form: C's record has the number of passes alone, and an enum of the two sets would be asked for its one case by both callers.
+    // Form: each of the two callers, a band and a result, asks once and chooses between its two slices; an enum of the sets would be
+    // made here and matched there.
     pub fn reads_first(&self) -> bool
         ensures { result ≡ eqb (self.now.pass % 2) 0 }
     {
@@ -160,7 +162,8 @@ impl Run {
     }
 }
 
-// The record that a refused start answers: zeros. By hand for the same reason as `Settings`.
+// The record that a refused start answers: zeros.
+// Form: the clause is the whole record, which definitions name; a derive's clause would say of each of the 256 flags that it is 0.
 impl Default for Run {
     ghost is_default = { λ r. r ≡ started no_setup };
 

@@ -111,7 +111,8 @@ impl Setup {
     }
 }
 
-// Zeros: regions without samples, and both filters are off. By hand for the same reason as `Settings`.
+// Zeros: regions without samples, and both filters are off.
+// Form: the clause is the whole record `no_setup`, which definitions name; a derive's clause would say it field by field.
 impl Default for Setup {
     ghost is_default = { λ s. s ≡ no_setup };
 
