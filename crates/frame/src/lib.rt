@@ -52,7 +52,7 @@ pub struct FrameAnswer {
 }
 
 // The group of a column or row of blocks, and the cell in that group.
-// Form: the fields are a group and a cell of it; a grid's sides, a count and a place, which other types have, mean something else.
+// Form: other structs have two numbers too, but by chance: none of them is a group and a cell in it.
 #[derive(Clone, Copy)]
 pub struct Split {
     pub group: u32,
@@ -60,7 +60,7 @@ pub struct Split {
 }
 
 // The group of a column or row of blocks, and the cell in it.
-// Form: C's answer, a number with zeros beside a refusal; a `BlockRow` is a row of blocks.
+// Form: C's answer, a number with zeros beside a refusal. `BlockRow` of `sigma` has three numbers too, but by chance: it is a row of blocks.
 #[repr(C)]
 #[derive(Clone, Copy)]
 pub struct SplitAnswer {
@@ -211,7 +211,7 @@ impl From<Result<GroupSizes, Refusal>> for FrameAnswer {
     }
 }
 
-// Form: as above; two zeros by name are no longer than a `Default` for them. `BlockRow`, with three numbers too, is a row of blocks.
+// Form: C's answer, as that of `group_sizes` above; its two zeros are written out, as nothing else asks for zeros in a `Split`.
 impl From<Result<Split, Refusal>> for SplitAnswer {
     ghost from_gives = { λ r a. a ≡ split_answer r };
 

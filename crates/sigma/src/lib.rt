@@ -19,7 +19,8 @@ use sigma_groups::blocks::{Blocks, SoundBlocks};
 use sigma_groups::checked;
 use sigma_groups::groups::Groups;
 
-// The sigma of a block whose grid is missing, from `sigma_for_modular` and the sigma of the block above.
+// The sigma of a block whose grid is missing: that of the block above.
+// Form: `sigma_for_modular` is passed too, as to the definition: a later rule for missing grids may need it, and then these two change alone.
 fn missing(_modular: f32, above: f32) -> f32
     ensures { result ≡ missing _modular above }
 {
@@ -52,7 +53,7 @@ fn fill_missing(modular: f32, across: u32, sigmas: &mut [f32], at: usize, n: u32
 }
 
 // A part of a row of blocks that lies in one group: the group, the cell of the first block, the number of blocks.
-// Form: `Blocks` has four numbers too, a place and two sides.
+// Form: `Blocks` has four numbers too, but by chance: they are a place and the two sides of a region.
 #[derive(Clone, Copy)]
 struct Run {
     group: u32,
@@ -62,7 +63,7 @@ struct Run {
 }
 
 // A row of blocks of the filter region: its first block (left, by) in the frame, and the number of blocks across.
-// Form: `SplitAnswer` has three numbers too, one of them a refusal's.
+// Form: `SplitAnswer` of `frame` has three numbers too, but by chance: one of them is that of a refusal.
 #[derive(Clone, Copy)]
 struct BlockRow {
     left: u32,

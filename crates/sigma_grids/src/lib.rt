@@ -14,6 +14,8 @@ const MAX_GRID_SIDE: u32 = 1_024;
 // Numbers per group in the table: presence, grid width, grid height.
 pub const ENTRY: usize = 3;
 
+// The presence of a grid that is there; that of a missing one is 0.
+// Form: a presence is a number of C's table, and one that is neither is refused only by `sigma_groups`.
 pub const PRESENT: u32 = 1;
 
 // At most 256 groups: 16 × 16 of 1,024 × 1,024 samples.
@@ -28,7 +30,7 @@ pub struct Grid {
 }
 
 // A number of the table, 0 past its end.
-// Form: `replay::at` reads 64-bit numbers of a line of text.
+// Form: 0 stands past the end, so that `grid_of` answers for every table and group, as the definitions do.
 fn number_at(table: &[u32], i: usize) -> u32
     ensures { result ≡ get_or table.now i 0 }
 {

@@ -1,5 +1,5 @@
 // The groups of a frame, and the blocks that their grids hold (Specification 7.4, 7.5, 7.7).
-ghost use Rattle.std.specs.Prelude.{◌≡◌, cond, ◌&&◌, ℕ, ◌+◌, ◌*◌, ◌≤◌, length, IfOk};
+ghost use Rattle.std.specs.Prelude.{◌≡◌, cond, ℕ, ◌+◌, ◌*◌, ◌≤◌, length, IfOk};
 ghost use Rattle.refusals.specs.Numbers.{accepted, wrong_length};
 ghost use Rattle.refusals.specs.Refusals.{number_of};
 ghost use Rattle.frame.specs.Sizes.{sizes_of};
@@ -22,6 +22,7 @@ pub struct Groups<'a> {
     pub ghost entries: { TableOf frame.frame sizes table.now },
 }
 
+// Form: a presence is a number of C's table: `PRESENT`, or 0 for a missing grid.
 fn bad_presence(table: &[u32], group: u32) -> bool
     ensures { result ≡ bad_presence table.now group }
 {
@@ -91,7 +92,7 @@ impl<'a> Groups<'a> {
     }
 
     // Whether a block of the filter region is not held.
-    fn some_not_held(self, region: SoundBlocks) -> bool
+    pub(crate) fn some_not_held(self, region: SoundBlocks) -> bool
         ensures { result ≡ some_not_held self.entry.frame.frame region.blocks self.entry.table.now }
     {
         let across = region.across();
@@ -100,12 +101,5 @@ impl<'a> Groups<'a> {
             region.blocks.top + y,
             across,
         ))
-    }
-
-    // The same if the EPF is on; false if it is off.
-    pub(crate) fn touched_not_held(self, on: bool, region: SoundBlocks) -> bool
-        ensures { result ≡ (on && some_not_held self.entry.frame.frame region.blocks self.entry.table.now) }
-    {
-        on && self.some_not_held(region)
     }
 }

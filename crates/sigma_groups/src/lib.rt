@@ -4,7 +4,7 @@
 pub mod blocks;
 pub mod groups;
 
-ghost use Rattle.std.specs.Prelude.{◌≡◌, not, ◌&&◌, eqb, IfOk};
+ghost use Rattle.std.specs.Prelude.{◌≡◌, not, ◌&&◌, eqb, length, IfOk};
 ghost use Rattle.refusals.specs.Flags.{flag_fits, flag_set};
 ghost use Rattle.refusals.specs.Refusals.{number_of};
 ghost use Rattle.sigma_groups.specs.Outcome.{sigma_count, sigma_number};
@@ -26,7 +26,7 @@ fn sigma_count(on: bool, region: SoundBlocks) -> usize
 }
 
 // Whether the number of sigmas is wrong; false if the flag is out of range.
-// Form: C's flag, a number; the sigmas' length alone, as no sigma is read.
+// Form: C's flag, a number; the sigmas' length and not their slice, as in `check`.
 fn bad_count(on: u32, region: SoundBlocks, sigmas: usize) -> bool
     ensures { result ≡ (flag_fits on && not (eqb sigmas (sigma_count (flag_set on) region.blocks))) }
 {
@@ -34,15 +34,14 @@ fn bad_count(on: u32, region: SoundBlocks, sigmas: usize) -> bool
 }
 
 // Whether the grids slice has the wrong length; false if a presence is out of range.
-// Form: a length, as no cell is read.
-fn bad_grids(faulty: bool, cells: usize, len: usize) -> bool
-    ensures { result ≡ (not faulty && not (eqb len cells)) }
+fn bad_grids(faulty: bool, cells: usize, grids: &[f32]) -> bool
+    ensures { result ≡ (not faulty && not (eqb (length grids.now) cells)) }
 {
-    !faulty && len != cells
+    !faulty && grids.len() != cells
 }
 
 // The groups of a frame in range, or what `block_sigmas` refuses for them and a filter region in range.
-// Form: C's flag, a number; the sigmas' length alone, as no sigma is read.
+// Form: C's flag, a number; the sigmas' length and not their slice, as in `check`.
 fn checked_groups<'a>(
     on: u32,
     frame: SoundFrame,
@@ -57,13 +56,13 @@ fn checked_groups<'a>(
     let groups = Groups::new(frame, table)?;
     let cells = sigma_grids::grid_start(table, groups.sizes.num_groups)?;
     let bad_presence = groups.some_bad_presence();
-    if bad_grids(bad_presence, cells, grids.len()) {
+    if bad_grids(bad_presence, cells, grids) {
         return Err(Refusal::WrongLength);
     }
     if bad_count(on, region, sigmas_len) {
         return Err(Refusal::WrongLength);
     }
-    if groups.touched_not_held(refusals::flag_set(on), region) {
+    if refusals::flag_set(on) && groups.some_not_held(region) {
         return Err(Refusal::BlockNotHeld);
     }
     if bad_presence {
@@ -77,7 +76,7 @@ fn checked_groups<'a>(
 
 // The groups and the filter region of an accepted call, or what `block_sigmas` refuses, for a slice of `sigmas_len`
 // sigmas.
-// Form: the sigmas' length alone, as no sigma is read.
+// Form: the sigmas' length and not their slice, as in `check`, which asks this.
 pub fn checked<'a>(
     on: u32,
     frame: Frame,
@@ -105,7 +104,8 @@ pub fn checked<'a>(
 }
 
 // The same with no value.
-// Form: the sigmas' length alone, as no sigma is read.
+// Form: the sigmas' length and not their slice, since both callers pass 0 without an empty slice: `loupe` to check frame, table and grids
+// alone, `run_start` if the iterations are out of range.
 pub fn check(
     on: u32,
     frame: Frame,

@@ -19,6 +19,7 @@ use Rattle.sigma_groups.specs.declared.blocks.SoundBlocks.{SoundBlocks}
 use Rattle.sigma_groups.specs.declared.groups.Groups.{Groups}
 use Rattle.sigma_groups.proofs.Number as number
 use Rattle.sigma_groups.proofs.checked_groups.Goals as goal
+use Rattle.sigma_groups.proofs.checked_groups.Goals.{else-flag_set-via-then-flag_set+else-some_not_held, else-flag_set-via-else-flag_set}
 
 right : (a : Bool) → 0 ≡ cond a accepted wrong_length → a ≡ true
 right true e = refl
@@ -51,40 +52,40 @@ module _ (frame : SoundFrame) (t : List ℕ) (sizes : GroupSizes) (is : sizes �
 
 -- and grids with sides in range, of which `bad` says whether a presence is not and `wrong` whether their slice has another length
 module _ (on n : ℕ) (frame : SoundFrame) (region : SoundBlocks) (grids : List Float) (g : Groups) (t : List ℕ) (cells : ℕ) (bad wrong : Bool)
-  (h : (0 ≡ cond (table_fits frame.frame t) accepted wrong_length) × ((g.frame.frame ≡ frame.frame) × (g.sizes ≡ sizes_of frame.frame) × (g.table.now ≡ t)))
-  (k : (0 ≡ (start_outcome t g.sizes.num_groups).number) × (cells ≡ grid_start t g.sizes.num_groups))
-  (p : bad ≡ some_group g.frame.frame (bad_presence g.table.now))
-  (w : wrong ≡ (not bad && not (eqb (length grids) cells)))
- where
-  table : table_fits frame.frame t ≡ true
-  table = table-right frame t g.sizes h.1.1 h.0
+    (h : (0 ≡ cond (table_fits frame.frame t) accepted wrong_length) × ((g.frame.frame ≡ frame.frame) × (g.sizes ≡ sizes_of frame.frame) × (g.table.now ≡ t)))
+    (k : (0 ≡ (start_outcome t g.sizes.num_groups).number) × (cells ≡ grid_start t g.sizes.num_groups))
+    (p : bad ≡ some_group g.frame.frame (bad_presence g.table.now))
+    (w : wrong ≡ (not bad && not (eqb (length grids) cells)))
+  where
+    table : table_fits frame.frame t ≡ true
+    table = table-right frame t g.sizes h.1.1 h.0
 
-  good : some_group frame.frame (bad_grid t) ≡ false
-  good = grids-good frame t g.sizes h.1.1 h.0 k.0
+    good : some_group frame.frame (bad_grid t) ≡ false
+    good = grids-good frame t g.sizes h.1.1 h.0 k.0
 
-  bad-is : bad ≡ some_group frame.frame (bad_presence t)
-  bad-is = p ∙ rw (h.1.0, h.1.2)
+    bad-is : bad ≡ some_group frame.frame (bad_presence t)
+    bad-is = p ∙ rw (h.1.0, h.1.2)
 
-  wrong-is : wrong ≡ (not (some_group frame.frame (bad_presence t)) && not (grids_fit frame.frame t grids))
-  unfolding grids_fit
-  wrong-is = w ∙ rw (bad-is, k.1, num frame t g.sizes h.1.1 h.0)
+    wrong-is : wrong ≡ (not (some_group frame.frame (bad_presence t)) && not (grids_fit frame.frame t grids))
+    unfolding grids_fit
+    wrong-is = w ∙ rw (bad-is, k.1, num frame t g.sizes h.1.1 h.0)
 
-  grids_out : wrong ≡ true → wrong_length ≡ sigma_number on frame.frame region.blocks t grids n
-  grids_out e = number.grids-wrong on frame.frame region.blocks t grids n frame.sides region.within frame.settings table good (sym wrong-is ∙ e)
+    grids_out : wrong ≡ true → wrong_length ≡ sigma_number on frame.frame region.blocks t grids n
+    grids_out e = number.grids-wrong on frame.frame region.blocks t grids n frame.sides region.within frame.settings table good (sym wrong-is ∙ e)
 
-  module _ (e : wrong ≡ false) (c : false ≡ number.bad_count on frame.frame region.blocks t grids n) (lacks : Bool) (l : lacks ≡ (flag_set on && some_not_held g.frame.frame region.blocks g.table.now)) where
-    lacks-is : lacks ≡ (flag_set on && some_not_held frame.frame region.blocks t)
-    lacks-is = l ∙ rw (h.1.0, h.1.2)
+    module _ (e : wrong ≡ false) (c : false ≡ number.bad_count on frame.frame region.blocks t grids n) (lacks : Bool) (l : lacks ≡ (flag_set on && some_not_held g.frame.frame region.blocks g.table.now)) where
+      lacks-is : lacks ≡ (flag_set on && some_not_held frame.frame region.blocks t)
+      lacks-is = l ∙ rw (h.1.0, h.1.2)
 
-    blocks_out : lacks ≡ true → block_not_held ≡ sigma_number on frame.frame region.blocks t grids n
-    blocks_out o = number.block_out on frame.frame region.blocks t grids n frame.sides region.within frame.settings table good (sym wrong-is ∙ e) (sym c) (sym lacks-is ∙ o)
+      blocks_out : lacks ≡ true → block_not_held ≡ sigma_number on frame.frame region.blocks t grids n
+      blocks_out o = number.block_out on frame.frame region.blocks t grids n frame.sides region.within frame.settings table good (sym wrong-is ∙ e) (sym c) (sym lacks-is ∙ o)
 
-    module _ (o : lacks ≡ false) (q : bad ≡ false) where
-      flag_out : flag_fits on ≡ false → out_of_range ≡ sigma_number on frame.frame region.blocks t grids n
-      flag_out = number.flag-out on frame.frame region.blocks t grids n frame.sides region.within frame.settings table good (sym wrong-is ∙ e) (sym c) (sym lacks-is ∙ o) (sym bad-is ∙ q)
+      module _ (o : lacks ≡ false) (q : bad ≡ false) where
+        flag_out : flag_fits on ≡ false → out_of_range ≡ sigma_number on frame.frame region.blocks t grids n
+        flag_out = number.flag-out on frame.frame region.blocks t grids n frame.sides region.within frame.settings table good (sym wrong-is ∙ e) (sym c) (sym lacks-is ∙ o) (sym bad-is ∙ q)
 
-      passed : flag_fits on ≡ true → accepted ≡ sigma_number on frame.frame region.blocks t grids n
-      passed = number.none_out on frame.frame region.blocks t grids n frame.sides region.within frame.settings table good (sym wrong-is ∙ e) (sym c) (sym lacks-is ∙ o) (sym bad-is ∙ q)
+        passed : flag_fits on ≡ true → accepted ≡ sigma_number on frame.frame region.blocks t grids n
+        passed = number.none_out on frame.frame region.blocks t grids n frame.sides region.within frame.settings table good (sym wrong-is ∙ e) (sym c) (sym lacks-is ∙ o) (sym bad-is ∙ q)
 
 pub returns-in_err-cells-clause-number : goal.returns-in_err-cells-clause-number
 returns-in_err-cells-clause-number c =
@@ -103,22 +104,31 @@ returns-then-bad_grids-clause-number c =
     grids_out a.on a.sigmas_len a.frame a.region a.grids.now c.in_ok-groups.groups _ _ _ _ c.in_ok-groups.ensures c.in_ok-cells.ensures c.some_bad_presence-bad_presence.ensures c.bad_grids.ensures
     c.if-bad_grids.true
 
-pub returns-then-touched_not_held-clause-number : goal.returns-then-touched_not_held-clause-number
-returns-then-touched_not_held-clause-number c =
+pub returns-then-some_not_held-clause-number : goal.returns-then-some_not_held-clause-number
+returns-then-some_not_held-clause-number c =
     let a = c.args in
     blocks_out a.on a.sigmas_len a.frame a.region a.grids.now c.in_ok-groups.groups _ _ _ _ c.in_ok-groups.ensures c.in_ok-cells.ensures c.some_bad_presence-bad_presence.ensures c.bad_grids.ensures
-    c.if-bad_grids.false (sym c.if-bad_count.false ∙ c.bad_count.ensures) _ (rw (← c.flag_set.ensures) c.touched_not_held.ensures) c.if-touched_not_held.true
+    c.if-bad_grids.false (sym c.if-bad_count.false ∙ c.bad_count.ensures) _ refl
+    (rw (sym c.flag_set.ensures ∙ c.if-flag_set.true, sym c.some_not_held.ensures ∙ c.if-some_not_held.true))
 
 pub returns-then-not-flag_fits-clause-number : goal.returns-then-not-flag_fits-clause-number
 returns-then-not-flag_fits-clause-number c =
     let a = c.args in
     flag_out a.on a.sigmas_len a.frame a.region a.grids.now c.in_ok-groups.groups _ _ _ _ c.in_ok-groups.ensures c.in_ok-cells.ensures c.some_bad_presence-bad_presence.ensures c.bad_grids.ensures
-    c.if-bad_grids.false (sym c.if-bad_count.false ∙ c.bad_count.ensures) _ (rw (← c.flag_set.ensures) c.touched_not_held.ensures) c.if-touched_not_held.false
+    c.if-bad_grids.false (sym c.if-bad_count.false ∙ c.bad_count.ensures) _ refl
+    (elim c.else-flag_set.branch [
+      | else-flag_set-via-then-flag_set+else-some_not_held w ↦ rw (sym c.flag_set.ensures ∙ w.if-flag_set.true, sym w.some_not_held.ensures ∙ w.if-some_not_held.false)
+      | else-flag_set-via-else-flag_set w ↦ rw (sym c.flag_set.ensures ∙ w.if-flag_set.false)
+    ])
     c.if-bad_presence.false (sym c.flag_fits.ensures ∙ c.if-not-flag_fits.true)
 
 pub returns-clause-number : goal.returns-clause-number
 returns-clause-number c =
     let a = c.args in
     passed a.on a.sigmas_len a.frame a.region a.grids.now c.in_ok-groups.groups _ _ _ _ c.in_ok-groups.ensures c.in_ok-cells.ensures c.some_bad_presence-bad_presence.ensures c.bad_grids.ensures
-    c.if-bad_grids.false (sym c.if-bad_count.false ∙ c.bad_count.ensures) _ (rw (← c.flag_set.ensures) c.touched_not_held.ensures) c.if-touched_not_held.false
+    c.if-bad_grids.false (sym c.if-bad_count.false ∙ c.bad_count.ensures) _ refl
+    (elim c.else-flag_set.branch [
+      | else-flag_set-via-then-flag_set+else-some_not_held w ↦ rw (sym c.flag_set.ensures ∙ w.if-flag_set.true, sym w.some_not_held.ensures ∙ w.if-some_not_held.false)
+      | else-flag_set-via-else-flag_set w ↦ rw (sym c.flag_set.ensures ∙ w.if-flag_set.false)
+    ])
     c.if-bad_presence.false (sym c.flag_fits.ensures ∙ c.if-not-flag_fits.false)

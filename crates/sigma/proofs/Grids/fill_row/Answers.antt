@@ -7,9 +7,9 @@ use Rattle.planes.specs.Fill.{fill}
 use Rattle.planes.proofs.Fill.{fill_end}
 use Rattle.sigma_groups.specs.Held.{not_held}
 use Rattle.sigma_grids.proofs.Laws.{none_below}
-use Rattle.sigma_groups.proofs.Laws.{Held, held}
+use Rattle.sigma_groups.proofs.Laws.{held}
 use Rattle.frame.specs.declared.Frame.{Frame}
-use Rattle.sigma.specs.Runs.{RowFits, RunOf}
+use Rattle.sigma.specs.Runs.{RowFits}
 use Rattle.sigma.specs.declared.BlockRow.{BlockRow}
 use Rattle.sigma.proofs.Runs.{run_fits_lem, row-turn}
 use Rattle.sigma.proofs.Grids.fill_row.Goals as goal
