@@ -49,7 +49,8 @@ fn pass_rows(run: &Run, sigmas: &[f32], src: &[f32], dst: &mut [f32], from: u32,
 }
 
 // Runs the next pass over the rows of band k.
-// Form: here and in `band` the sets and the sigmas are lent apart, as C hands them; a struct of them would be lent again for each call.
+// Form: here and in `band` the sets and the sigmas come apart, as C hands them; a struct of them would be made in `band` and taken apart
+// here, as a pass reads one set and writes the other.
 fn filter_band(run: &Run, sigmas: &[f32], first: &mut [f32], second: &mut [f32], k: u32)
     requires { band_number 3 (record {
       run = run.now;
@@ -105,6 +106,7 @@ pub fn band(
 {
     check(run, sigmas, first, second, k)?;
     filter_band(run, sigmas, first, second, k);
+    // Form: 1 is done: C's record has the flags as bytes.
     run.done[k as usize] = 1;
     Ok(())
 }

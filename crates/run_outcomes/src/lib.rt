@@ -59,7 +59,8 @@ impl From<Result<Run, Refusal>> for RunAnswer {
     }
 }
 
-// Form: `loupe` has its own: this one asks for a size in range, and so is not public.
+// Form: `loupe::wanted_length` is the same product. Each asks for a size in range, which its callers have tested; one public function for
+// both could ask nothing, and would test it again.
 fn set_length(r: Region) -> usize
     requires { size_fits r ≡ true }
     ensures { result ≡ 3 * r.height * r.width }

@@ -35,7 +35,8 @@ fn copy_rows(src: &[f32], from: usize, out: &mut [f32], at: usize, l: Layout)
 }
 
 // Copies the filter region of each plane.
-// Form: here and in `copy_rows` that a layout fits is asked; a struct with this fact would be made for these two private functions alone.
+// Form: that a layout fits is asked here, in `copy_rows` and in three functions of other crates; as a fact of each `Layout` it would be asked
+// for the test `planes::layout_fits` too.
 fn copy_planes(src: &[f32], out: &mut [f32], l: Layout)
     requires layout_fits { LayoutFits l }
     requires lengths { (length src.now ≡ 3 * l.image.height * l.image.width)
@@ -88,6 +89,7 @@ fn check(run: &Run, first: &[f32], second: &[f32], out: &[f32]) -> Result<(), Re
 
 // Copies the result of a finished run to `out`, from the set that the next pass would read. A refused call writes
 // nothing.
+// Form: record and sets apart, as in `check`.
 pub fn result(run: &Run, first: &[f32], second: &[f32], out: &mut [f32]) -> Result<(), Refusal>
     ensures { ◌≡◌ {A = ResultOutcome} (record { number = number_of result; out = out.new })
         (result_outcome 3 run.now first.now second.now out.old) }

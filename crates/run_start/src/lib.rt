@@ -23,6 +23,7 @@ use sigma::block_sigmas;
 use sigma_groups::blocks::Blocks;
 
 // The refusal with the lower number, if one of two is refused.
+// Form: refusals are ordered by their numbers alone: that a call returns the lowest is a rule of the interface (Specification 3.2).
 #[tactic(auto, using(crate::proofs::LowestLaws::lowest_rules), unfolding(crate::specs::Lowest::lowest))]
 fn lowest(a: Result<(), Refusal>, b: Result<(), Refusal>) -> Result<(), Refusal>
     ensures { number_of result ≡ lowest (number_of a) (number_of b) }
@@ -117,6 +118,7 @@ fn check_groups(
 }
 
 // The refusal with the lowest number of the checks of Specification 12.6.
+// Form: frame, table and grids apart, as in `check_groups`.
 fn check_picture(
     s: &Setup,
     frame: Frame,
@@ -136,6 +138,7 @@ fn check_picture(
 }
 
 // Starts a run: fills the block sigmas and returns the record. A refused call writes nothing.
+// Form: frame, table and grids apart, as C hands them and `block_sigmas` takes them.
 pub fn start(
     setup: Setup,
     frame: Frame,
