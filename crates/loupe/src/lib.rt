@@ -52,7 +52,8 @@ fn check_groups(frame: Frame, table: &[u32], grids: &[f32]) -> Result<(), Refusa
     check(NO, frame, one_block(), table, grids, 0)
 }
 
-// Form: as `set_length` of `run_outcomes`, which asks for a size in range, and so is not public.
+// Form: `run_outcomes::set_length` is the same product. Each asks for a size in range, which its callers have tested; one public function for
+// both could ask nothing, and would test it again, as `cut_file::sample_count` does.
 fn wanted_length(wanted: Region) -> usize
     requires { T (picture_fits wanted) }
     ensures { result ≡ 3 * wanted.height * wanted.width }
@@ -66,7 +67,7 @@ fn is_refused<T: Copy>(answer: Result<T, Refusal>, refusal: Refusal) -> bool
 {
     match answer {
         Ok(_) => false,
-        Err(found) => u32::from(found) == u32::from(refusal),
+        Err(found) => found == refusal,
     }
 }
 
@@ -120,13 +121,13 @@ fn checked_place(
     Err(settings_refusal(groups, s.settings, sigmas))
 }
 
-// A run over the widened rectangle: image and filter region alike, and one band.
-fn run_setup(widened: Region, settings: Settings) -> Setup
-    ensures { result ≡ setup_with widened widened 0 settings all_rows }
+// A run over the widened rectangle, in one band.
+fn run_setup(widened: Region, filter: Region, settings: Settings) -> Setup
+    ensures { result ≡ setup_with widened filter 0 settings all_rows }
 {
     Setup {
         image: widened,
-        filter: widened,
+        filter,
         preserve_outside: NO,
         settings,
         band_height: MAX_SIDE_U32,
@@ -134,7 +135,7 @@ fn run_setup(widened: Region, settings: Settings) -> Setup
 }
 
 // A pass: its only band, and an advance.
-// Form: here and below the sets and the sigmas are lent apart, as C hands them; a struct of them would be lent again for each call.
+// Form: here and below the sets and the sigmas come apart, as C hands them and `band` takes them; a struct would be taken apart here.
 fn one_pass(run: &mut Run, sigmas: &[f32], first: &mut [f32], second: &mut [f32])
     ensures { ◌≡◌ {A = State} (record {
       run = run.new;
@@ -148,6 +149,8 @@ fn one_pass(run: &mut Run, sigmas: &[f32], first: &mut [f32], second: &mut [f32]
     let _ = advance(run);
 }
 
+// All passes.
+// Form: sets and sigmas apart, as in `one_pass`.
 fn all_passes(run: &mut Run, passes: u32, sigmas: &[f32], first: &mut [f32], second: &mut [f32])
     ensures { ◌≡◌ {A = State} (record {
       run = run.new;
@@ -166,15 +169,7 @@ fn all_passes(run: &mut Run, passes: u32, sigmas: &[f32], first: &mut [f32], sec
 fn copy_run(widened: Region, wanted: Region) -> Run
     ensures { result ≡ started (copy_setup widened wanted) }
 {
-    let settings = Settings::default();
-    let setup = Setup {
-        image: widened,
-        filter: wanted,
-        preserve_outside: NO,
-        settings,
-        band_height: MAX_SIDE_U32,
-    };
-    Run::started(setup)
+    Run::started(run_setup(widened, wanted, Settings::default()))
 }
 
 // Copies the wanted rectangle from a set of the widened one.
@@ -185,7 +180,8 @@ fn copy_wanted(widened: Region, wanted: Region, set: &[f32], out: &mut [f32])
 }
 
 // All passes, and the copy from the set that a next pass would read.
-// Form: this holds for any record, so `Run::reads_first` would answer for the passes that were accepted, and not for all of them.
+// Form: `passes` says which set, and not `run.reads_first()`: the contract is of every record, also of one that refuses a pass, and then
+// the two differ. Sets and sigmas apart, as in `one_pass`.
 fn finish(
     run: Run,
     passes: u32,
@@ -255,7 +251,7 @@ pub fn loupe_smooth(
     }) (number_of result) out.new }
 {
     let widened = checked_place(s, frame, table, grids, sigmas, out)?;
-    let setup = run_setup(widened, s.settings);
+    let setup = run_setup(widened, widened, s.settings);
     let run = start(setup, frame, table, grids, first, second, sigmas)?;
     let passes = s.settings.pass_count();
     finish(run, passes, widened, s.wanted, sigmas, first, second, out);
