@@ -1,34 +1,19 @@
 -- Four samples at a time: what the code computes from vectors is, lane by lane, what specs/Inside.antt defines. Assumes nothing.
-use mathlib.Core.Path.{◌≡◌, refl, ap, ◌∙◌}
-use mathlib.Core.List.{List, [], ◌∷◌}
-use Prim.Native.Nat.{ℕ, zero, suc, ◌+◌, ◌*◌, ◌<◌}
+use mathlib.Core.Path.{◌≡◌, ap, ◌∙◌}
+use mathlib.Core.List.{List}
+use Prim.Native.Nat.{ℕ, ◌+◌, ◌*◌, ◌<◌}
 use native.Mathlib.Nat.{add_assoc}
 use native.Mathlib.Omega.{arith}
 use lib.Ieee.{Float, nan}
 use lib.ListN.{length, get_or}
 use Rattle.epf_vectors.specs.Lanes.{lanes_of, lanes_weighed}
+use Rattle.epf_vectors.proofs.Rows.{as_lanes, lane-is}
 use Rattle.epf_step.specs.Steps.{weight_by}
 use Rattle.epf_interior.specs.declared.Weights.{Weights}
 use Rattle.epf_interior.specs.Divisor.{ThreeScalesBounded}
 use Rattle.epf_interior.specs.Inside.{far_at, weights_of, mix_of, lane_in}
 use Rattle.epf_interior.specs.Vectors.{lanes_of_weights, weights_in_lane}
 use Rattle.epf_interior.proofs.Divisor.{weights-bounded}
-
--- a vector has four lanes
-as_lanes : (v : List Float) → length v ≡ 4 → v ≡ lanes_of (λ k. get_or v k nan)
-as_lanes [] h = absurd (omega (arith, h))
-as_lanes (a ∷ []) h = absurd (omega (arith, h))
-as_lanes (a ∷ b ∷ []) h = absurd (omega (arith, h))
-as_lanes (a ∷ b ∷ c ∷ []) h = absurd (omega (arith, h))
-as_lanes (a ∷ b ∷ c ∷ d ∷ []) h = refl
-as_lanes (a ∷ b ∷ c ∷ d ∷ e ∷ v) h = absurd (omega (arith, h))
-
-lane-is : (f : ℕ → Float) (k : ℕ) → k < 4 → get_or (lanes_of f) k nan ≡ f k
-lane-is f zero l = refl
-lane-is f (suc zero) l = refl
-lane-is f (suc (suc zero)) l = refl
-lane-is f (suc (suc (suc zero))) l = refl
-lane-is f (suc (suc (suc (suc k)))) l = absurd (omega arith)
 
 -- samples from index p on, at other names of their indices
 pub renamed : (xs : List Float) (p : ℕ) (q : ℕ → ℕ) → ((k : ℕ) → p + k ≡ q k) → lanes_of (λ k. get_or xs (p + k) nan) ≡ lanes_of (λ k. get_or xs (q k) nan)

@@ -24,10 +24,11 @@ use Rattle.epf_distances.specs.Taps.{tap_of}
 use Rattle.epf_lanes.specs.declared.Four.{Four}
 use Rattle.epf_lanes.specs.declared.LaneWeights.{LaneWeights}
 use Rattle.epf_vectors.specs.Lanes.{lanes_of}
+use Rattle.epf_vectors.proofs.Rows.{lane-is}
 use Rattle.epf_lanes.specs.Lanes.{weights_to, samples_to, weight_in, weight_of, neighbour_of, lane_of, ◌⊞◌, field_weight, weights_in, four_of, no_four, sums_of, weights_of, mix_of, row_of, row_lanes, tile_of, lanes_stored}
 use Rattle.epf_lanes.specs.Divisors.{LaneBounded}
 use Rattle.epf_lanes.proofs.Divisors.{lane-bounded}
-use Rattle.epf_lanes.proofs.Vectors.{each-lane, lane-is}
+use Rattle.epf_lanes.proofs.Vectors.{each-lane}
 
 twelve-neighbours : length (kernel 0) ≡ 12
 unfolding kernel

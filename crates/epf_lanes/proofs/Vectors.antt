@@ -1,29 +1,22 @@
 -- Vectors of four lanes, and rows that are stored by vectors. Assumes nothing.
-use mathlib.Core.Path.{◌≡◌, refl, ap, ◌∙◌}
+use mathlib.Core.Path.{◌≡◌, refl, ◌∙◌}
 use mathlib.Core.List.{List}
-use Prim.Native.Nat.{ℕ, zero, suc, ◌+◌, ◌-◌, ◌*◌, ◌<◌, ◌≤◌, min}
+use Prim.Native.Nat.{ℕ, ◌+◌, ◌-◌, ◌*◌, ◌<◌, ◌≤◌, min}
 use native.Mathlib.Omega.{arith}
-use lib.Ieee.{Float, nan}
+use lib.Ieee.{Float}
 use borrow.Rule.Slice.PartMut.{put_mid, mid_of}
-use lib.ListN.{length, get_or, set, take}
-use lib.Seq.{set_comm}
+use lib.ListN.{length, take}
 use Rattle.planes.specs.Fill.{fill}
 use Rattle.std.proofs.lemmas.Simd.{length-chunk}
 use Rattle.planes.proofs.Fill.{length-fill, fill-then}
 use Rattle.epf_rects.specs.Three.{three_fill}
+use Rattle.epf_rects.proofs.Three.{three-then, three-long}
 use Rattle.epf_vectors.specs.Lanes.{lanes_of}
 use Rattle.epf_vectors.proofs.Rows.{some-more}
 
 -- vectors are the same if their lanes are
 pub each-lane : (f g : ℕ → Float) → ((k : ℕ) → f k ≡ g k) → lanes_of f ≡ lanes_of g
 each-lane f g h = rw (h 0, h 1, h 2, h 3)
-
-pub lane-is : (f : ℕ → Float) (k : ℕ) → k < 4 → get_or (lanes_of f) k nan ≡ f k
-lane-is f zero l = refl
-lane-is f (suc zero) l = refl
-lane-is f (suc (suc zero)) l = refl
-lane-is f (suc (suc (suc zero))) l = refl
-lane-is f (suc (suc (suc (suc k)))) l = absurd (omega arith)
 
 -- ---- the first m lanes of a vector stored in a row
 
@@ -39,41 +32,6 @@ stored d v w p m f e l h is =
     let a : p + 0 ≡ p = omega arith in
     let b : 0 + m ≡ m = omega arith in
     rw (a, b) at (some-more d d p 0 f (none-filled d p f) m w (is ∙ rw (length-part d p m h, e)) l (omega (arith, h)))
-
--- ---- runs apart from each other
-
-set-first : (d : List Float) (at n : ℕ) (f : ℕ → Float) (k : ℕ) (v : Float) → k < at → set (fill d at n f) k v ≡ fill (set d k v) at n f
-unfolding fill
-set-first d at zero f k v h = refl
-set-first d at (suc n) f k v h = set_comm (fill d at n f) (at + n) k (f n) v (λ (e : at + n ≡ k). omega arith) ∙ ap (λ (l : List Float). set l (at + n) (f n)) (set-first d at n f k v h)
-
-fill-first : (d : List Float) (b m : ℕ) (g : ℕ → Float) (a n : ℕ) (f : ℕ → Float) → a + n ≤ b → fill (fill d b m g) a n f ≡ fill (fill d a n f) b m g
-unfolding fill
-fill-first d b m g a zero f h = refl
-fill-first d b m g a (suc n) f h =
-    ap (λ (l : List Float). set l (a + n) (f n)) (fill-first d b m g a n f (omega arith)) ∙ set-first (fill d a n f) b m g (a + n) (f n) (omega arith)
-
--- m more samples in each of three planes
-three-more : (d : List Float) (o plane n m : ℕ) (f : ℕ → ℕ → Float) (x y z : ℕ → Float) → n + m ≤ plane → ((k : ℕ) → k < m → x k ≡ f 0 (n + k)) → ((k : ℕ) → k < m → y k ≡ f 1 (n + k)) → ((k : ℕ) → k < m → z k ≡ f 2 (n + k))
-    → fill (fill (fill (three_fill d o plane n f) (o + n) m x) (o + plane + n) m y) (o + 2 * plane + n) m z ≡ three_fill d o plane (n + m) f
-unfolding three_fill
-three-more d o plane n m f x y z l ex ey ez =
-    let d1 = fill d o n (f 0) in
-    let d2 = fill d1 (o + plane) n (f 1) in
-    let e1 = fill d o (n + m) (f 0) in
-    let e2 = fill e1 (o + plane) n (f 1) in
-    let e3 = fill e1 (o + plane) (n + m) (f 1) in
-    let s1 : fill (fill d2 (o + 2 * plane) n (f 2)) (o + n) m x ≡ fill (fill d2 (o + n) m x) (o + 2 * plane) n (f 2) = fill-first d2 (o + 2 * plane) n (f 2) (o + n) m x (omega arith) in
-    let s2 : fill d2 (o + n) m x ≡ fill (fill d1 (o + n) m x) (o + plane) n (f 1) = fill-first d1 (o + plane) n (f 1) (o + n) m x (omega arith) in
-    let t1 : fill d1 (o + n) m x ≡ e1 = fill-then d o n m (f 0) x (f 0) (λ k h. refl) ex in
-    let s3 : fill (fill e2 (o + 2 * plane) n (f 2)) (o + plane + n) m y ≡ fill (fill e2 (o + plane + n) m y) (o + 2 * plane) n (f 2) = fill-first e2 (o + 2 * plane) n (f 2) (o + plane + n) m y (omega arith) in
-    let t2 : fill e2 (o + plane + n) m y ≡ e3 = fill-then e1 (o + plane) n m (f 1) y (f 1) (λ k h. refl) ey in
-    let t3 : fill (fill e3 (o + 2 * plane) n (f 2)) (o + 2 * plane + n) m z ≡ fill e3 (o + 2 * plane) (n + m) (f 2) = fill-then e3 (o + 2 * plane) n m (f 2) z (f 2) (λ k h. refl) ez in
-    rw (s1, s2, t1, s3, t2, t3)
-
-three-kept : (d : List Float) (o plane n : ℕ) (f : ℕ → ℕ → Float) → length (three_fill d o plane n f) ≡ length d
-unfolding three_fill
-three-kept d o plane n f = simp length-fill
 
 -- ---- a row of n lanes by vectors, of which the last one is cut: m lanes of vector b
 module _ (d now : List Float) (o b n m : ℕ) (below : b * 4 < n) (size : m ≡ min (n - b * 4) 4) where
@@ -122,11 +80,11 @@ module _ (d now : List Float) (o b n m : ℕ) (below : b * 4 < n) (size : m ≡ 
     pub three-vectors-more : n ≤ plane → o + 2 * plane + n ≤ length d → now ≡ three_fill d o plane (min (b * 4) n) f → x ≡ lanes_of (next (f 0)) → y ≡ lanes_of (next (f 1)) → z ≡ lanes_of (next (f 2))
         → Stores first now x part-x → Stores second now-x y part-y → Stores third now-y z part-z → now-z ≡ three_fill d o plane (min ((b + 1) * 4) n) f
     three-vectors-more l h is ex ey ez sx sy sz =
-        let long : length now ≡ length d = rw is (three-kept d o plane (min (b * 4) n) f) in
+        let long : length now ≡ length d = rw is (three-long d o plane (min (b * 4) n) f) in
         let four : m ≤ 4 = omega (arith, size) in
         let ax : now-x ≡ fill now first m (next (f 0)) = stored now x part-x first m (next (f 0)) ex four (omega (arith, h, size, below, long)) sx in
         let long-x : length now-x ≡ length d = rw ax (length-fill now first m (next (f 0)) ∙ long) in
         let ay : now-y ≡ fill now-x second m (next (f 1)) = stored now-x y part-y second m (next (f 1)) ey four (omega (arith, l, h, size, below, long-x)) sy in
         let long-y : length now-y ≡ length d = rw ay (length-fill now-x second m (next (f 1)) ∙ long-x) in
         let az : now-z ≡ fill now-y third m (next (f 2)) = stored now-y z part-z third m (next (f 2)) ez four (omega (arith, h, size, below, long-y)) sz in
-        rw (az, ay, ax, is, before, after) (three-more d o plane (b * 4) m f (next (f 0)) (next (f 1)) (next (f 2)) (omega (arith, l, below, size)) (λ k l. refl) (λ k l. refl) (λ k l. refl))
+        rw (az, ay, ax, is, before, after) (three-then d o plane (b * 4) m f (λ c. next (f c)) (omega (arith, l, below, size)) (λ c i. refl))

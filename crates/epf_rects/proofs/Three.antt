@@ -1,9 +1,8 @@
--- Three runs as a loop writes them, one sample in each plane at a time; rows of three such runs are a rectangle. Assumes nothing.
+-- Three runs as a loop writes them, some samples in each plane at a time; rows of three such runs are a rectangle. Assumes nothing.
 use mathlib.Core.Path.{◌≡◌, refl, ap, ◌∙◌}
 use mathlib.Core.List.{List}
-use Prim.Native.Nat.{ℕ, zero, suc, ◌+◌, ◌*◌, ◌<◌}
+use Prim.Native.Nat.{ℕ, zero, suc, ◌+◌, ◌*◌, ◌<◌, ◌≤◌}
 use native.Mathlib.Nat.{add-mul, mul_assoc}
-use native.Mathlib.Numerals.{add-one}
 use native.Mathlib.Omega.{arith}
 use lib.ListN.{length, set}
 use lib.Seq.{set_comm}
@@ -11,6 +10,7 @@ use lib.Ieee.{Float}
 use Rattle.planes.specs.declared.Layout.{Layout}
 use Rattle.planes.specs.Picture.{Picture}
 use Rattle.planes.specs.Fill.{fill}
+use Rattle.planes.proofs.Fill.{length-fill, fill-then}
 use Rattle.planes.specs.Rect.{rows_fill, planes_fill}
 use Rattle.planes.proofs.Rect.{planes-turn}
 use Rattle.planes.proofs.Join.{rect-below}
@@ -18,26 +18,42 @@ use Rattle.epf_rects.specs.declared.Rect.{Rect}
 use Rattle.epf_rects.specs.Rects.{RectFits}
 use Rattle.epf_rects.specs.Three.{three_fill}
 
--- ---- one sample in each plane at a time
+-- ---- some samples in each plane at a time
 
+-- a sample before a run
 swap : (d : List Float) (at n : ℕ) (f : ℕ → Float) (k : ℕ) (v : Float) → k < at → set (fill d at n f) k v ≡ fill (set d k v) at n f
 unfolding fill
 swap d at zero f k v h = refl
 swap d at (suc n) f k v h = set_comm (fill d at n f) (at + n) k (f n) v (λ (e : at + n ≡ k). omega arith) ∙ ap (λ (l : List Float). set l (at + n) (f n)) (swap d at n f k v h)
 
--- one more sample in each
-pub three-turn : (d a : List Float) (o plane n : ℕ) (f : ℕ → ℕ → Float) (x y z : Float) → n < plane → a ≡ three_fill d o plane n f → x ≡ f 0 n → y ≡ f 1 n → z ≡ f 2 n
-    → set (set (set a (o + n) x) (o + plane + n) y) (o + 2 * plane + n) z ≡ three_fill d o plane (n + 1) f
-unfolding three_fill fill
-three-turn d a o plane n f x y z l e ex ey ez =
-    let d1 = fill d o n (f 0) in
-    let d2 = fill d1 (o + plane) n (f 1) in
-    let e1 = set d1 (o + n) (f 0 n) in
-    let e2 = fill e1 (o + plane) n (f 1) in
-    let s1 : set (fill d2 (o + 2 * plane) n (f 2)) (o + n) (f 0 n) ≡ fill (set d2 (o + n) (f 0 n)) (o + 2 * plane) n (f 2) = swap d2 (o + 2 * plane) n (f 2) (o + n) (f 0 n) (omega arith) in
-    let s2 : set d2 (o + n) (f 0 n) ≡ e2 = swap d1 (o + plane) n (f 1) (o + n) (f 0 n) (omega arith) in
-    let s3 : set (fill e2 (o + 2 * plane) n (f 2)) (o + plane + n) (f 1 n) ≡ fill (set e2 (o + plane + n) (f 1 n)) (o + 2 * plane) n (f 2) = swap e2 (o + 2 * plane) n (f 2) (o + plane + n) (f 1 n) (omega arith) in
-    rw (e, ex, ey, ez, add-one n, s1, s2, s3)
+-- a run before another one
+swap-runs : (d : List Float) (at n : ℕ) (f : ℕ → Float) (k m : ℕ) (g : ℕ → Float) → k + m ≤ at → fill (fill d at n f) k m g ≡ fill (fill d k m g) at n f
+unfolding fill
+swap-runs d at n f k zero g h = refl
+swap-runs d at n f k (suc m) g h = rw (swap-runs d at n f k m g (omega arith)) (swap (fill d k m g) at n f (k + m) (g m) (omega arith))
+
+-- m more samples in each
+pub three-then : (d : List Float) (o plane n m : ℕ) (f g : ℕ → ℕ → Float) → n + m ≤ plane → ((c i : ℕ) → g c i ≡ f c (n + i))
+    → fill (fill (fill (three_fill d o plane n f) (o + n) m (g 0)) (o + plane + n) m (g 1)) (o + 2 * plane + n) m (g 2) ≡ three_fill d o plane (n + m) f
+unfolding three_fill
+three-then d o plane n m f g l h =
+    let d0 = fill d o n (f 0) in
+    let d1 = fill d0 (o + plane) n (f 1) in
+    let e0 = fill d o (n + m) (f 0) in
+    let e1 = fill e0 (o + plane) n (f 1) in
+    let j = λ (a : List Float) (at c : ℕ). fill-then a at n m (f c) (g c) (f c) (λ i k. refl) (λ i k. h c i) in
+    rw (
+      swap-runs d1 (o + 2 * plane) n (f 2) (o + n) m (g 0) (omega arith),
+      swap-runs d0 (o + plane) n (f 1) (o + n) m (g 0) (omega arith),
+      j d o 0,
+      swap-runs e1 (o + 2 * plane) n (f 2) (o + plane + n) m (g 1) (omega arith),
+      j e0 (o + plane) 1,
+      j (fill e0 (o + plane) (n + m) (f 1)) (o + 2 * plane) 2,
+    )
+
+pub three-long : (d : List Float) (o plane n : ℕ) (f : ℕ → ℕ → Float) → length (three_fill d o plane n f) ≡ length d
+unfolding three_fill
+three-long d o plane n f = length-fill (fill (fill d o n (f 0)) (o + plane) n (f 1)) (o + 2 * plane) n (f 2) ∙ length-fill (fill d o n (f 0)) (o + plane) n (f 1) ∙ length-fill d o n (f 0)
 
 -- ---- as a row of three planes
 

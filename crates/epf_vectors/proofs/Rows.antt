@@ -16,7 +16,7 @@ use Rattle.planes.proofs.Fill.{length-fill, fill-then}
 use Rattle.epf_vectors.specs.Lanes.{lanes_of}
 
 -- a vector has four lanes
-as_lanes : (ys : List Float) → length ys ≡ 4 → ys ≡ lanes_of (λ k. get_or ys k nan)
+pub as_lanes : (ys : List Float) → length ys ≡ 4 → ys ≡ lanes_of (λ k. get_or ys k nan)
 as_lanes [] h = absurd (omega (arith, h))
 as_lanes (a ∷ []) h = absurd (omega (arith, h))
 as_lanes (a ∷ b ∷ []) h = absurd (omega (arith, h))
@@ -24,7 +24,7 @@ as_lanes (a ∷ b ∷ c ∷ []) h = absurd (omega (arith, h))
 as_lanes (a ∷ b ∷ c ∷ d ∷ []) h = refl
 as_lanes (a ∷ b ∷ c ∷ d ∷ e ∷ ys) h = absurd (omega (arith, h))
 
-lane-is : (f : ℕ → Float) (i : ℕ) → i < 4 → get_or (lanes_of f) i nan ≡ f i
+pub lane-is : (f : ℕ → Float) (i : ℕ) → i < 4 → get_or (lanes_of f) i nan ≡ f i
 lane-is f zero l = refl
 lane-is f (suc zero) l = refl
 lane-is f (suc (suc zero)) l = refl

@@ -2,8 +2,9 @@ use mathlib.Core.Path.{◌≡◌, ap, ◌∙◌}
 use Prim.Native.Nat.{◌+◌, ◌*◌}
 use native.Mathlib.Omega.{arith}
 use lib.ListN.{length}
+use Rattle.epf_rects.proofs.Three.{three-long}
 use Rattle.epf_interior.proofs.Lanes.{lanes-in}
-use Rattle.epf_interior.proofs.Runs.{three-long, three-more}
+use Rattle.epf_interior.proofs.Runs.{three-more}
 use Rattle.epf_interior.specs.Inside.{lane_in}
 use Rattle.epf_interior.proofs.row.Goals as goal
 
