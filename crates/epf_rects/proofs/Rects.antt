@@ -1,5 +1,5 @@
 -- When a rectangle fits, and the invariants of the loops that copy it. Assumes nothing.
-use mathlib.Core.Path.{◌≡◌, refl, ◌∙◌}
+use mathlib.Core.Path.{◌≡◌, ap, ◌∙◌}
 use mathlib.Core.Bool.{true, ◌&&◌}
 use mathlib.Core.List.{List}
 use Prim.Native.Nat.{ℕ, ◌+◌, ◌*◌, ◌<◌, ◌≤◌}
@@ -12,13 +12,12 @@ use lib.Ieee.{Float, nan}
 use Rattle.planes.specs.declared.Layout.{Layout}
 use Rattle.planes.specs.Sets.{of}
 use Rattle.planes.specs.Rect.{rows_fill}
-use Rattle.planes.proofs.Rect.{planes-turn}
-use Rattle.planes.proofs.Join.{planes-cong}
+use Rattle.planes.proofs.Rect.{planes-turn, rows-cong}
 use Rattle.planes.specs.Band.{inner, set_fits}
 use Rattle.planes.proofs.Stored.{and_first, and_second}
 use Rattle.planes.proofs.Room.{set-facts, set-true}
 use Rattle.epf_rects.specs.declared.Rect.{Rect}
-use Rattle.epf_rects.specs.Rects.{taken, rect_filled, rect_fits, copied_rect, Lies, RectFits}
+use Rattle.epf_rects.specs.Rects.{rect_filled, rect_fits, copied_rect, RectFits}
 
 -- where the rectangle starts in plane c
 abbrev pub rect_start : Layout → ℕ → ℕ → ℕ → ℕ
@@ -45,47 +44,29 @@ plane-room l n c q len f p =
           omega (arith, f.set, g.across, f.across, add-mul (c * l.image.height + (l.top + y)) r l.image.width, add-mul (c * l.image.height + (l.top + y) + r) 1 l.image.width, mul-le-mul_right l.image.width t);
     }
 
--- an iteration of the loop over planes
-pub plane-next : (l : Layout) (src d a b : List Float) (at step plane : ℕ) (q : Rect) (k o p : ℕ)
-    → a ≡ rect_filled l k q (taken src at step plane) d → o ≡ rect_start l k q.x q.y → p ≡ at + k * plane
-    → b ≡ rows_fill a o l.image.width q.cols q.rows (λ r i. get_or src (p + r * step + i) nan) → b ≡ rect_filled l (k + 1) q (taken src at step plane) d
-plane-next l src d a b at step plane q k o p ea eo ep eb =
-    planes-turn l.image.width l.image.height (l.left + q.x) q.cols (l.top + q.y) q.rows (taken src at step plane) d a b k ea (eb ∙ rw (eo, ep))
-
 -- ---- a rectangle of a set as a picture over the filter region
 
--- an index of plane c, split into plane and index in it
-start-plane : (l : Layout) (x y at plane c : ℕ) → at ≡ (l.top + y) * l.image.width + (l.left + x) → plane ≡ l.image.height * l.image.width → at + c * plane ≡ rect_start l c x y
-start-plane l x y at plane c p q =
-    rw (p, q) (omega (arith, mul_assoc c l.image.height l.image.width, add-mul (c * l.image.height) (l.top + y) l.image.width))
-
-pub taken-inner : (l : Layout) (src : List Float) (x y at plane c i r : ℕ) → at ≡ (l.top + y) * l.image.width + (l.left + x) → plane ≡ l.image.height * l.image.width
-    → taken src at l.image.width plane c i r ≡ inner l src c (x + i) (y + r)
+-- sample i of row r of the rectangle, in plane c
+placed-inner : (l : Layout) (src : List Float) (x y c i r : ℕ) → get_or src (rect_start l c x y + r * l.image.width + i) nan ≡ inner l src c (x + i) (y + r)
 unfolding inner of
-taken-inner l src x y at plane c i r p q =
+placed-inner l src x y c i r =
     let z : c * l.image.height + (l.top + (y + r)) ≡ c * l.image.height + (l.top + y) + r = omega arith in
-    let k : at + c * plane + r * l.image.width + i ≡ (c * l.image.height + (l.top + (y + r))) * l.image.width + (l.left + (x + i)) =
-    rw (start-plane l x y at plane c p q, z) (omega (arith, add-mul (c * l.image.height + (l.top + y)) r l.image.width)) in
-    rw k
+    ap (λ (k : ℕ). get_or src k nan) (rw z (omega (arith, add-mul (c * l.image.height + (l.top + y)) r l.image.width)))
 
--- where a rectangle starts in the first plane
-abbrev pub first_at : Layout → Rect → ℕ
-first_at l q = (l.top + q.y) * l.image.width + (l.left + q.x)
+-- the same with an index split into plane and index in it
+pub taken-inner : (l : Layout) (src : List Float) (x y at plane c i r : ℕ) → at ≡ (l.top + y) * l.image.width + (l.left + x) → plane ≡ l.image.height * l.image.width
+    → get_or src (at + c * plane + r * l.image.width + i) nan ≡ inner l src c (x + i) (y + r)
+taken-inner l src x y at plane c i r p q = rw start (placed-inner l src x y c i r)
+  where
+    start : at + c * plane ≡ rect_start l c x y
+    start = rw (p, q) (omega (arith, mul_assoc c l.image.height l.image.width, add-mul (c * l.image.height) (l.top + y) l.image.width))
 
-pub record SourceRoom (l : Layout) (n : ℕ) (q : Rect) (len : ℕ) : Type 0 where
-  pub start-le : (l.top + q.y) * l.image.width ≤ 268435456
-  pub plane-le : l.image.height * l.image.width ≤ 268435456
-  pub lies : Lies (first_at l q) l.image.width (l.image.height * l.image.width) n q.rows q.cols len
-
-pub source-room : (l : Layout) (n : ℕ) (q : Rect) (len : ℕ) → RectFits l n q len → SourceRoom l n q len
-source-room l n q len f =
-    let g = f.layout in
-    let t : l.top + q.y ≤ 16384 = omega (arith, g.down, g.height-le, f.down) in
-    record {
-      start-le = mul-le-mul t g.width-le;
-      plane-le = mul-le-mul g.height-le g.width-le;
-      lies = λ c r C R. rw (start-plane l q.x q.y _ _ c refl refl) ((plane-room l n c q len f C).rows-fit r R);
-    }
+-- an iteration of the loop over planes
+pub plane-next : (l : Layout) (src d a b : List Float) (q : Rect) (k o : ℕ) → a ≡ rect_filled l k q (λ c i r. inner l src c (q.x + i) (q.y + r)) d → o ≡ rect_start l k q.x q.y
+    → b ≡ rows_fill a o l.image.width q.cols q.rows (λ r i. get_or src (o + r * l.image.width + i) nan) → b ≡ rect_filled l (k + 1) q (λ c i r. inner l src c (q.x + i) (q.y + r)) d
+plane-next l src d a b q k o ea eo eb =
+    planes-turn l.image.width l.image.height (l.left + q.x) q.cols (l.top + q.y) q.rows (λ c i r. inner l src c (q.x + i) (q.y + r)) d a b k ea
+    (eb ∙ rw eo (rows-cong a (rect_start l k q.x q.y) l.image.width q.cols q.rows _ _ (λ r i _ _. placed-inner l src q.x q.y k i r)))
 
 -- ---- the code's test
 module _ (l : Layout) (n : ℕ) (q : Rect) (len : ℕ) where
@@ -118,7 +99,3 @@ module _ (l : Layout) (n : ℕ) (q : Rect) (src d : List Float) where
   pub rect-copied : RectFits l n q (length d) → length src ≡ length d → copied_rect l n q src d ≡ rect_filled l n q (λ c i r. inner l src c (q.x + i) (q.y + r)) d
   unfolding copied_rect
   rect-copied f e = rw (rect-true l n q (length d) f, eq-eqb (length src) (length d) e)
-
-  -- the set after the loop over planes
-  pub copied-as : (a : List Float) → a ≡ rect_filled l n q (taken src (first_at l q) l.image.width (l.image.height * l.image.width)) d → a ≡ rect_filled l n q (λ c i r. inner l src c (q.x + i) (q.y + r)) d
-  copied-as a h = h ∙ planes-cong _ _ _ _ _ _ _ _ d n (λ c i r _ _ _. taken-inner l src q.x q.y _ _ c i r refl refl)

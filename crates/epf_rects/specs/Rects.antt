@@ -1,6 +1,5 @@
 -- Rectangles of a filter region in a set, copied from another list: when the arguments fit, and the set after the copy. Definitions only.
-use Rattle.std.specs.Prelude.{◌≡◌, Bool, cond, ◌&&◌, List, ℕ, ◌+◌, ◌*◌, ◌<◌, ◌≤◌, leb, eqb, length, get_or, Float}
-use Rattle.std.specs.Float.{nan}
+use Rattle.std.specs.Prelude.{◌≡◌, Bool, cond, ◌&&◌, List, ℕ, ◌+◌, ◌*◌, ◌<◌, ◌≤◌, leb, eqb, length, Float}
 use Rattle.planes.specs.declared.Layout.{Layout}
 use Rattle.planes.specs.Picture.{Picture}
 use Rattle.planes.specs.Rect.{planes_fill}
@@ -9,10 +8,6 @@ use Rattle.planes.specs.Fits.{LayoutFits}
 use Rattle.epf_rects.specs.declared.Rect.{Rect}
 
 -- ---- the definitions
-
--- sample i of row r of plane c, in planes that start at index `at`, `plane` apart, with rows `step` apart
-abbrev pub taken : List Float → ℕ → ℕ → ℕ → Picture
-taken src at step plane = λ c i r. get_or src (at + c * plane + r * step + i) nan
 
 -- a set of n planes with picture v in the rectangle, counted from the rectangle's corner
 abbrev pub rect_filled : Layout → ℕ → Rect → Picture → List Float → List Float
@@ -27,10 +22,6 @@ unfoldable pub copied_rect : Layout → ℕ → Rect → List Float → List Flo
 copied_rect l n q src d = cond (rect_fits l n q (length d) && eqb (length src) (length d)) (rect_filled l n q (λ c i r. inner l src c (q.x + i) (q.y + r)) d) d
 
 -- ---- what the loops require
-
--- each row lies inside the list
-abbrev pub Lies : ℕ → ℕ → ℕ → ℕ → ℕ → ℕ → ℕ → Type 0
-Lies at step plane planes rows cols len = (c r : ℕ) → c < planes → r < rows → at + c * plane + r * step + cols ≤ len
 
 pub record RectFits (l : Layout) (n : ℕ) (q : Rect) (len : ℕ) : Type 0 where
   pub layout : LayoutFits l

@@ -4,7 +4,8 @@
 ghost use Rattle.std.specs.Prelude.{◌≡◌, ℕ, ◌+◌, ◌*◌, ◌<◌, ◌≤◌, length, get_or};
 ghost use Rattle.std.specs.Float.{nan};
 ghost use Rattle.planes.specs.Rect.{rows_fill};
-ghost use Rattle.epf_rects.specs.Rects.{taken, Lies, rect_filled, rect_fits, RectFits, copied_rect};
+ghost use Rattle.planes.specs.Band.{inner};
+ghost use Rattle.epf_rects.specs.Rects.{rect_filled, rect_fits, RectFits, copied_rect};
 
 use planes::{Layout, copy_run, set_fits};
 
@@ -34,61 +35,44 @@ impl Rect {
     }
 }
 
-// Copies rows of n samples that lie `stride` apart in `dst` and `step` apart in `src`.
-// Form: the rows lie apart in both lists, with other samples between them, so no slice is the rectangle; `n` counts columns
-// here and planes in `copy_rect`, so `src`, `dst` and `n` are no struct.
+// Copies rows of n samples that start at index `at` of both lists and lie `stride` apart.
+// Form: other samples lie between the rows, so no slice is the rectangle. `src` is read and `dst` is written, so the two are no
+// one slice, and that they are of one length is a clause.
 #[tactic(auto, unfolding(planes::specs::Rect::rows_fill))]
-fn store_rows(
-    dst: &mut [f32],
-    at: usize,
-    stride: usize,
-    src: &[f32],
-    from: usize,
-    step: usize,
-    rows: usize,
-    n: usize,
-)
+fn store_rows(dst: &mut [f32], src: &[f32], at: usize, stride: usize, rows: usize, n: usize)
+    requires same_length { length src.now ≡ length dst.old }
     requires by_index { (r : ℕ) → r < rows → at + r * stride + n ≤ length dst.old }
-    requires by_index_2 { (r : ℕ) → r < rows → from + r * step + n ≤ length src.now }
     ensures { dst.new ≡ rows_fill dst.old at stride n rows
-        (λ (r : ℕ) (i : ℕ). get_or src.now (from + r * step + i) nan) }
+        (λ (r : ℕ) (i : ℕ). get_or src.now (at + r * stride + i) nan) }
 {
     for r in 0..rows {
-        copy_run(dst, at + r * stride, src, from + r * step, n);
+        let from = at + r * stride;
+        copy_run(dst, from, src, from, n);
     }
 }
 
-// Copies a rectangle to each of n planes. In `src` the planes lie `plane` apart and the rows `step` apart.
+// Copies a rectangle in each of n planes.
+// Form: `dst` and `src` as in `store_rows`.
 #[tactic(auto, unfolding(planes::specs::Rect::planes_fill))]
-fn store_planes(
-    dst: &mut [f32],
-    l: Layout,
-    n: usize,
-    rect: Rect,
-    src: &[f32],
-    from: usize,
-    step: usize,
-    plane: usize,
-)
+fn store_planes(dst: &mut [f32], src: &[f32], l: Layout, n: usize, rect: Rect)
     requires rect_fits { RectFits l n rect (length dst.old) }
-    requires lies { Lies from step plane n rect.rows rect.cols (length src.now) }
-    ensures { dst.new ≡ rect_filled l n rect (taken src.now from step plane)
-        dst.old }
+    requires same_length { length src.now ≡ length dst.old }
+    ensures { dst.new ≡ rect_filled l n rect
+        (λ (c : ℕ) (i : ℕ) (r : ℕ). inner l src.now c (rect.x + i) (rect.y + r)) dst.old }
 {
     let stride = l.image.width;
     let height = l.image.height;
     let top = l.top + rect.y;
     let left = l.left + rect.x;
-    let rows = rect.rows;
-    let cols = rect.cols;
     for c in 0..n {
         let at = (c * height + top) * stride + left;
-        store_rows(dst, at, stride, src, from + c * plane, step, rows, cols);
+        store_rows(dst, src, at, stride, rect.rows, rect.cols);
     }
 }
 
 // Copies a rectangle of one set to the same positions of another. Does nothing if the rectangle or the sets do not
 // fit.
+// Form: `dst`, `src`, `l`, `n` and `rect` are handed to `store_planes` once; a struct of them would be made here alone.
 #[tactic(auto, unfolding(crate::specs::Rects::copied_rect))]
 pub fn copy_rect(dst: &mut [f32], src: &[f32], l: Layout, n: usize, rect: Rect)
     ensures { dst.new ≡ copied_rect l n rect src.now dst.old }
@@ -96,7 +80,5 @@ pub fn copy_rect(dst: &mut [f32], src: &[f32], l: Layout, n: usize, rect: Rect)
     if !rect.fits(l, n, dst.len()) || src.len() != dst.len() {
         return;
     }
-    let stride = l.image.width;
-    let from = (l.top + rect.y) * stride + (l.left + rect.x);
-    store_planes(dst, l, n, rect, src, from, stride, l.image.height * stride);
+    store_planes(dst, src, l, n, rect);
 }

@@ -8,6 +8,5 @@ use Rattle.epf_rects.proofs.store_rows.Goals as goal
 
 pub loop-r-preserved : goal.loop-r-preserved
 loop-r-preserved c =
-    let target : c.args.at + c.loop-r.r * c.args.stride + c.args.n ≤ length c.args.dst.now = c.requires.by_index c.loop-r.r c.loop-r-test.true in
-    let source : c.args.from + c.loop-r.r * c.args.step + c.args.n ≤ length c.args.src.now = c.requires.by_index_2 c.loop-r.r c.loop-r-test.true in
-    (omega arith, c.copy_run.auto.dst ∙ c.loop-r.invariant.1, rows-turn _ _ _ _ _ _ _ _ _ c.loop-r.invariant.2 refl (c.copy_run.ensures ∙ copied-run _ _ _ _ _ (omega (arith, target, c.loop-r.invariant.1)) source))
+    let room : c.args.at + c.loop-r.r * c.args.stride + c.args.n ≤ length c.args.dst.now = c.requires.by_index c.loop-r.r c.loop-r-test.true in
+    (omega arith, c.copy_run.auto.dst ∙ c.loop-r.invariant.1, rows-turn _ _ _ _ _ _ _ _ _ c.loop-r.invariant.2 refl (c.copy_run.ensures ∙ copied-run _ _ _ _ _ (omega (arith, room, c.loop-r.invariant.1)) (omega (arith, room, c.requires.same_length))))
