@@ -16,7 +16,7 @@ use epf_rects::{Rect, copy_rect};
 use epf_sizes::{FIELDS, WINDOWS};
 use epf_slopes::{SLOPES, tile_slopes};
 use epf_step::{LAST_STEP, copied};
-use epf_window::load;
+use epf_window::{WindowPart, load};
 use limits::BLOCK;
 use planes::{Layout, PLANES};
 
@@ -38,8 +38,8 @@ fn first_sigma(l: Layout, rect: Rect) -> usize
 }
 
 // Copies a block from `src` if its sigma says so.
-// Form: `dst`, `src` and `rect` go together in this file; a struct of them would borrow the target anew for each call. That both
-// sets are of one length is a clause here and in `restore`, and part of `TileInPass` above.
+// Form: `dst`, `src` and `rect` are what `copy_rect` takes; a struct of them would be made for each block and taken apart here. That
+// both sets are of one length is a clause here and in `restore`, and follows in `tile` from `TileInPass`.
 fn restore_block(dst: &mut [f32], src: &[f32], pass: Pass, sigma: f32, rect: Rect)
     requires rect_fits { RectFits pass.layout pass.planes rect (length dst.old) }
     requires src_len { length src.now ≡ length dst.old }
@@ -55,8 +55,8 @@ fn restore_block(dst: &mut [f32], src: &[f32], pass: Pass, sigma: f32, rect: Rec
 
 // Restores the copied blocks of a tile after its rectangle is filtered; `first` is the index of its first block's
 // sigma.
-// Form: the contracts count a block's sigma from the start of the list, and a slice of the tile's sigmas would need a law that
-// moves the start, here and in `all_copied`, `filter` and `tile`.
+// Form: `Restored` has the sigma of block b at index first + b of the whole list, as the definition of a step has it; for a slice of
+// the tile's sigmas each caller would have to show that its sample b is that one.
 fn restore(dst: &mut [f32], src: &[f32], pass: Pass, sigmas: &[f32], first: usize, rect: Rect)
     requires rect_fits { RectFits pass.layout pass.planes rect (length dst.old) }
     requires src_len { (length src.now ≡ length dst.old) × (rect.cols ≤ tile_columns) }
@@ -109,17 +109,14 @@ fn filter_window(
     let rows = rect.rows;
     let step = s.step;
     let scales = s.scales;
-    load(
-        win,
-        src,
-        l,
-        n,
-        rect.x,
-        rect.y,
-        step,
-        rows + 6 - 2 * step,
-        rect.cols + 8,
-    );
+    let part = WindowPart {
+        x: rect.x,
+        y: rect.y,
+        top: step,
+        rows: rows + 6 - 2 * step,
+        cols: rect.cols + 8,
+    };
+    load(win, src, l, n, part);
     distances(fields, win, step, &scales, n, rows);
     let top = pass.top + rect.y;
     filter_tile(dst, fields, slopes, win, step, l, n, top, rect);

@@ -13,14 +13,13 @@ use Rattle.mirror.proofs.Laws.{mirror-in, mirror-lt}
 use Rattle.planes.specs.declared.Layout.{Layout}
 use Rattle.planes.specs.Sets.{of}
 use Rattle.planes.specs.Fill.{fill}
-use Rattle.planes.proofs.Fill.{fill-then}
+use Rattle.planes.proofs.Fill.{fill-cong, fill-then}
 use Rattle.planes.specs.Rect.{rows_fill}
-use Rattle.planes.proofs.Rect.{planes-turn, rows-cong}
+use Rattle.planes.proofs.Rect.{planes-turn}
 use Rattle.planes.specs.Band.{inner}
 use Rattle.planes.proofs.Room.{set-true, region_start, region-index, plane-room}
-use Rattle.epf_window.specs.declared.PlaneRegion.{PlaneRegion}
 use Rattle.epf_window.specs.declared.WindowPart.{WindowPart}
-use Rattle.epf_window.specs.Window.{row_sample, plane_sample, part_sample, window_sample, window_filled, loaded, WindowFits, PlaneFits}
+use Rattle.epf_window.specs.Window.{row_sample, window_sample, window_filled, loaded, WindowFits, PlaneFits}
 
 -- a mirrored index lies inside the row
 pub ruleset mirror_inside = (mirror-lt)
@@ -50,44 +49,41 @@ module _ (src : List Float) (row x w : ℕ) where
 
 -- ---- a plane
 
--- the row at a mirrored index lies inside the list
-pub row_room : (start stride w h len k : ℕ) → start + (h - 1) * stride + w ≤ len → k < h → start + k * stride + w ≤ len
-row_room start stride w h len k r l = let m : k * stride ≤ (h - 1) * stride = mul-le-mul_right stride (omega arith) in omega arith
+-- the row at index k lies inside the list
+pub row_room : (l : Layout) (c k len : ℕ) → (c * l.image.height + l.top + (l.height - 1)) * l.image.width + l.left + l.width ≤ len → k < l.height → region_start l c + k * l.image.width + l.width ≤ len
+row_room l c k len r h =
+    let m : k * l.image.width ≤ (l.height - 1) * l.image.width = mul-le-mul_right l.image.width (omega arith) in
+    omega (arith, r, m, add-mul (c * l.image.height + l.top) (l.height - 1) l.image.width)
 
-module _ (l : Layout) (src : List Float) (x y c : ℕ) where
-  plane-sample : (i j : ℕ) → plane_sample src (region_start l c) l.image.width l.width l.height x y i j ≡ window_sample l src x y c j i
-  unfolding plane_sample row_sample window_sample inner of
-  plane-sample i j = ap (λ (k : ℕ). get_or src k nan) (region-index l c (mirror (sub_ℕ (x + j) 4) l.width) (mirror (sub_ℕ (y + i) 3) l.height))
-
--- the filter region in plane c
-abbrev pub plane_region : Layout → ℕ → PlaneRegion
-plane_region l c = record { start = region_start l c; stride = l.image.width; width = l.width; height = l.height }
+-- row i of the part, read from the row at the mirrored index k
+pub row_is : (l : Layout) (src a b : List Float) (p : WindowPart) (c o i k q : ℕ) → k ≡ mirror (sub_ℕ (p.y + (p.top + i)) 3) l.height → q ≡ region_start l c + k * l.image.width
+    → b ≡ fill a o p.cols (row_sample src q p.x l.width) → b ≡ fill a o p.cols (λ j. window_sample l src p.x p.y c j (p.top + i))
+unfolding row_sample window_sample inner of
+row_is l src a b p c o i k q ek eq h =
+    h ∙ fill-cong a o p.cols _ _ (λ j _. ap (λ (m : ℕ). get_or src m nan) (rw (eq, ek) (region-index l c (mirror (sub_ℕ (p.x + j) 4) l.width) (mirror (sub_ℕ (p.y + (p.top + i)) 3) l.height))))
 
 -- an iteration of the loop over planes
 pub plane-next : (l : Layout) (src win a b : List Float) (p : WindowPart) (k : ℕ)
     → a ≡ window_filled l k src p.x p.y p.top p.rows p.cols win
-    → b ≡ rows_fill a ((k * 14 + p.top) * 64) 64 p.cols p.rows (part_sample src (plane_region l k) p)
+    → b ≡ rows_fill a ((k * 14 + p.top) * 64) 64 p.cols p.rows (λ i j. window_sample l src p.x p.y k j (p.top + i))
     → b ≡ window_filled l (k + 1) src p.x p.y p.top p.rows p.cols win
 plane-next l src win a b p k e q =
     let z : (k * 14 + p.top) * 64 ≡ (k * 14 + p.top) * 64 + 0 = omega arith in
-    planes-turn 64 14 0 p.cols p.top p.rows (λ c j i. window_sample l src p.x p.y c j (p.top + i)) win a b k e
-    (q ∙ rw (← z) (rows-cong a ((k * 14 + p.top) * 64) 64 p.cols p.rows _ _ (λ i j r s. plane-sample l src p.x p.y k (p.top + i) j)))
+    planes-turn 64 14 0 p.cols p.top p.rows (λ c j i. window_sample l src p.x p.y c j (p.top + i)) win a b k e (rw z at q)
 
 -- what plane c's loop requires
-pub plane-fits : (l : Layout) (n c len : ℕ) (p : WindowPart) → WindowFits l n len p.x p.y p.top p.rows p.cols → c < n → PlaneFits ((c * 14 + p.top) * 64) (plane_region l c) p len
+pub plane-fits : (l : Layout) (n c len : ℕ) (p : WindowPart) → WindowFits l n len p.x p.y p.top p.rows p.cols → c < n → PlaneFits l c p len
 plane-fits l n c len p f lt =
     let g = f.layout in
     let r = plane-room l n c g f.planes-le lt in
-    let few : c ≤ 2 = omega (arith, f.planes-le) in
     let h : l.height - 1 + 1 ≡ l.height = omega (arith, f.y-lt) in
     record {
-      region-le = omega (arith, f.source, g.across, r.ends, add-mul (l.height - 1) 1 l.image.width, ap (λ (k : ℕ). k * l.image.width) h);
-      width-le = omega (arith, g.across, g.width-le);
-      height-le = omega (arith, g.down, g.height-le);
+      layout = g;
+      plane-le = omega (arith, f.planes-le);
+      region-le = omega (arith, f.source, g.across, r.ends, add-mul (c * l.image.height + l.top + (l.height - 1)) 1 l.image.width, ap (λ (k : ℕ). (c * l.image.height + l.top + k) * l.image.width) h);
       x_lt = f.x_lt;
       y-lt = f.y-lt;
-      top-le = omega (arith, f.rows-le);
-      target-le = omega (arith, f.rows-le);
+      rows-le = f.rows-le;
       cols-ge = f.cols-ge;
       cols-le = f.cols-le;
     }

@@ -9,7 +9,6 @@ use Rattle.planes.specs.Rect.{planes_fill}
 use Rattle.planes.specs.Band.{inner, set_fits}
 use Rattle.planes.specs.Fits.{LayoutFits}
 use Rattle.epf_sizes.specs.Sizes.{stride, window_rows, windows_length, max_side}
-use Rattle.epf_window.specs.declared.PlaneRegion.{PlaneRegion}
 use Rattle.epf_window.specs.declared.WindowPart.{WindowPart}
 
 -- ---- the samples
@@ -17,15 +16,6 @@ use Rattle.epf_window.specs.declared.WindowPart.{WindowPart}
 -- column j of a window's row that starts four columns left of x, in a row of w samples that starts at index `row`
 unfoldable pub row_sample : List Float → ℕ → ℕ → ℕ → ℕ → Float
 row_sample src row x w j = get_or src (row + mirror (sub_ℕ (x + j) 4) w) nan
-
--- row i of a window that starts three rows above y, in a region of w columns and h rows; row 0 starts at index `at`, and rows lie `stride`
--- apart
-unfoldable pub plane_sample : List Float → ℕ → ℕ → ℕ → ℕ → ℕ → ℕ → ℕ → ℕ → Float
-plane_sample src at stride w h x y i j = row_sample src (at + mirror (sub_ℕ (y + i) 3) h * stride) x w j
-
--- column j of row i of a part of a window
-abbrev pub part_sample : List Float → PlaneRegion → WindowPart → ℕ → ℕ → Float
-part_sample src r p = λ i j. plane_sample src r.start r.stride r.width r.height p.x p.y (p.top + i) j
 
 -- Column j and row i of a window on column x and row y of the filter region: the sample four columns left of x + j and three rows above y + i, mirrored (Specification 8.2).
 unfoldable pub window_sample : Layout → List Float → ℕ → ℕ → Picture
@@ -64,14 +54,13 @@ pub record RowFits (at row x w cols len : ℕ) : Type 0 where
   pub target-le : at + cols ≤ windows_length
   pub cols-ge : 4 ≤ cols
 
--- a region inside a list of `len` samples, and a part of a window's plane
-pub record PlaneFits (at : ℕ) (r : PlaneRegion) (p : WindowPart) (len : ℕ) : Type 0 where
-  pub region-le : r.start + (r.height - 1) * r.stride + r.width ≤ len
-  pub width-le : r.width ≤ max_side
-  pub height-le : r.height ≤ max_side
-  pub x_lt : p.x < r.width
-  pub y-lt : p.y < r.height
-  pub top-le : p.top ≤ window_rows
-  pub target-le : at + p.rows * stride ≤ windows_length
+-- plane c of a set of `len` samples, and a part of a window
+pub record PlaneFits (l : Layout) (c : ℕ) (p : WindowPart) (len : ℕ) : Type 0 where
+  pub layout : LayoutFits l
+  pub plane-le : c ≤ 2
+  pub region-le : (c * l.image.height + l.top + (l.height - 1)) * l.image.width + l.left + l.width ≤ len
+  pub x_lt : p.x < l.width
+  pub y-lt : p.y < l.height
+  pub rows-le : p.top + p.rows ≤ window_rows
   pub cols-ge : 4 ≤ p.cols
   pub cols-le : p.cols ≤ stride
