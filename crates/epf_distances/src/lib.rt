@@ -25,7 +25,8 @@ const PAST: usize = 188;
 const PAIRS: usize = 6;
 
 // The index in a window's plane where a neighbour's samples start, and where its distances start among the fields.
-// Form: two indices that hold in every tile's windows and fields, so no slices; other structs of two numbers have lengths or rows.
+// Form: two indices that are the same in every tile's windows and fields, so no slices; other structs of two numbers are like it by
+// chance.
 #[derive(Clone, Copy, Debug, PartialEq, Eq)]
 pub struct Tap {
     pub index: usize,
@@ -33,7 +34,8 @@ pub struct Tap {
 }
 
 // A run of n distances: where it starts among the fields, and the index in a window's plane of its first sample.
-// Form: indices and no slices, since samples before and after the run are read too; `InnerRow` has three rows, not a run.
+// Form: indices and no slices, since samples before and after the run are read too; `InnerRow` of `gabor_plane` is like it by
+// chance.
 #[derive(Clone, Copy)]
 struct Run {
     at: usize,
@@ -42,7 +44,8 @@ struct Run {
 }
 
 // The number of fields of a step.
-// Form: a step stays a number, since `distances` and `neighbour` promise a result for every one.
+// Form: a step is a number in the definitions and in what `distances` and `neighbour` promise, which is a result for every one; for
+// an enum each contract would name its number.
 fn half(step: usize) -> usize
     ensures { result ≡ half_of step }
 {
@@ -193,7 +196,8 @@ fn differences(
 }
 
 // The sum of the differences that a distance of step 0 or 1 has at index j, in that step's order.
-// Form: a step stays a number, as in `half`; as a const parameter it would move this test to `add_channel`, above the hot loop.
+// Form: a step stays a number, as in `half`. As a const parameter of `add_nearby` it would be tested in `add_channel` instead, with
+// one call for each step.
 #[tactic(auto, unfolding(crate::specs::Seen::nearby))]
 fn nearby(step: usize, d: &[f32; WINDOW_PLANE], j: usize) -> f32
     requires { (step < 2) × (stride ≤ j) × (j + stride < window_plane) }
@@ -205,24 +209,23 @@ fn nearby(step: usize, d: &[f32; WINDOW_PLANE], j: usize) -> f32
     0.0 + d[j - STRIDE] + d[j] + d[j + STRIDE] + d[j - 1] + d[j + 1]
 }
 
-// Adds one channel's scaled sums of differences to n distances.
-// Form: `at` and `n` are a run's, without its `from` in `clear` and beside other bounds here, so no struct says all three premises.
+// Adds one channel's scaled sums of differences to the distances of a run.
 #[tactic(auto, using(crate::proofs::Runs::later), unfolding(planes::specs::Fill::fill))]
 fn add_nearby(
     fields: &mut [f32; FIELDS],
-    at: usize,
+    run: Run,
     d: &[f32; WINDOW_PLANE],
     scale: f32,
     step: usize,
-    from: usize,
-    n: usize,
 )
-    requires { (step < 2) × (stride ≤ from) × (from + n + stride ≤ window_plane)
-        × (at + n ≤ fields_length) }
-    ensures { fields.new ≡ fill fields.old at n
-        (λ (i : ℕ). get_or fields.old (at + i) nan ⊕ scale ⊗ nearby_of step
-        (λ (p : ℕ). get_or d.now p nan) (from + i)) }
+    requires { (step < 2) × RunFits run 0 }
+    ensures { fields.new ≡ fill fields.old run.at run.n
+        (λ (i : ℕ). get_or fields.old (run.at + i) nan ⊕ scale ⊗ nearby_of step
+        (λ (p : ℕ). get_or d.now p nan) (run.from + i)) }
 {
+    let at = run.at;
+    let from = run.from;
+    let n = run.n;
     for i in 0..n {
         fields[at + i] = fields[at + i] + scale * nearby(step, d, from + i);
     }
@@ -260,23 +263,26 @@ fn add_single_vectors(
     }
 }
 
-// The same for n distances. The last n % 4 are taken one by one, as in `differences`.
+// The same for the distances of a run. The last n % 4 are taken one by one, as in `differences`.
+// Form: `fields`, `win`, a plane's number `c` and the distance `k` of the two samples are handed on by `add_channel`; a struct of them
+// would be made there alone, for each plane.
 #[tactic(auto, using(crate::proofs::Runs::later), unfolding(planes::specs::Fill::fill, crate::specs::Seen::apart_by, crate::specs::Seen::nearby))]
 fn add_single(
     fields: &mut [f32; FIELDS],
-    at: usize,
+    run: Run,
     win: &[f32; WINDOWS],
     c: usize,
     k: usize,
     scale: f32,
-    from: usize,
-    n: usize,
 )
-    requires { (c < 3) × (from + n + k ≤ window_plane) × (at + n ≤ fields_length) }
-    ensures { fields.new ≡ fill fields.old at n
-        (λ (i : ℕ). get_or fields.old (at + i) nan ⊕ scale ⊗ nearby_of 2 (apart_by win.now c k)
-        (from + i)) }
+    requires { (c < 3) × RunFits run k }
+    ensures { fields.new ≡ fill fields.old run.at run.n
+        (λ (i : ℕ). get_or fields.old (run.at + i) nan ⊕ scale ⊗ nearby_of 2 (apart_by win.now c k)
+        (run.from + i)) }
 {
+    let at = run.at;
+    let from = run.from;
+    let n = run.n;
     let base = c * WINDOW_PLANE;
     let vectors = n / 4;
     add_single_vectors(fields, at, win, c, k, scale, from, vectors);
@@ -304,22 +310,20 @@ fn add_channel(
         (λ (i : ℕ). get_or fields.old (run.at + i) nan
         ⊕ scale ⊗ nearby_of step (apart_by win.now c k) (run.from + i)) }
 {
-    let at = run.at;
-    let from = run.from;
-    let n = run.n;
     if 1 < step {
-        add_single(fields, at, win, c, k, scale, from, n);
+        add_single(fields, run, win, c, k, scale);
         return;
     }
-    differences(d, win, c, k, from - STRIDE, n + 2 * STRIDE);
-    add_nearby(fields, at, d, scale, step, from, n);
+    differences(d, win, c, k, run.from - STRIDE, run.n + 2 * STRIDE);
+    add_nearby(fields, run, d, scale, step);
 }
 
-fn clear(fields: &mut [f32; FIELDS], at: usize, n: usize)
-    requires { at + n ≤ fields_length }
-    ensures { fields.new ≡ fill fields.old at n (λ (i : ℕ). b0) }
+// Sets the distances of a run to 0.
+fn clear(fields: &mut [f32; FIELDS], run: Run)
+    requires { run.at + run.n ≤ fields_length }
+    ensures { fields.new ≡ fill fields.old run.at run.n (λ (i : ℕ). b0) }
 {
-    fields[at..at + n].fill(0.0);
+    fields[run.at..run.at + run.n].fill(0.0);
 }
 
 // Computes the distances of a run, between samples that lie k apart.
@@ -339,7 +343,7 @@ fn field(
     ensures { fields.new ≡ fill fields.old run.at run.n
         (λ (i : ℕ). dist_at step (scaled planes scales.now) win.now k (run.from + i)) }
 {
-    clear(fields, run.at, run.n);
+    clear(fields, run);
     for c in 0..planes {
         add_channel(fields, run, d, win, c, step, k, scales[c]);
     }

@@ -9,6 +9,6 @@ use Rattle.epf_distances.proofs.clear.Goals as goal
 
 pub returns : goal.returns
 returns c =
-    let room : c.args.at + c.args.n ≤ length c.args.fields.now = omega arith in
-    let size : length c.fill.new.self ≡ c.args.n = omega (arith, c.fill.ensures.len, mid_len c.args.at (c.args.at + c.args.n) c.args.fields.now room) in
+    let room : c.args.run.at + c.args.run.n ≤ length c.args.fields.now = omega arith in
+    let size : length c.fill.new.self ≡ c.args.run.n = omega (arith, c.fill.ensures.len, mid_len c.args.run.at (c.args.run.at + c.args.run.n) c.args.fields.now room) in
     part-filled _ _ _ _ _ room size (λ k l. c.fill.ensures.clones k _ (omega (arith, c.fill.ensures.len, size)) refl)
