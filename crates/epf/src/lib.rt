@@ -39,8 +39,8 @@ pub struct EpfStep {
 }
 
 // Checks the filter region's corner, the lengths, the step, the flag and the rows.
-// Form: the step and the flag are numbers as C hands them, and are tested here. The fields of `planes::Layout` are public; a ghost
-// field for `LayoutFits` would ask it of every function that takes a layout.
+// Form: the step and the flag are numbers as C hands them, and are tested here. `LayoutFits` is a clause and no ghost field of
+// `Layout`, since a layout may hold any numbers: `set_fits` and all that tests by it take such a one too.
 #[tactic(auto, using(crate::proofs::Fits::size_rules), unfolding(crate::specs::Outcome::step_checks))]
 fn check_pass(
     l: Layout,
@@ -94,8 +94,8 @@ impl From<EpfStep> for Step {
 
 // Writes rows `from` up to `to` of the result region: copies outside the filter region, then filtered samples inside
 // it.
-// Form: `src`, `dst` and `n` travel together in other crates too, where `n` counts planes, columns or rows; a struct would borrow
-// the target anew for each call.
+// Form: the parameters are what `copy_outside` and then `filter_region` take; a struct of them would be made in `epf_pass` and
+// taken apart here.
 fn epf_band(
     src: &[f32],
     dst: &mut [f32],

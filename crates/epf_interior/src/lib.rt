@@ -43,7 +43,8 @@ fn four(xs: &[f32], p: usize) -> f32x4
 }
 
 // The distances between the samples at indices p to p + 3 and those at q to q + 3, over three planes.
-// Form: four samples at each of two places in three planes are no run, so no slice holds them.
+// Form: four samples at each of two places in three planes are no run, so no slice holds them. The planes are written out, as a loop
+// over them would need an invariant for a sum of three terms.
 fn distance(src: &[f32], plane: usize, scales: &[f32; PLANES], p: usize, q: usize) -> f32x4
     requires { (p + 2 * plane + 4 ≤ length src.now) × (q + 2 * plane + 4 ≤ length src.now) }
     ensures { result ≡ lanes_of (λ (k : ℕ). far_at src.now plane scales.now (p + k) (q + k)) }
@@ -94,7 +95,7 @@ fn weights_at(
 }
 
 // The four samples whose corners start at `corner`, each plus its weighted neighbours, over its divisor.
-// Form: it reads around four samples, in three rows, so no slice is what it goes over.
+// Form: it reads around four samples, in three rows, so no slice is what it goes over; `stride` is positive as in `weights_at`.
 fn mix(src: &[f32], stride: usize, corner: usize, w: Weights) -> f32x4
     requires { (0 < stride) × (corner + 2 * stride + 1 + 4 ≤ length src.now)
         × (w ≡ lanes_of_weights (weights_in_lane w)) }
@@ -111,7 +112,7 @@ fn mix(src: &[f32], stride: usize, corner: usize, w: Weights) -> f32x4
 
 // Filters a row of n samples in each plane, four at a time. Its corners start at `corner`, its slopes at index `first`.
 // Form: the loop reads around a run and writes one in each of three planes, so no slice is what it goes over. That `dst` is as
-// long as `src`, and `n` at most `plane`, is a clause here and a fact of `RectFits` above.
+// long as `src` is a clause here and in `rows_of`; that `n` is at most `plane` follows there from the rectangle.
 #[tactic(auto, unfolding(epf_rects::specs::Three::three_fill, planes::specs::Fill::fill))]
 fn row(
     dst: &mut [f32],
@@ -145,8 +146,7 @@ fn row(
 }
 
 // Filters the rows of a rectangle; its row 0 is at y = `top`.
-// Form: a target, its source and a rectangle travel together from `epf_tiles` on, but with a pass there and a layout here; a
-// struct of two borrowed sets would have to be taken apart in each contract.
+// Form: the parameters are those of `filter_inside`, handed on once; a struct of them would be made there and taken apart here.
 #[tactic(auto, using(epf_rects::proofs::Three::rows_none))]
 fn rows_of(
     dst: &mut [f32],
@@ -192,6 +192,7 @@ pub fn lies_inside(l: Layout, rect: Rect) -> bool
 
 // Filters such a rectangle in three planes with the slopes of its columns; its row 0 is at y = `top`. Does nothing if
 // the rectangle, the sets or the slopes do not fit.
+// Form: a target, its source and a rectangle, with a layout here and a pass in `epf_tiles`, so they are no one struct.
 #[tactic(auto, unfolding(crate::specs::Inside::inside_filled))]
 pub fn filter_inside(
     dst: &mut [f32],

@@ -27,6 +27,7 @@ pub(crate) struct Four {
 
 // The weights of the neighbours of four lanes in the order of the kernel offsets, and the divisors: 1 plus their sum. Steps 1
 // and 2 have four neighbours, a cross, and zeros in `v` and `w`.
+// Form: in these steps `mix` does not read `v` and `w`; a struct without them would need a second `weights` and a second `mix`.
 #[derive(Clone, Copy)]
 pub(crate) struct LaneWeights {
     u: Four,
@@ -37,7 +38,7 @@ pub(crate) struct LaneWeights {
 
 // Filters a rectangle of at most 8 rows and 56 columns in each plane; its row 0 is at y = `top`. Does nothing if the
 // rectangle or the set does not fit.
-// Form: the tile's arrays stay side by side; why, the head of `rows.rt` says.
+// Form: the tile's arrays stay side by side, as in `rows.rt`.
 #[tactic(auto, unfolding(crate::specs::Lanes::lanes_stored))]
 pub fn filter_tile(
     dst: &mut [f32],

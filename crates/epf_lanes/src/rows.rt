@@ -2,8 +2,9 @@
 // tile's arrays are declared: only there does the compiler see that they do not overlap the target.
 // A row goes by vectors of four lanes; of its last vector, the lanes inside the row are stored.
 // Three planes go together, since they share a lane's weights; another number of planes goes plane by plane. One function
-// for both would need a loop over planes within the loop over lanes. The tile's arrays stay side by side: with a struct
-// of them each clause would name `tile.entry.fields.now` for `fields.now`.
+// for both would need a loop over planes within the loop over lanes.
+// Form: the tile's arrays stay side by side in this file: with a struct of them each clause would name `tile.entry.fields.now` for
+// `fields.now`.
 ghost use Rattle.std.specs.Prelude.{◌≡◌, ℕ, ◌+◌, ◌*◌, ◌<◌, ◌≤◌, length, take};
 ghost use Rattle.planes.specs.Fill.{fill};
 ghost use Rattle.planes.specs.Rect.{rows_fill};
@@ -78,8 +79,8 @@ fn one_vector<const STEP: usize>(
 
 // Filters n lanes of row r in step STEP, in three planes that lie `plane` apart in the target. The row's slopes start at
 // index `first`.
-// Form: the hot loop stays as it was measured. It writes a run in each of three planes of one slice, so `at`, `plane` and `n`
-// stand for what no one slice is; a struct that holds `RowFits` of `first`, `r` and `n` would be made for each row.
+// Form: it writes a run in each of three planes of one slice, so `at`, `plane` and `n` stand for what no one slice is; a struct
+// that holds `RowFits` of `first`, `r` and `n` would be made for each row.
 #[tactic(auto, unfolding(epf_rects::specs::Three::three_fill, planes::specs::Fill::fill))]
 fn three_lanes<const STEP: usize>(
     dst: &mut [f32],
@@ -107,7 +108,7 @@ fn three_lanes<const STEP: usize>(
 }
 
 // Filters n lanes of row r in plane c.
-// Form: the hot loop stays as it was measured, with the run `at` and `n` of the target and the number of a plane.
+// Form: as `three_lanes`, with a run in one plane.
 #[tactic(auto, unfolding(planes::specs::Fill::fill))]
 fn one_lanes<const STEP: usize>(
     dst: &mut [f32],
@@ -245,6 +246,7 @@ fn plane_rows(
 }
 
 // Filters a rectangle in each of n planes, one after another.
+// Form: its rows and columns are bounded as in `filter_three`.
 #[tactic(auto, unfolding(planes::specs::Rect::planes_fill))]
 pub(crate) fn filter_planes(
     dst: &mut [f32],

@@ -1,4 +1,4 @@
-// Copies rectangles of a filter region from another list. These functions only move data.
+// Copies rectangles of a filter region from another set. These functions only move data.
 #![tactic(auto)]
 
 ghost use Rattle.std.specs.Prelude.{◌≡◌, ℕ, ◌+◌, ◌*◌, ◌<◌, ◌≤◌, length, get_or};
@@ -10,7 +10,7 @@ ghost use Rattle.epf_rects.specs.Rects.{rect_filled, rect_fits, RectFits, copied
 use planes::{Layout, copy_run, set_fits};
 
 // Columns x up to x + cols and rows y up to y + rows of the filter region.
-// Form: the fields are a rectangle in the filter region, those of `PlaneRegion` a plane's place and size among samples.
+// Form: columns and rows; `PlaneRegion` of `gabor_plane`, with an index and a stride, has four numbers by chance.
 #[derive(Clone, Copy, Debug, PartialEq, Eq)]
 pub struct Rect {
     pub x: usize,
@@ -22,7 +22,7 @@ pub struct Rect {
 impl Rect {
     // Whether the rectangle has at least one row and lies in the filter region, and `len` is the length of a set of n
     // planes.
-    // Form: `len` is a number and no slice, so that the test asks no more of its callers than it reads.
+    // Form: no sample is read, so the test takes a set's length alone, as `set_fits` does.
     pub fn fits(self, l: Layout, n: usize, len: usize) -> bool
         ensures { result ≡ rect_fits l n self len }
     {

@@ -20,7 +20,9 @@ const BORDER: usize = 64;
 
 pub const SLOPES: usize = 128;
 
-// A row that is not at a block's border, and one that is; they represent all others.
+// The y of a row that is not at a block's border, and of one that is; they represent all others.
+// Form: `multiplier` takes a row's y and tests it together with the column, so a kind of row is handed on as such a y; a bool would
+// need a second function of the same formula.
 const INNER_ROW: usize = 1;
 
 const BORDER_ROW: usize = 0;
@@ -78,6 +80,7 @@ fn row_slopes(
 
 // Computes the slopes of at most seven blocks, whose sigmas start at index `first`; `edge` is `border_sad_mul`. Does
 // nothing if there are more blocks or sigmas are missing.
+// Form: `scale` and `edge` as in `block_slopes`.
 #[tactic(auto, unfolding(crate::specs::Slopes::slopes_of))]
 pub fn tile_slopes(
     slopes: &mut [f32; SLOPES],

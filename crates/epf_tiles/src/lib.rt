@@ -8,6 +8,8 @@ use planes::Layout;
 
 // The settings of a step: one scale per channel, the step's multiplier as `scale`, the border multiplier as `edge`,
 // and the copying limit.
+// Form: `epf::EpfStep`, C's struct, has the same settings with a step of 32 bits, and no limit. The limit is a field here, since
+// the definition of a step takes any; `epf` sets it to 0.3 for each call.
 #[derive(Clone, Copy)]
 pub struct Step {
     pub step: usize,

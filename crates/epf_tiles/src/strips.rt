@@ -15,7 +15,7 @@ use planes::{Layout, set_fits};
 const MAX_TOP: usize = 4_294_967_296;
 
 // Rows y up to y + rows of the filter region.
-// Form: a first row and a count of rows; other structs of two numbers have two lengths or two indices.
+// Form: a first row and a count of rows; other structs of two numbers are like it by chance.
 #[derive(Clone, Copy)]
 struct RowSpan {
     y: usize,
@@ -23,7 +23,8 @@ struct RowSpan {
 }
 
 // Filters a strip of rows, tile by tile.
-// Form: `dst`, `src` and `sigmas` are three slices that `filter_region` was given, handed on twice.
+// Form: `dst`, `src` and `sigmas` are slices of `filter_region`'s caller, handed on by `strips`. A struct that holds `dst` and the
+// three arrays as `&mut` is not `Copy`, and each contract down to `filter_window` would have to say which of them stay.
 #[tactic(auto, using(crate::proofs::Region::no_columns))]
 fn strip(
     dst: &mut [f32],
@@ -82,7 +83,7 @@ fn strips(dst: &mut [f32], src: &[f32], pass: Pass, sigmas: &[f32], from: usize,
 
 // Filters rows `from` up to `to` of the filter region in n planes. Its row 0 is at y = `top`. `sigmas` has one sigma
 // per block, row of blocks by row of blocks. Does nothing if the sets, sigmas, step or rows do not fit.
-// Form: the test of the step chooses nothing to run; it refuses a number that is no step.
+// Form: a step is a number, as in `epf_distances`, so it may be one above 2; the call then does nothing.
 #[tactic(auto, unfolding(crate::specs::Region::region_of))]
 pub fn filter_region(
     dst: &mut [f32],

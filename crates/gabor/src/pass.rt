@@ -11,7 +11,8 @@ use planes::{Layout, PLANES, filter_row};
 use planes_outside::copy_outside;
 
 // Filters `rows` rows of the filter region, from row `from`, in each plane.
-// Form: the set that is read and the set that is written are two slices of a C caller, so their lengths are compared.
+// Form: the sets are two slices of a C caller, and `gabor_pass` tests the length of each; here a clause says that both are of one
+// length. `LayoutFits` is a clause as in `epf::check_pass`.
 fn gabor_planes(
     src: &[f32],
     dst: &mut [f32],
@@ -40,6 +41,8 @@ fn gabor_planes(
 }
 
 // Rows `from` up to, not including, `to` of the result region.
+// Form: the parameters are what `copy_outside` and then `gabor_planes` take; a struct of them would be made in `gabor_pass` and taken
+// apart here.
 #[tactic(auto, using(crate::proofs::PassLaws::band_passed))]
 pub(crate) fn gabor_band(
     src: &[f32],

@@ -11,7 +11,7 @@ ghost use Rattle.gabor_kernel.specs.Gabor.{kernel_of, gabor_by};
 ghost use Rattle.gabor_kernel.specs.Nine.{same, ending, nine};
 
 // The weight of the side neighbours, that of the diagonal ones, and the reciprocal of the sum of the kernel.
-// Form: `Row3` has three samples: the same types, and no function takes the one for the other.
+// Form: two weights and a reciprocal; `Row3` has three floats by chance.
 #[derive(Clone, Copy, Debug, PartialEq)]
 pub struct Kernel {
     pub w0: f32,
@@ -20,7 +20,7 @@ pub struct Kernel {
 }
 
 // Three samples of a row, next to each other.
-// Form: samples, where `Kernel` has weights and a reciprocal.
+// Form: three samples; `Kernel` has three floats by chance.
 #[derive(Clone, Copy, Debug, PartialEq)]
 pub struct Row3 {
     pub left: f32,

@@ -14,8 +14,8 @@ use limits::MAX_SIDE;
 use source::Source;
 
 // A region of a plane: row y of it starts at index at + y * stride of a slice.
-// Form: `at` is an index and no slice, since the same region is read in one slice and written in another. `Rect` has rows and
-// columns of a filter region. epf_window has such a struct for one private function; one for both would stand in `planes`.
+// Form: `at` is an index and no slice, since the same region is read in one slice and written in another. `Rect` of `epf_rects` has
+// four numbers by chance.
 #[derive(Clone, Copy, Debug, PartialEq, Eq)]
 pub struct PlaneRegion {
     pub at: usize,

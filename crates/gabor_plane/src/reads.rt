@@ -53,7 +53,7 @@ pub(crate) trait Row: Copy {
 }
 
 // An inner row. An end of it is computed like an inner column whose missing neighbour is the end sample.
-// Form: where three rows start; the fields of epf_distances' `Run` are places in two other buffers and a count.
+// Form: where three rows start; `Run` of `epf_distances`, two indices and a length, has three numbers by chance.
 #[derive(Clone, Copy)]
 pub(crate) struct InnerRow {
     pub above: usize,
@@ -90,7 +90,7 @@ impl Row for InnerRow {
 }
 
 // The first or last of several rows, and the row next to it.
-// Form: where two rows start; `Size`, `RowSpan` and `Tap` have two numbers of other kinds.
+// Form: where two rows start; other structs of two numbers are like it by chance.
 #[derive(Clone, Copy)]
 pub(crate) struct EdgeRow {
     pub here: usize,
