@@ -4,6 +4,8 @@
 pub mod strips;
 mod tile;
 
+use epf_sizes::{FIELDS, WINDOWS};
+use epf_slopes::SLOPES;
 use planes::Layout;
 
 // The settings of a step: one scale per channel, the step's multiplier as `scale`, the border multiplier as `edge`,
@@ -17,6 +19,14 @@ pub struct Step {
     pub scale: f32,
     pub edge: f32,
     pub limit: f32,
+}
+
+// The arrays that a tile is computed in: its windows, its fields of distances and the slopes of its columns.
+#[derive(Drop)]
+pub(crate) struct Arrays {
+    win: [f32; WINDOWS],
+    fields: [f32; FIELDS],
+    slopes: [f32; SLOPES],
 }
 
 // What the tiles of a pass share: the layout and the number of planes of its sets, the step's settings, and the y of

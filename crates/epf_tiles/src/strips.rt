@@ -3,7 +3,7 @@ ghost use Rattle.std.specs.Prelude.{◌≡◌, ◌-◌, ◌≤◌, length};
 ghost use Rattle.epf_tiles.specs.Region.{PassFits, StripFits, rows_stepped, region_of};
 
 use crate::tile::{blocks_of, tile};
-use crate::{Pass, Step};
+use crate::{Arrays, Pass, Step};
 use epf_rects::Rect;
 use epf_sizes::{FIELDS, LANES, WINDOWS};
 use epf_slopes::SLOPES;
@@ -23,8 +23,8 @@ struct RowSpan {
 }
 
 // Filters a strip of rows, tile by tile.
-// Form: `dst`, `src` and `sigmas` are slices of `filter_region`'s caller, handed on by `strips`. A struct that holds `dst` and the
-// three arrays as `&mut` is not `Copy`, and each contract down to `filter_window` would have to say which of them stay.
+// Form: `dst`, `src` and `sigmas` are slices of `filter_region`'s caller, handed on by `strips`; a struct that holds `dst` is not
+// `Copy`, and each contract would have to say what else of it stays.
 #[tactic(auto, using(crate::proofs::Region::no_columns))]
 fn strip(
     dst: &mut [f32],
@@ -32,9 +32,7 @@ fn strip(
     pass: Pass,
     sigmas: &[f32],
     span: RowSpan,
-    win: &mut [f32; WINDOWS],
-    fields: &mut [f32; FIELDS],
-    slopes: &mut [f32; SLOPES],
+    arrays: &mut Arrays,
 )
     requires pass_fits { PassFits pass (length src.now) (length dst.old) (length sigmas.now) }
     requires strip_fits { StripFits pass.layout span.y span.rows }
@@ -47,7 +45,7 @@ fn strip(
     for x in (0..width).step_by(LANES) {
         let cols = (width - x).min(LANES);
         let rect = Rect { x, y, rows, cols };
-        tile(dst, src, pass, sigmas, rect, win, fields, slopes);
+        tile(dst, src, pass, sigmas, rect, arrays);
     }
 }
 
@@ -59,24 +57,17 @@ fn strips(dst: &mut [f32], src: &[f32], pass: Pass, sigmas: &[f32], from: usize,
     ensures { dst.new ≡ rows_stepped pass from (to - from) sigmas.now src.now
         dst.old }
 {
-    let mut win = [0.0; WINDOWS];
-    let mut fields = [0.0; FIELDS];
-    let mut slopes = [0.0; SLOPES];
+    let mut arrays = Arrays {
+        win: [0.0; WINDOWS],
+        fields: [0.0; FIELDS],
+        slopes: [0.0; SLOPES],
+    };
     let mut y = from;
     // Form: the first strip may be shorter, so no range with a fixed step gives the others.
     while y < to {
         let rows = (to - y).min(BLOCK - y % BLOCK);
         let span = RowSpan { y, rows };
-        strip(
-            dst,
-            src,
-            pass,
-            sigmas,
-            span,
-            &mut win,
-            &mut fields,
-            &mut slopes,
-        );
+        strip(dst, src, pass, sigmas, span, &mut arrays);
         y += rows;
     }
 }

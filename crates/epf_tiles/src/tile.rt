@@ -8,13 +8,12 @@ ghost use Rattle.epf_step.specs.Steps.{copied as copied_of};
 ghost use Rattle.epf_tiles.specs.Tile.{sigma_first, TileInPass, Filtered, FilteredBy, Restored};
 ghost use Rattle.epf_tiles.specs.Tile.{rect_copied, tile_stepped};
 
-use crate::Pass;
+use crate::{Arrays, Pass};
 use epf_distances::distances;
 use epf_interior::{filter_inside, lies_inside};
 use epf_lanes::filter_tile;
 use epf_rects::{Rect, copy_rect};
-use epf_sizes::{FIELDS, WINDOWS};
-use epf_slopes::{SLOPES, tile_slopes};
+use epf_slopes::tile_slopes;
 use epf_step::{LAST_STEP, copied};
 use epf_window::{WindowPart, load};
 use limits::BLOCK;
@@ -91,17 +90,9 @@ fn all_copied(sigmas: &[f32], first: usize, blocks: usize, limit: f32) -> bool
 
 // Filters all blocks of a tile, from its windows.
 // Form: `TileInPass` is about a pass, a rectangle and the lengths of two borrowed sets, so no one parameter can hold it.
-fn filter_window(
-    dst: &mut [f32],
-    src: &[f32],
-    pass: Pass,
-    rect: Rect,
-    win: &mut [f32; WINDOWS],
-    fields: &mut [f32; FIELDS],
-    slopes: &[f32; SLOPES],
-)
+fn filter_window(dst: &mut [f32], src: &[f32], pass: Pass, rect: Rect, arrays: &mut Arrays)
     requires tile_in_pass { TileInPass pass rect (length src.now) (length dst.old) }
-    ensures { FilteredBy pass slopes.now src.now rect dst.old dst.new }
+    ensures { FilteredBy pass arrays.old.slopes src.now rect dst.old dst.new }
 {
     let l = pass.layout;
     let n = pass.planes;
@@ -116,24 +107,25 @@ fn filter_window(
         rows: rows + 6 - 2 * step,
         cols: rect.cols + 8,
     };
-    load(win, src, l, n, part);
-    distances(fields, win, step, &scales, n, rows);
+    load(&mut arrays.win, src, l, n, part);
+    distances(&mut arrays.fields, &arrays.win, step, &scales, n, rows);
     let top = pass.top + rect.y;
-    filter_tile(dst, fields, slopes, win, step, l, n, top, rect);
+    filter_tile(
+        dst,
+        &arrays.fields,
+        &arrays.slopes,
+        &arrays.win,
+        step,
+        l,
+        n,
+        top,
+        rect,
+    );
 }
 
 // Filters all blocks of a tile.
 // Form: a step is a number, and is asked once per tile; its sigmas are counted as in `restore`.
-fn filter(
-    dst: &mut [f32],
-    src: &[f32],
-    pass: Pass,
-    sigmas: &[f32],
-    rect: Rect,
-    win: &mut [f32; WINDOWS],
-    fields: &mut [f32; FIELDS],
-    slopes: &mut [f32; SLOPES],
-)
+fn filter(dst: &mut [f32], src: &[f32], pass: Pass, sigmas: &[f32], rect: Rect, arrays: &mut Arrays)
     requires tile_in_pass { TileInPass pass rect (length src.now) (length dst.old) }
     requires cols_in_bounds { sigma_first pass.layout rect + blocks_along rect.cols ≤ length sigmas.now }
     ensures { Filtered pass sigmas.now src.now rect dst.old dst.new }
@@ -142,14 +134,29 @@ fn filter(
     let n = pass.planes;
     let s = pass.settings;
     let first = first_sigma(l, rect);
-    tile_slopes(slopes, sigmas, first, blocks_of(rect.cols), s.scale, s.edge);
+    tile_slopes(
+        &mut arrays.slopes,
+        sigmas,
+        first,
+        blocks_of(rect.cols),
+        s.scale,
+        s.edge,
+    );
     let scales = s.scales;
     // Away from the filter region's edges, where rows are whole vectors, step 2 needs no window.
     if s.step == LAST_STEP && n == PLANES && lies_inside(l, rect) {
-        filter_inside(dst, src, l, &scales, slopes, pass.top + rect.y, rect);
+        filter_inside(
+            dst,
+            src,
+            l,
+            &scales,
+            &arrays.slopes,
+            pass.top + rect.y,
+            rect,
+        );
         return;
     }
-    filter_window(dst, src, pass, rect, win, fields, slopes)
+    filter_window(dst, src, pass, rect, arrays)
 }
 
 // Computes one tile: copies it if all its blocks are copied, otherwise filters it and restores the copied blocks.
@@ -160,9 +167,7 @@ pub(crate) fn tile(
     pass: Pass,
     sigmas: &[f32],
     rect: Rect,
-    win: &mut [f32; WINDOWS],
-    fields: &mut [f32; FIELDS],
-    slopes: &mut [f32; SLOPES],
+    arrays: &mut Arrays,
 )
     requires tile_in_pass { TileInPass pass rect (length src.now) (length dst.old) }
     requires cols_in_bounds { sigma_first pass.layout rect + blocks_along rect.cols ≤ length sigmas.now }
@@ -175,6 +180,6 @@ pub(crate) fn tile(
         copy_rect(dst, src, l, pass.planes, rect);
         return;
     }
-    filter(dst, src, pass, sigmas, rect, win, fields, slopes);
+    filter(dst, src, pass, sigmas, rect, arrays);
     restore(dst, src, pass, sigmas, first, rect);
 }

@@ -24,9 +24,9 @@ returns-then-lies_inside c =
     let a = c.args in
     let p = c.requires.tile_in_pass in
     inside-filtered a.pass a.src.now a.rect a.dst.now p _ _ c.if-n-eq-PLANES.true c.if-s-eq-LAST_STEP.true (sym c.lies_inside.ensures ∙ c.if-lies_inside.true) c.filter_inside.ensures _
-    (steep a.pass a.src.now a.rect a.dst.now p a.sigmas.now a.slopes.now c.requires.cols_in_bounds (omega arith) _ _ _ c.first_sigma-first.ensures c.blocks_of.ensures c.tile_slopes.ensures)
+    (steep a.pass a.src.now a.rect a.dst.now p a.sigmas.now a.arrays.now.slopes c.requires.cols_in_bounds (omega arith) _ _ _ c.first_sigma-first.ensures c.blocks_of.ensures c.tile_slopes.ensures)
 
 pub returns : goal.returns
 returns c =
     let a = c.args in
-    c.filter_window.ensures _ (steep a.pass a.src.now a.rect a.dst.now c.requires.tile_in_pass a.sigmas.now a.slopes.now c.requires.cols_in_bounds (omega arith) _ _ _ c.first_sigma-first.ensures c.blocks_of.ensures c.tile_slopes.ensures)
+    c.filter_window.ensures _ (steep a.pass a.src.now a.rect a.dst.now c.requires.tile_in_pass a.sigmas.now a.arrays.now.slopes c.requires.cols_in_bounds (omega arith) _ _ _ c.first_sigma-first.ensures c.blocks_of.ensures c.tile_slopes.ensures)
