@@ -1,44 +1,32 @@
-// Rows of text: the end of a word or a line, and the number that a word denotes.
+// Words of a row of text: where the first one ends, and the number that a word denotes.
 #![tactic(auto)]
 
-ghost use Rattle.std.specs.Prelude.{◌≡◌, ◌≤◌, ◌==◌, drop, position};
+ghost use Rattle.std.specs.Prelude.{◌≡◌, ◌≤◌, ◌<◌, MatchOption};
 ghost use Rattle.replay_text.specs.Words.{end_of};
 ghost use Rattle.replay_text.specs.Numbers.{digit_of, value_of, spelled, number_of};
 
-const NO_DIGIT: u64 = 16;
-
-// The index of the first such byte, if there is one.
-fn find(text: &[u8], byte: u8) -> Option<usize>
-    ensures { result ≡ position (λ x. x == byte) text.now }
+// The index of the first such byte, or the length of a text without one.
+pub fn end_of(text: &[u8], byte: u8) -> usize
+    ensures { result ≡ end_of text.now byte }
 {
-    text.iter().position(|x| *x == byte)
+    text.iter().position(|x| *x == byte).unwrap_or(text.len())
 }
 
-// The index of the first such byte from `at` on, or the end of the text.
-#[tactic(auto, using(crate::proofs::Words::missed))]
-pub fn end_of(text: &[u8], at: usize, byte: u8) -> usize
-    ensures { result ≡ end_of text.now at byte }
-{
-    if text.len() <= at {
-        return text.len();
-    }
-    match find(&text[at..], byte) {
-        Some(i) => at + i,
-        None => text.len(),
-    }
-}
-
-// The value of a hexadecimal digit, 16 for any other byte.
-// Form: one comparison with a base refuses 16 and a digit of a larger base alike; an `Option` would be tested as well.
+// The value of a digit of the base, as `char::to_digit` has it, but without capital letters.
 #[tactic(auto, using(std::proofs::lemmas::Bool::Decides::nat_tests), unfolding(crate::specs::Numbers::digit_of))]
-fn digit(byte: u8) -> u64
-    ensures { result ≡ digit_of byte }
+fn digit(byte: u8, base: u64) -> Option<u64>
+    requires { base ≤ 16 }
+    ensures { MatchOption result (base ≤ digit_of byte) (λ d. (d ≡ digit_of byte) × (d < base)) }
 {
-    match byte {
-        b'0'..=b'9' => (byte - b'0') as u64,
-        b'a'..=b'f' => (byte - b'a') as u64 + 10,
-        _ => NO_DIGIT,
+    let value = u64::from(match byte {
+        b'0'..=b'9' => byte - b'0',
+        b'a'..=b'f' => byte - b'a' + 10,
+        _ => return None,
+    });
+    if base <= value {
+        return None;
     }
+    Some(value)
 }
 
 // The number of this sign and size, unless the size is over 2^63 - 1.
@@ -61,10 +49,7 @@ fn spelled(digits: &[u8], base: u64, negative: bool) -> Option<i64>
     }
     let mut size: u64 = 0;
     for byte in digits {
-        let d = digit(*byte);
-        if base <= d {
-            return None;
-        }
+        let d = digit(*byte, base)?;
         size = size.checked_mul(base)?.checked_add(d)?;
     }
     value(size, negative)
