@@ -5,7 +5,6 @@
 #![tactic(auto)]
 
 ghost use Rattle.std.specs.Prelude.{◌≡◌};
-ghost use Rattle.header_bits.specs.Outcome.{number, value, next};
 ghost use Rattle.header_bits.specs.Reader.{parsed};
 ghost use Rattle.header_epf.specs.EdgeFilter.{epf_at};
 ghost use Rattle.header_epf.specs.declared.Encoding.TheVariants.{VarDct, Modular};
@@ -15,19 +14,10 @@ ghost use Rattle.header.specs.Restoration.{restoration_at};
 ghost use Rattle.export_header.specs.Answers.{half_answer, gabor_answer, epf_answer, restoration_answer};
 
 use header::RestorationFilter;
+use header_bits::numbered;
 use header_epf::{EdgePreservingFilter, Encoding};
 use header_gabor::Gabor;
-use refusals::{ACCEPTED, Refusal};
-
-// The number, value and next bit position of a reading; a refusal has its number and zeros.
-fn numbered<T: Copy>(reading: Result<(T, usize), Refusal>, zero: T) -> (u32, T, usize)
-    ensures { result ≡ (number (parsed reading), value zero (parsed reading), next (parsed reading)) }
-{
-    match reading {
-        Ok((value, next)) => (ACCEPTED, value, next),
-        Err(refusal) => (u32::from(refusal), zero, 0),
-    }
-}
+use refusals::Refusal;
 
 // A half-precision reading as a struct.
 #[repr(C)]

@@ -12,8 +12,8 @@ use header_gabor::Gabor;
 use refusals::Refusal;
 
 // Both bundles of a frame header.
-// Form: `Settings` (run_passes) are what a caller asks for, with numbers that start checks and fewer fields of the edge
-// filter: each is C's struct, and which bundle's fields become settings is the caller's to say.
+// Form: `Settings` (run_passes) has two fields of the same names, but is what a caller asks a run for, with numbers that
+// `start` checks and fewer fields of the edge filter. Each is C's struct, and a C caller makes the one from the other.
 #[repr(C)]
 #[derive(Clone, Copy, Default)]
 pub struct RestorationFilter {

@@ -3,9 +3,10 @@
 
 ghost use Rattle.std.specs.Prelude.{◌≡◌, ◌+◌, ◌*◌, ◌<◌, ◌≤◌, length};
 ghost use Rattle.header_bits.specs.Bits.{bit, field, u, flag};
-ghost use Rattle.header_bits.specs.Reader.{width_of, Reads};
+ghost use Rattle.header_bits.specs.Outcome.{number, value, next};
+ghost use Rattle.header_bits.specs.Reader.{width_of, Reads, parsed};
 
-use refusals::Refusal;
+use refusals::{ACCEPTED, Refusal};
 
 // The longest header slice, in bytes.
 const MAX_BYTES: usize = 65536;
@@ -47,7 +48,7 @@ impl BitReader<'_> {
         requires { at < length self.now.bytes.now * 8 }
         ensures { result ≡ bit self.now.bytes.now at }
     {
-        let byte = self.bytes[at / 8] as u32;
+        let byte = u32::from(self.bytes[at / 8]);
         (byte >> (at % 8)) % 2
     }
 
@@ -89,5 +90,16 @@ impl BitReader<'_> {
     {
         let bit = self.read(Width::U1)?;
         Ok(bit != 0)
+    }
+}
+
+// A reading in three fields: its number, value and next bit position. A refusal has its number, `zero` and 0.
+// Form: these are the fields of C's answers, and of the recorded answers that `replay` compares with.
+pub fn numbered<T: Copy>(reading: Result<(T, usize), Refusal>, zero: T) -> (u32, T, usize)
+    ensures { result ≡ (number (parsed reading), value zero (parsed reading), next (parsed reading)) }
+{
+    match reading {
+        Ok((value, next)) => (ACCEPTED, value, next),
+        Err(refusal) => (u32::from(refusal), zero, 0),
     }
 }

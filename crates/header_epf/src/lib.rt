@@ -54,7 +54,8 @@ impl Encoding {
 }
 
 // A filter that is off: zeros in all fields (Specification 5.8).
-// Form: tried as a derive, whose clause has a length and each element of an array: the proof of `read` did not close.
+// Form: `derive(Default)` was tried. It says of each array how long it is and what each element is; `read` needs that the
+// whole struct is `epf_off`, and its proof did not close.
 impl Default for EdgePreservingFilter {
     ghost is_default = { λ filter. filter ≡ epf_off };
 

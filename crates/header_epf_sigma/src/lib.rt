@@ -12,7 +12,6 @@ use header_half::read_f16_as_f32;
 use refusals::Refusal;
 
 // The edge-preserving filter's sigma settings: `quant_mul`, the scales of steps 0 and 2, and that of block borders.
-// Form: the names are those of C's struct and of the standard; `Four` of epf_lanes has the weights of four neighbours.
 #[repr(C)]
 #[derive(Clone, Copy, Default)]
 pub struct EpfSigma {

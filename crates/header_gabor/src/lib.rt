@@ -14,7 +14,7 @@ use refusals::Refusal;
 
 // Two weights for each of the channels X, Y and B: of the side neighbours and of the diagonal ones.
 // Form: C's struct, so the flag stands beside the weights and no `Option` holds them. `GaborSettings` (run_passes) has a
-// number for the flag, since a C caller fills it and can make one `bool` field of any byte.
+// number for the flag, since a C caller fills that struct, and may store any byte in a `bool` field.
 #[repr(C)]
 #[derive(Clone, Copy)]
 pub struct Gabor {
@@ -28,7 +28,8 @@ const SIDE: f32 = 0.115169525;
 const CORNER: f32 = 0.061248592;
 
 // A filter that is off: zeros in all fields (Specification 5.8).
-// Form: tried as a derive, whose clause has a length and each element of an array: the proof of `read` did not close.
+// Form: `derive(Default)` was tried. It says of `weights` how long it is and what each element is; `read` needs that the
+// whole struct is `gabor_off`, and its proof did not close.
 impl Default for Gabor {
     ghost is_default = { λ gabor. gabor ≡ gabor_off };
 

@@ -1,17 +1,18 @@
-// The numbers of a row, converted to their types. The form of a row has one letter per number: i for i32, u for u32, s
-// for isize, z for usize, b for bool, y for a byte, f for the bits of an f32. Letters, since a row's form is one word.
+// The numbers of a row, converted to their types. The form of a row is a word with one letter per number: i for i32, u
+// for u32, s for isize, z for usize, b for bool, y for a byte, f for the bits of an f32.
 
 use refusals::{Refusal, number_of};
 use std::num::TryFromIntError;
 
-// Form: the kinds are letters of the form's word; an enum would be made from them by the same match.
+// Whether a number is in the range of a letter's type.
+// Form: an enum of the types would be made from the letters of the form by the same match.
 fn has_kind(x: i64, kind: u8) -> bool {
     match kind {
         b'i' => i32::try_from(x).is_ok(),
         b'u' | b'f' => u32::try_from(x).is_ok(),
-        b's' => true,
-        b'z' => 0 <= x,
-        b'b' => x == 0 || x == 1,
+        b's' => isize::try_from(x).is_ok(),
+        b'z' => usize::try_from(x).is_ok(),
+        b'b' => matches!(x, 0 | 1),
         b'y' => u8::try_from(x).is_ok(),
         _ => false,
     }
@@ -27,7 +28,8 @@ pub fn from(n: &[i64], i: usize) -> &[i64] {
     n.get(i..).unwrap_or_default()
 }
 
-// Number i, or 0 for one that is missing or out of range. A row of the right form has none.
+// Number i, or 0 for one that is missing or out of the type's range.
+// Form: no `Option`, since each comparison asks `has_form` too, which is false for a row with such a number.
 pub fn number_at<T: Copy + Default + TryFrom<i64, Error = TryFromIntError>>(
     n: &[i64],
     i: usize,
@@ -50,7 +52,7 @@ pub fn has_floats(n: &[i64], values: &[f32]) -> bool {
             && *bits == i64::from(value.to_bits()))
 }
 
-// Whether a row has the answer of a call: its number, and the value, or a zero in a refused call.
+// Whether a row has the answer of a call: the same number, and the same value, or a zero beside a refusal.
 // Form: `number` is the row's, which has 0 for an accepted call as C's answers have.
 pub fn has_answer<T: Copy + Default + PartialEq>(
     number: u32,

@@ -3,23 +3,15 @@
 // Form: values are compared field by field, since a row has the bits of each float, and `==` of floats goes by their values.
 use crate::forms::{bool_at, from, has_floats, has_form, number_at};
 use header::RestorationFilter;
+use header_bits::numbered;
 use header_epf::{EdgePreservingFilter, Encoding};
 use header_gabor::Gabor;
-use refusals::{ACCEPTED, Refusal};
 
 // Every header of the list is shorter.
 const MOST_BYTES: usize = 64;
 
-// The number, value and next bit position of a reading; a refusal has its number and zeros.
-fn numbered<T: Default>(reading: Result<(T, usize), Refusal>) -> (u32, T, usize) {
-    match reading {
-        Ok((value, next)) => (ACCEPTED, value, next),
-        Err(refusal) => (u32::from(refusal), T::default(), 0),
-    }
-}
-
 fn half(bytes: &[u8], n: &[i64]) -> bool {
-    let (number, value, next) = numbered(header_half::read_half(bytes, number_at(n, 0)));
+    let (number, value, next) = numbered(header_half::read_half(bytes, number_at(n, 0)), 0.0);
     has_form(n, b"zufz")
         && number == number_at(n, 1)
         && has_floats(from(n, 2), &[value])
@@ -32,7 +24,7 @@ fn has_gabor(n: &[i64], gabor: Gabor) -> bool {
 }
 
 fn gabor(bytes: &[u8], n: &[i64]) -> bool {
-    let (number, gabor, next) = numbered(Gabor::parse(bytes, number_at(n, 0)));
+    let (number, gabor, next) = numbered(Gabor::parse(bytes, number_at(n, 0)), Gabor::default());
     has_form(n, b"zubffffffz")
         && number == number_at(n, 1)
         && next == number_at(n, 9)
@@ -65,7 +57,7 @@ fn has_epf(n: &[i64], epf: EdgePreservingFilter) -> bool {
 
 fn edge_filter(bytes: &[u8], n: &[i64]) -> bool {
     let reading = EdgePreservingFilter::parse(bytes, number_at(n, 0), encoding_at(n, 1));
-    let (number, epf, next) = numbered(reading);
+    let (number, epf, next) = numbered(reading, EdgePreservingFilter::default());
     has_form(n, b"zbubuffffffffffffffffz")
         && number == number_at(n, 2)
         && next == number_at(n, 21)
@@ -74,7 +66,7 @@ fn edge_filter(bytes: &[u8], n: &[i64]) -> bool {
 
 fn filters(bytes: &[u8], n: &[i64]) -> bool {
     let reading = RestorationFilter::parse(bytes, number_at(n, 0), encoding_at(n, 1));
-    let (number, filter, next) = numbered(reading);
+    let (number, filter, next) = numbered(reading, RestorationFilter::default());
     has_form(n, b"zbubffffffbuffffffffffffffffz")
         && number == number_at(n, 2)
         && next == number_at(n, 28)
@@ -91,11 +83,17 @@ fn bytes_in<'a>(n: &[i64], out: &'a mut [u8]) -> Option<&'a [u8]> {
     Some(bytes)
 }
 
-// Whether a reader agrees with a row: the number of bytes, the bytes, and what is compared.
+// The numbers of a header's bytes, and those after them. The first number of a row is how many bytes there are.
+fn split_header(n: &[i64]) -> Option<(&[i64], &[i64])> {
+    let (count, rest) = n.split_first()?;
+    rest.split_at_checked(usize::try_from(*count).ok()?)
+}
+
+// Whether a row agrees. `reader`: whether what it reads from the bytes is what the numbers after them say.
 fn agrees<F: Fn(&[u8], &[i64]) -> bool>(n: &[i64], reader: F) -> bool
     requires { F.IsAlwaysCallable reader }
 {
-    let Some((header, row)) = from(n, 1).split_at_checked(number_at(n, 0)) else {
+    let Some((header, row)) = split_header(n) else {
         return false;
     };
     let mut bytes = [0u8; MOST_BYTES];

@@ -28,7 +28,7 @@ pub fn unknown(rows: u64, known: u64) -> Tally {
     }
 }
 
-// The numbers of a line, in the start of `out`.
+// Reads the numbers of a line into the start of `out`; none if a word is no number, or the line has too many.
 fn read<'a>(words: &[u8], out: &'a mut [i64]) -> Option<&'a [i64]> {
     let count = words.split(|byte| *byte == b' ').count();
     let row = out.get_mut(..count)?;
@@ -38,8 +38,8 @@ fn read<'a>(words: &[u8], out: &'a mut [i64]) -> Option<&'a [i64]> {
     Some(row)
 }
 
-// Whether the numbers of a line agree; a space stands before each.
-// Form: this and each function that hands `agrees` on ask that it may be called: no type says so of a closure.
+// Whether the numbers after a row's name agree; a space stands before each.
+// Form: this and each function that hands `agrees` on ask (`requires`) that it may be called: no type says so of a closure.
 fn agrees_on<F: Fn(&[i64]) -> bool>(rest: &[u8], agrees: &F) -> bool
     requires { F.IsAlwaysCallable agrees.now }
 {
@@ -54,6 +54,7 @@ fn is_row(line: &[u8]) -> bool {
     !matches!(line, [] | [b'#', ..])
 }
 
+// The tally of a line: one row if its first word is the name, and none otherwise.
 fn row_of<F: Fn(&[i64]) -> bool>(line: &[u8], name: &[u8], agrees: &F) -> Tally
     requires { F.IsAlwaysCallable agrees.now }
 {

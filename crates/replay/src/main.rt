@@ -81,6 +81,7 @@ fn replay(rt: &impl Print, text: &[u8]) -> io::Result<()> {
     report(rt, "total", known.plus(unknown))
 }
 
+// Room for a list. How long the array is stands in the contract, since no proof looks into a function that it calls.
 fn room() -> [u8; ROOM]
     ensures { 262144 ≡ length result }
 {

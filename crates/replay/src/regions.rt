@@ -1,9 +1,9 @@
-// Region rows: left, top, width and height of each region, settings, refusal number, result.
+// Region rows: left, top, width and height of each region, the call's other arguments, refusal number, result.
 use crate::forms::{bool_at, from, has_answer, has_form, number_at};
 use refusals::Refusal;
 use region::Region;
 
-// The region whose four numbers come first.
+// The region of the first four numbers.
 fn region_in(n: &[i64]) -> Region {
     Region {
         left: number_at(n, 0),
@@ -17,7 +17,7 @@ pub fn is_empty(n: &[i64]) -> bool {
     has_form(n, b"iiuuub") && has_answer(number_at(n, 4), bool_at(n, 5), region_in(n).is_empty())
 }
 
-// A region, and an edge of it.
+// Whether a row has a region and this edge of it.
 fn has_edge<F: Fn(Region) -> Result<i32, Refusal>>(n: &[i64], edge: F) -> bool
     requires { F.IsAlwaysCallable edge }
 {
@@ -47,7 +47,7 @@ pub fn intersection(n: &[i64]) -> bool {
     has_form(n, b"iiuuiiuuuiiuu") && has_answer(number_at(n, 8), region_in(from(n, 9)), answer)
 }
 
-// A region, a number, and the region that a call makes of both.
+// Whether a row has a region, a number, and the region that a call makes of both.
 fn has_region<F: Fn(Region, u32) -> Result<Region, Refusal>>(n: &[i64], call: F) -> bool
     requires { F.IsAlwaysCallable call }
 {
