@@ -7,7 +7,7 @@ mod list;
 mod regions;
 mod sizes;
 
-ghost use Rattle.std.specs.Prelude.{◌≡◌, ◌≤◌, IfOk, length};
+ghost use Rattle.std.specs.Prelude.{◌≤◌, IfOk, length};
 
 use list::Tally;
 use std::io;
@@ -81,13 +81,6 @@ fn replay(rt: &impl Print, text: &[u8]) -> io::Result<()> {
     report(rt, "total", known.plus(unknown))
 }
 
-// Room for a list. How long the array is stands in the contract, since no proof looks into a function that it calls.
-fn room() -> [u8; ROOM]
-    ensures { 262144 ≡ length result }
-{
-    [0; ROOM]
-}
-
 // Reads until `out` is full or the input ends, which `read_exact` would refuse. The number is how many bytes at the
 // start of `out` were read.
 // Form: each call says how many bytes it read, and the loop ends where one has none, so no range counts the calls.
@@ -106,7 +99,7 @@ fn read_full<R: Read>(input: &mut R, out: &mut [u8]) -> io::Result<usize>
 }
 
 fn main(rt: HostRuntime) -> io::Result<()> {
-    let mut text = room();
+    let mut text = [0u8; ROOM];
     let count = read_full(&mut rt.stdin(), &mut text)?;
     if ROOM <= count {
         return println!(rt; "the list is too long");
