@@ -1,7 +1,7 @@
 // The C boundary of the header: each function passes its arguments on to one function of the library. VarDCT and
 // Modular have separate functions, so the encoding is not an argument.
-// Form: an answer is C's struct, a number with zeros beside a refusal. C has a name for each second field, so one generic
-// struct can't stand for the four; each is made from `numbered`, and an impl that a macro writes is refused.
+// Form: an answer is C's struct, a number with zeros beside a refusal. The four structs name their second fields in four
+// ways, so no generic struct stands for them; each is made from `numbered`, and an impl that a macro writes is refused.
 #![tactic(auto)]
 
 ghost use Rattle.std.specs.Prelude.{◌≡◌};

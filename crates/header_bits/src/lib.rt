@@ -11,7 +11,8 @@ use refusals::{ACCEPTED, Refusal};
 // The longest header slice, in bytes.
 const MAX_BYTES: usize = 65536;
 
-// A header's bytes, and the bit that is read next.
+// A header's bytes, and the bit that is read next. A refused reading leaves its reader where it was, so a function that reads
+// several fields reads from a copy, `ahead`, and stores it at the end.
 // Form: the position counts bits, so no slice of the bytes can stand for it, and callers get the next one as a number.
 #[derive(Clone, Copy)]
 pub struct BitReader<'a> {
@@ -37,13 +38,14 @@ impl Width {
 }
 
 impl BitReader<'_> {
-    // A reader of these bytes from a bit on.
+    // A reader of these bytes from bit `at` on.
     pub fn new(bytes: &[u8], at: usize) -> BitReader<'_>
         ensures { (result.bytes.now ≡ bytes.now) × (result.at ≡ at) }
     {
         BitReader { bytes, at }
     }
 
+    // Bit `at`: bits count from the least significant one of the first byte.
     fn bit(&self, at: usize) -> u32
         requires { at < length self.now.bytes.now * 8 }
         ensures { result ≡ bit self.now.bytes.now at }

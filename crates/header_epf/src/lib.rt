@@ -11,6 +11,7 @@ use header_epf_sigma::{EpfSigma, read_half_if, read_sigma};
 use header_epf_tables::{read_channel_scale, read_sharp_lut};
 use refusals::Refusal;
 
+// A frame's encoding, which decides which fields the bundle has.
 #[derive(Clone, Copy, Debug, PartialEq, Eq)]
 pub enum Encoding {
     VarDct,
@@ -35,8 +36,10 @@ const SHARP_LUT: [f32; 8] = [
     0.0, 0.14285715, 0.2857143, 0.42857143, 0.5714286, 0.71428573, 0.85714287, 1.0,
 ];
 
+// The default scales of the channels X, Y and B.
 const CHANNEL_SCALE: [f32; 3] = [40.0, 5.0, 3.5];
 
+// The default sigma of all blocks of a Modular frame.
 const SIGMA_FOR_MODULAR: f32 = 1.0;
 
 impl Encoding {
@@ -116,7 +119,7 @@ impl EdgePreservingFilter {
 
     // Reads the EPF bundle from a bit position on, and answers the next position too.
     // Form: one `parse` for the bundles of three crates would ask (`requires`) that a reader handed in may be called, which
-    // no public function does; as a trait's method it would need the trait and its law at each bundle for these lines.
+    // no public function does; a trait with this method would need a law for each bundle, more than the lines that it saves.
     pub fn parse(
         bytes: &[u8],
         at: usize,

@@ -21,6 +21,7 @@ pub struct EpfSigma {
     pub border_sad_mul: f32,
 }
 
+// The defaults.
 const QUANT_MUL: f32 = 0.46;
 
 const PASS0_SIGMA_SCALE: f32 = 0.9;

@@ -8,15 +8,13 @@ use header_bits::BitReader;
 use header_half::read_f16_as_f32;
 use refusals::Refusal;
 
-// 2^-23, `f32::EPSILON`.
-const EPSILON: f32 = 0.00000011920929;
-
+// Whether the sum of the kernel, 1 + 4 * (side + corner), is less than 2^-23 from zero.
 #[tactic(auto, using(crate::proofs::Steps::size_is), unfolding(crate::specs::Channel::near_zero))]
 fn near_zero(side: f32, corner: f32) -> bool
     ensures { result ≡ near_zero side corner }
 {
     let kernel = 1.0 + (side + corner) * 4.0;
-    kernel.abs() < EPSILON
+    kernel.abs() < f32::EPSILON
 }
 
 // Reads the two weights of a channel, or refuses with 7, 1, 2 or 3.

@@ -22,8 +22,9 @@ fn of_fields(sign: u32, exponent: u32, digits: u32) -> f32
     f32::from_bits(sign * 2147483648 + exponent * 8388608 + digits)
 }
 
-// A finite half as a binary32 number, exactly. A subnormal half is normal in binary32: its highest digit is shifted up
-// to become the leading one.
+// A finite half as a binary32 number, exactly: the exponent's bias is 127 and not 15, which is 112 more, and the fraction
+// has 23 bits and not 10. A subnormal half is normal in binary32: its highest digit is shifted up to bit 10, to become the
+// leading one.
 #[tactic(auto, using(crate::proofs::Widened::half_normal, crate::proofs::Widened::half_zero, crate::proofs::Widened::half_subnormal, crate::proofs::Widened::moved))]
 fn widen(half: u32) -> f32
     requires { (half < 65536) × (exponent_of half < 31) }
@@ -38,11 +39,12 @@ fn widen(half: u32) -> f32
     if digits == 0 {
         return of_fields(sign, 0, 0);
     }
-    let up = u32::leading_zeros(digits) - 21;
+    let up = digits.leading_zeros() - 21;
     let moved = digits << up;
     of_fields(sign, 113 - up, (moved - 1024) * 8192)
 }
 
+// The value of a half; an exponent field of 31, infinite or NaN, is refused.
 fn finite_half(half: u32) -> Result<f32, Refusal>
     requires { half < 65536 }
     ensures { IsOutcome result (first_of (half_checks half)) (half_of half) }

@@ -10,6 +10,8 @@ use header_gabor::Gabor;
 // Every header of the list is shorter.
 const MOST_BYTES: usize = 64;
 
+// `half`, `gabor`, `edge_filter` and `filters`: whether what is read from the bytes is what the row says, of which `n` has
+// the bit position and what stands after it.
 fn half(bytes: &[u8], n: &[i64]) -> bool {
     let (number, value, next) = numbered(header_half::read_half(bytes, number_at(n, 0)), 0.0);
     has_form(n, b"zufz")
