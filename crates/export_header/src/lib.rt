@@ -9,7 +9,7 @@ ghost use Rattle.header_bits.specs.Reader.{parsed};
 ghost use Rattle.header_epf.specs.EdgeFilter.{epf_at};
 ghost use Rattle.header_epf.specs.declared.Encoding.TheVariants.{VarDct, Modular};
 ghost use Rattle.header_gabor.specs.Gabor.{gabor_at};
-ghost use Rattle.header_half.specs.Half.{f16};
+ghost use Rattle.header_half.specs.Half.{f16, half_outcome};
 ghost use Rattle.header.specs.Restoration.{restoration_at};
 ghost use Rattle.export_header.specs.Answers.{half_answer, gabor_answer, epf_answer, restoration_answer};
 
@@ -17,7 +17,8 @@ use header::RestorationFilter;
 use header_bits::numbered;
 use header_epf::{EdgePreservingFilter, Encoding};
 use header_gabor::Gabor;
-use refusals::Refusal;
+use header_half::Half;
+use refusals::{ACCEPTED, Refusal};
 
 // A half-precision reading as a struct.
 #[repr(C)]
@@ -28,15 +29,21 @@ pub struct HalfAnswer {
     pub next: usize,
 }
 
-impl From<Result<(f32, usize), Refusal>> for HalfAnswer {
-    ghost from_gives = { λ reading answer. answer ≡ half_answer (parsed reading) };
+impl From<Half> for HalfAnswer {
+    ghost from_gives = { λ half answer. answer ≡ half_answer (half_outcome half) };
 
-    fn from(reading: Result<(f32, usize), Refusal>) -> HalfAnswer {
-        let (number, value, next) = numbered(reading, 0.0);
-        HalfAnswer {
-            number,
-            value,
-            next,
+    fn from(half: Half) -> HalfAnswer {
+        match half {
+            Half::Value(value, next) => HalfAnswer {
+                number: ACCEPTED,
+                value,
+                next,
+            },
+            Half::Refused(refusal) => HalfAnswer {
+                number: u32::from(refusal),
+                value: 0.0,
+                next: 0,
+            },
         }
     }
 }

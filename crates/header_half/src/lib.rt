@@ -5,8 +5,8 @@ ghost use Rattle.std.specs.Prelude.{◌≡◌, ◌<◌, leb};
 ghost use Rattle.std.specs.Float.{binary32};
 ghost use Rattle.std.specs.Float.Ieee.{of_fields};
 ghost use Rattle.header_half.specs.Value.{exponent_of, half_of};
-ghost use Rattle.header_half.specs.Half.{f16, half_checks};
-ghost use Rattle.header_bits.specs.Reader.{Reads, parsed};
+ghost use Rattle.header_half.specs.Half.{f16, half_checks, half_outcome};
+ghost use Rattle.header_bits.specs.Reader.{Reads};
 ghost use Rattle.refusals.specs.Checks.{first_of};
 ghost use Rattle.refusals.specs.Refusals.{IsOutcome};
 
@@ -67,11 +67,21 @@ pub fn read_f16_as_f32(reader: &mut BitReader) -> Result<f32, Refusal>
     Ok(value)
 }
 
-// Reads a half-precision number from a bit position on, or refuses with 7, 1 or 2. Answers the next position too.
-pub fn read_half(bytes: &[u8], at: usize) -> Result<(f32, usize), Refusal>
-    ensures { parsed result ≡ f16 bytes.now at }
+// A half-precision reading: the value and the next bit position, or the refusal.
+// Form: an enum of its own, since Specification 1.5 names its two cases.
+#[derive(Clone, Copy, Debug)]
+pub enum Half {
+    Value(f32, usize),
+    Refused(Refusal),
+}
+
+// Reads a half-precision number from a bit position on, or refuses with 7, 1 or 2.
+pub fn read_half(bytes: &[u8], at: usize) -> Half
+    ensures { half_outcome result ≡ f16 bytes.now at }
 {
     let mut reader = BitReader::new(bytes, at);
-    let value = read_f16_as_f32(&mut reader)?;
-    Ok((value, reader.at))
+    match read_f16_as_f32(&mut reader) {
+        Ok(value) => Half::Value(value, reader.at),
+        Err(refusal) => Half::Refused(refusal),
+    }
 }

@@ -6,6 +6,8 @@ use header::RestorationFilter;
 use header_bits::numbered;
 use header_epf::{EdgePreservingFilter, Encoding};
 use header_gabor::Gabor;
+use header_half::Half;
+use refusals::ACCEPTED;
 
 // Every header of the list is shorter.
 const MOST_BYTES: usize = 64;
@@ -13,7 +15,10 @@ const MOST_BYTES: usize = 64;
 // `half`, `gabor`, `edge_filter` and `filters`: whether what is read from the bytes is what the row says, of which `n` has
 // the bit position and what stands after it.
 fn half(bytes: &[u8], n: &[i64]) -> bool {
-    let (number, value, next) = numbered(header_half::read_half(bytes, number_at(n, 0)), 0.0);
+    let (number, value, next) = match header_half::read_half(bytes, number_at(n, 0)) {
+        Half::Value(value, next) => (ACCEPTED, value, next),
+        Half::Refused(refusal) => (u32::from(refusal), 0.0, 0),
+    };
     has_form(n, b"zufz")
         && number == number_at(n, 1)
         && has_floats(from(n, 2), &[value])
