@@ -97,6 +97,7 @@ fn check_entry(file: &[u8], i: u32, end: usize) -> Result<usize, Refusal>
 }
 
 // Refuses a wrong entry, or a file that doesn't end where its last body does.
+// Form: no `sum`, since the check of an entry is told the sum so far: where its body has to start.
 fn check_entries(file: &[u8], count: u32) -> Result<(), Refusal>
     requires { (count ≤ 64) × (count ≡ count_in file.now) }
     ensures { number_of result ≡ first_of (entry_checks file.now 0 count) }

@@ -40,6 +40,7 @@ impl From<Result<usize, Refusal>> for LengthAnswer {
 }
 
 // The length of the file that a table needs.
+// Form: no `sum` into a `Result`: of that it is not known that a rectangle beyond the limits makes it a refusal.
 pub fn cut_length(table: CutTable) -> Result<usize, Refusal>
     ensures { IsOutcome result (first_of (table_checks table)) (file_length (rectangle table) table.count) }
 {
@@ -67,7 +68,7 @@ fn put_entry(file: &mut [u8], at: usize, offset: u32, r: Region)
     put_u16(file, at + 14, r.height);
 }
 
-// The entries, each with the offset of its body.
+// The entries, each with the offset of its body. All rectangles are within the limits, so each has a count of samples.
 fn put_table(file: &mut [u8], table: CutTable)
     requires { TableFits table (length file.old) }
     ensures { file.new ≡ sets file.old 6

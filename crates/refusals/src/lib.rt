@@ -6,6 +6,7 @@ ghost use Rattle.std.specs.Prelude.{◌≡◌};
 ghost use Rattle.refusals.specs.Flags.{flag_fits, flag_set};
 ghost use Rattle.refusals.specs.Refusals.{number, number_of};
 
+// They are ordered as their numbers are.
 #[derive(Clone, Copy, Debug, PartialEq, Eq, PartialOrd, Ord)]
 pub enum Refusal {
     // From the file.
