@@ -40,7 +40,7 @@ impl From<Result<usize, Refusal>> for LengthAnswer {
 }
 
 // The length of the file that a table needs.
-// Form: no `sum` into a `Result`: of that it is not known that a rectangle beyond the limits makes it a refusal.
+// Form: no `sum` into a `Result`, of which it is not proved that it fails where a rectangle is beyond the limits.
 pub fn cut_length(table: CutTable) -> Result<usize, Refusal>
     ensures { IsOutcome result (first_of (table_checks table)) (file_length (rectangle table) table.count) }
 {

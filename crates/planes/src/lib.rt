@@ -51,7 +51,7 @@ pub fn layout_fits(l: Layout) -> bool
 }
 
 // Whether a slice of this length is a set of n planes.
-// Form: the length in place of the slice, since `Rect::fits` of `epf_rects`, which calls this, is told a length too.
+// Form: the length in place of the slice, since `Rect::fits` of `epf_rects`, which calls this, has no slice.
 pub fn set_fits(l: Layout, n: usize, len: usize) -> bool
     ensures { result ≡ set_fits l n len }
 {

@@ -72,7 +72,7 @@ fn fills_image(l: Layout) -> bool
 
 // Copies the samples outside the filter region in rows `from` up to, not including, `to` of the result region. Does
 // nothing if sets, layout or rows do not fit.
-// Form: `src` is read and `dst` written, so they are two parameters, and n is told apart: both are sets of n planes.
+// Form: `src` is read and `dst` is written, so no struct holds both, and n is the number of planes of each.
 #[tactic(auto, using(planes::proofs::Stored::no_source, planes::proofs::Stored::no_target, planes::proofs::Stored::no_rows))]
 pub fn copy_outside(src: &[f32], dst: &mut [f32], l: Layout, n: usize, from: usize, to: usize)
     ensures { dst.new ≡ copied_outside l n from to src.now dst.old }
