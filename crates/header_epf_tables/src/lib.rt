@@ -25,8 +25,8 @@ fn read_halves<const N: usize>(reader: &mut BitReader) -> Result<[f32; N], Refus
 }
 
 // The sharpness table: custom if the header has one, otherwise the defaults. `present`: the custom bit is there.
-// Form: `present` is the condition of a row of the standard's table, a value like its width and default; the row has one
-// reader whether it is in the stream or not.
+// Form: `present` is the condition of a row of the standard's table, as `defaults` are its defaults: the function reads the
+// row `sharp_fields` of the definition, which is in the stream or not.
 #[tactic(auto, using(crate::proofs::Steps::sharp_steps, crate::proofs::Steps::sharp_absent))]
 pub fn read_sharp_lut(
     reader: &mut BitReader,
