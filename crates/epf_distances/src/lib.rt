@@ -173,6 +173,7 @@ fn difference_vectors(
 }
 
 // The same for n samples. The last n % 4 are taken one by one, since a whole vector could read past the last plane.
+// Form: a plane's number as in `difference_vectors`.
 #[tactic(auto, unfolding(planes::specs::Fill::fill, crate::specs::Seen::apart_by))]
 fn differences(
     d: &mut [f32; WINDOW_PLANE],
@@ -233,6 +234,7 @@ fn add_nearby(
 
 // Adds one channel's scaled differences to distances of step 2, which compares single samples, four at a time. It stands apart from
 // `add_nearby`, since it reads the window and stores no differences.
+// Form: as in `add_single`.
 #[tactic(auto, unfolding(planes::specs::Fill::fill))]
 fn add_single_vectors(
     fields: &mut [f32; FIELDS],
@@ -349,6 +351,8 @@ fn field(
     }
 }
 
+// Computes each field of a step.
+// Form: the parameters are those of `distances`, as in `field`.
 #[tactic(auto, unfolding(crate::specs::Fields::fields_fill))]
 fn fill_fields(
     fields: &mut [f32; FIELDS],
@@ -378,6 +382,7 @@ fn fill_fields(
 
 // Computes the fields of a tile of 1 to 8 rows from windows of at most 3 planes. Does nothing if a count is out of
 // range.
+// Form: a tile's arrays are those of `epf_tiles`, and step, scales and planes those of its pass; each is handed on once.
 #[tactic(auto, unfolding(crate::specs::Fields::distances_of))]
 pub fn distances(
     fields: &mut [f32; FIELDS],

@@ -56,6 +56,7 @@ fn summed(x: f32x4, w: Four) -> f32x4
 }
 
 // Sums plus the weighted samples of neighbours q to q + 3.
+// Form: the bound of `p` as in `sample_of`.
 #[tactic(auto, using(epf_distances::proofs::Taps::kernel_size))]
 fn with_four(x: f32x4, w: Four, win: &[f32; WINDOWS], step: usize, q: usize, p: usize) -> f32x4
     requires { (q + 3 < length (kernel step)) × (p ≤ 2 * window_plane + last_lane) }
@@ -69,6 +70,7 @@ fn with_four(x: f32x4, w: Four, win: &[f32; WINDOWS], step: usize, q: usize, p: 
 }
 
 // The weights of lanes i to i + 3 of row r in step STEP, and the divisors; the contract bounds each (Specification 11.9).
+// Form: a row and a lane are two numbers of a loop in `rows.rt`.
 #[tactic(auto, using(crate::proofs::Lanes::kernel_lengths))]
 pub(crate) fn weights<const STEP: usize>(
     fields: &[f32; FIELDS],
@@ -106,6 +108,7 @@ pub(crate) fn weights<const STEP: usize>(
 }
 
 // The four samples from index p of the windows on plus their weighted neighbours, over the divisors.
+// Form: the bound of `p` as in `sample_of`.
 #[tactic(auto, using(crate::proofs::Lanes::kernel_lengths, epf_vectors::proofs::Rows::loaded))]
 pub(crate) fn mix<const STEP: usize>(win: &[f32; WINDOWS], p: usize, w: LaneWeights) -> f32x4
     requires { p ≤ 2 * window_plane + last_lane }

@@ -68,6 +68,7 @@ fn load_planes(win: &mut [f32; WINDOWS], src: &[f32], l: Layout, n: usize, part:
 }
 
 // Loads a part of a window on a position of the filter region, in n planes. Does nothing if the arguments do not fit.
+// Form: a window that is written, the set that it is read from, and where: each another thing, and used here alone.
 #[tactic(auto, unfolding(crate::specs::Window::loaded))]
 pub fn load(win: &mut [f32; WINDOWS], src: &[f32], l: Layout, n: usize, part: WindowPart)
     ensures { win.new ≡ loaded l n src.now part.x part.y part.top part.rows

@@ -211,6 +211,7 @@ impl From<Result<GroupSizes, Refusal>> for FrameAnswer {
     }
 }
 
+// The answer of `split_block`.
 // Form: C's answer, as that of `group_sizes` above; its two zeros are written out, as nothing else asks for zeros in a `Split`.
 impl From<Result<Split, Refusal>> for SplitAnswer {
     ghost from_gives = { λ r a. a ≡ split_answer r };

@@ -44,6 +44,7 @@ impl PlaneRegion {
 
 // Filters n rows of a region, from row `from`. The region lies at the same indices of both slices. Does nothing if the
 // slices have different lengths, the region does not lie in them, or it has no such rows.
+// Form: a slice that is read and one that is written; `n` counts rows here.
 #[tactic(auto, using(crate::proofs::Plane::no_region, crate::proofs::Plane::no_length, crate::proofs::Plane::no_row, crate::proofs::Plane::plane_rows))]
 pub fn gabor_plane(
     src: &[f32],

@@ -61,6 +61,7 @@ pub(crate) struct InnerRow {
     pub below: usize,
 }
 
+// Form: the parameters of `Row`.
 impl Row for InnerRow {
     ghost above = { λ r. r.above };
 
@@ -97,6 +98,7 @@ pub(crate) struct EdgeRow {
     pub adjacent: usize,
 }
 
+// Form: the parameters of `Row`.
 impl Row for EdgeRow {
     ghost above = { λ r. r.adjacent };
 
@@ -129,6 +131,7 @@ pub(crate) struct SingleRow {
     pub here: usize,
 }
 
+// Form: the parameters of `Row`.
 impl Row for SingleRow {
     ghost above = { λ r. r.here };
 

@@ -86,6 +86,7 @@ fn settings_refusal(groups: Result<(), Refusal>, settings: Settings, sigmas: &[f
 
 // The widened rectangle, or the first refusal of the checks that `start` does not make; of all checks if the margin is
 // unknown, since `start` is not called then.
+// Form: the frame with its table and grids as C hands them.
 fn checked_place(
     s: LoupeSetup,
     frame: Frame,
@@ -213,6 +214,7 @@ fn finish(
 
 // Filters the wanted rectangle. `first` has the samples of the widened rectangle
 // (`loupe_widened`).
+// Form: the frame with its table and grids as C hands them.
 pub fn loupe_smooth(
     s: LoupeSetup,
     frame: Frame,

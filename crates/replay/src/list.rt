@@ -55,6 +55,7 @@ fn is_row(line: &[u8]) -> bool {
 }
 
 // The tally of a line: one row if its first word is the name, and none otherwise.
+// Form: the clause as at `agrees_on`.
 fn row_of<F: Fn(&[i64]) -> bool>(line: &[u8], name: &[u8], agrees: &F) -> Tally
     requires { F.IsAlwaysCallable agrees.now }
 {
@@ -68,6 +69,7 @@ fn row_of<F: Fn(&[i64]) -> bool>(line: &[u8], name: &[u8], agrees: &F) -> Tally
 }
 
 // Compares the rows with this name.
+// Form: the clause as at `agrees_on`.
 pub fn rows_of<F: Fn(&[i64]) -> bool>(text: &[u8], name: &[u8], agrees: &F) -> Tally
     requires { F.IsAlwaysCallable agrees.now }
 {

@@ -198,6 +198,7 @@ impl Default for Settings {
     }
 }
 
+// The answer of `margin`.
 // Form: C's answer, a number with margin 0 beside a refusal; Rust callers get the `Result`. It stands here, since definitions and crate
 // `instances` name it; that it has two numbers, as other structs have, is no common meaning.
 impl From<Result<u32, Refusal>> for MarginAnswer {
