@@ -55,7 +55,7 @@ fn restore_block(dst: &mut [f32], src: &[f32], pass: Pass, sigma: f32, rect: Rec
 // Restores the copied blocks of a tile after its rectangle is filtered; `first` is the index of its first block's
 // sigma.
 // Form: `Restored` has the sigma of block b at index first + b of the whole list, as the definition of a step has it; for a slice of
-// the tile's sigmas each caller would have to show that its sample b is that one.
+// the tile's sigmas it would have to be shown in `tile` that sigma b of the slice is that one.
 fn restore(dst: &mut [f32], src: &[f32], pass: Pass, sigmas: &[f32], first: usize, rect: Rect)
     requires rect_fits { RectFits pass.layout pass.planes rect (length dst.old) }
     requires src_len { (length src.now ≡ length dst.old) × (rect.cols ≤ tile_columns) }
