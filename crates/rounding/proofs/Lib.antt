@@ -1,3 +1,4 @@
 pub mod MagnitudeLaws
 pub mod Rounded
 pub mod Side
+pub mod Zeros

@@ -150,7 +150,7 @@ opposite f (fin s m e) (fin t n g) =
     rw (mul_comm (down g) (down e)) (sum-opp f s t (m * up e * down g) (n * up g * down e) (down e * down g) (mul-pos (down_pos e) (down_pos g)))
 
 -- ---- the larger of two opposite values
-zero_is : of_bits binary32 0 ≡ zero_f
+pub zero_is : of_bits binary32 0 ≡ fin false 0 (pos 0)
 unfolding of_bits of_fields odd
 zero_is = refl
 
