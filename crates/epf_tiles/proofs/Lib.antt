@@ -1,2 +1,4 @@
+pub mod Blocks
 pub mod Region
+pub mod Columns
 pub mod TileLaws

@@ -1,4 +1,4 @@
--- Tiles side by side make a strip; strips make rows of the filter region. Assumes nothing.
+-- Strips make rows of the filter region. Assumes nothing.
 use mathlib.Core.Path.{◌≡◌, refl, ◌∙◌}
 use mathlib.Core.List.{List}
 use Prim.Native.Nat.{ℕ, zero, suc, ◌+◌, ◌-◌, ◌*◌, ◌≤◌}
@@ -10,7 +10,7 @@ use Rattle.planes.specs.declared.Layout.{Layout}
 use Rattle.planes.specs.Picture.{Picture}
 use Rattle.planes.specs.Fill.{fill}
 use Rattle.planes.specs.Rect.{rows_fill, planes_fill}
-use Rattle.planes.proofs.Join.{rect-below, rect-beside}
+use Rattle.planes.proofs.Join.{rect-below}
 use Rattle.planes.specs.Fits.{LayoutFits}
 use Rattle.planes.proofs.Room.{set-true}
 use Rattle.epf_tiles.specs.declared.Step.{Step}
@@ -29,8 +29,6 @@ unfolding planes_fill
 columns-none w h left top m v d zero = refl
 columns-none w h left top m v d (suc k) = rw (← (columns-none w h left top m v d k)) (rows_empty d ((k * h + top) * w + left) w m (λ i x. v k x i))
 
-pub ruleset no_columns = (columns-none)
-
 rows_none : (w h left n top : ℕ) (v : Picture) (d : List Float) (k : ℕ) → d ≡ planes_fill w h left n top 0 v d k
 unfolding planes_fill rows_fill
 rows_none w h left n top v d zero = refl
@@ -38,15 +36,6 @@ rows_none w h left n top v d (suc k) = rows_none w h left n top v d k
 
 pub rows_start : (w h left n top y : ℕ) (v : Picture) (d : List Float) (k : ℕ) → d ≡ planes_fill w h left n top (y - y) v d k
 rows_start w h left n top y v d k = let z : y - y ≡ 0 = omega arith in rw z (rows_none w h left n top v d k)
-
--- one more tile
-pub tile-beside : (l : Layout) (n : ℕ) (p : Picture) (d a b : List Float) (y rows x cols : ℕ) → length d ≡ n * l.image.height * l.image.width → LayoutFits l → y + rows ≤ l.height → x + cols ≤ l.width
-    → a ≡ planes_fill l.image.width l.image.height l.left x (l.top + y) rows (λ c i r. p c i (y + r)) d n
-    → b ≡ planes_fill l.image.width l.image.height (l.left + x) cols (l.top + y) rows (λ c i r. p c (x + i) (y + r)) a n
-    → b ≡ planes_fill l.image.width l.image.height l.left (x + cols) (l.top + y) rows (λ c i r. p c i (y + r)) d n
-tile-beside l n p d a b y rows x cols long lay deep h ea eb =
-    rect-beside n l.image.width l.image.height n (omega arith) l.left x cols (l.top + y) rows _ _ (λ c i r. p c i (y + r)) d a b long (omega (arith, lay.across)) (omega (arith, lay.down)) ea eb
-    (λ c i r _ _ _. refl) (λ c i r _ _ _. refl)
 
 -- one more strip
 pub strip-below : (l : Layout) (n : ℕ) (p : Picture) (d a b : List Float) (from y rows : ℕ) → length d ≡ n * l.image.height * l.image.width → LayoutFits l → from ≤ y → y + rows ≤ l.height

@@ -1,11 +1,10 @@
--- A tile computed from its windows, with the copied blocks restored, equals the step over the filter region. Assumes nothing.
-use mathlib.Core.Path.{◌≡◌, refl, sym, ap, ◌∙◌}
-use mathlib.Core.Bool.{Bool, true, false, cond}
+-- A tile computed from its windows, or from the planes, equals the step over the filter region if no block of it is copied. Assumes nothing.
+use mathlib.Core.Path.{◌≡◌, refl, ap, ◌∙◌}
+use mathlib.Core.Bool.{true, false}
 use mathlib.Core.List.{List}
-use Prim.Native.Nat.{ℕ, suc, ◌+◌, ◌-◌, ◌*◌, ◌/◌, ◌<◌, ◌≤◌, min}
-use native.Mathlib.Decide.{dec_lt}
+use Prim.Native.Nat.{ℕ, suc, ◌+◌, ◌-◌, ◌*◌, ◌/◌, ◌<◌, ◌≤◌}
 use native.Mathlib.Omega.{arith}
-use borrow.Author.Tests.{lt-ltb, le-ltb}
+use borrow.Author.Tests.{le-ltb}
 use lib.ListN.{length, get_or}
 use lib.IntN.{ℤ, pos, negsuc, ◌+ℤ◌, sub_ℕ, nat_abs}
 use lib.Ieee.{Float, nan}
@@ -14,15 +13,13 @@ use Rattle.mirror.proofs.Offset.{offset-same}
 use Rattle.planes.specs.declared.Layout.{Layout}
 use Rattle.planes.specs.Samples.{◌⊘◌}
 use Rattle.planes.specs.Picture.{Picture, around, Around}
-use Rattle.planes.proofs.SetLaws.{around-inside}
 use Rattle.planes.specs.Sets.{of}
 use Rattle.planes.specs.Rect.{planes_fill}
-use Rattle.planes.proofs.Join.{planes-cong, rect-at, rect-inside}
+use Rattle.planes.proofs.Join.{planes-cong, rect-at}
 use Rattle.planes.specs.Band.{inner}
 use Rattle.frame.specs.Sizes.{blocks_along}
 use Rattle.epf_rects.specs.declared.Rect.{Rect}
-use Rattle.epf_rects.specs.Rects.{rect_filled, RectFits, copied_rect}
-use Rattle.epf_rects.proofs.Rects.{rect-copied}
+use Rattle.epf_rects.specs.Rects.{rect_filled, RectFits}
 use Rattle.epf_slopes.specs.Slopes.{first_slope, slopes_of, Sloped}
 use Rattle.epf_slopes.proofs.Slopes.{sloped, slope-of, multiplier-same}
 use Rattle.epf_window.specs.Window.{window_sample, loaded, WindowFits}
@@ -41,7 +38,7 @@ use Rattle.epf_interior.proofs.Inside.{inside-facts, inside-done, beside, beside
 use Rattle.epf_tiles.specs.declared.Pass.{Pass}
 use Rattle.epf_tiles.specs.declared.Step.{Step}
 use Rattle.epf_tiles.specs.Blocks.{block_columns, sigma_of}
-use Rattle.epf_tiles.specs.Tile.{step_over, TileFits, TileInPass, sigma_start, sigma_first, sigma_in, mixed, tile_stepped, Filtered, FilteredBy, Restored}
+use Rattle.epf_tiles.specs.Tile.{step_over, TileFits, TileInPass, sigma_start, sigma_first, sigma_in, NoneCopied, tile_stepped, FilteredBy}
 
 -- ---- a lane sees the samples of the definition
 
@@ -93,13 +90,6 @@ module _ (l : Layout) (n : ℕ) (s : Step) (top : ℕ) (sigmas src : List Float)
       let c : sigma_start l x y + i / 8 ≡ y / 8 * block_columns l + (x / 8 + i / 8) = omega arith in
       rw (a, b, c)
 
-  -- a copied sample
-  pub copied_is : (c r i : ℕ) → r < q.rows → i < q.cols → copied (sigma_in l q sigmas i) s.limit ≡ true → inner l src c (x + i) (y + r) ≡ step_over n l s top sigmas src c (x + i) (y + r)
-  unfolding step_over epf_pass epf
-  copied_is c r i R I e =
-      let f : copied (sigma_of (block_columns l) sigmas ((x + i) / 8) ((y + r) / 8)) s.limit ≡ true = rw (sigma-is r i R I) at e in
-      rw f (sym (around-inside l.width l.height (inner l src) (x + i) (y + r) c (pos 0) (pos 0) (x + i) (y + r) (ap pos (omega arith)) (ap pos (omega arith)) (omega (arith, fits.across)) (omega (arith, fits.down))))
-
   -- a filtered sample, through a reader that agrees with the definition's
   pub reader-is : (v : Around) (c r i : ℕ) → s.step < 3 → c < n → r < q.rows → i < q.cols → copied (sigma_in l q sigmas i) s.limit ≡ false
       → Alike n (reach s.step) v (around l.width l.height (inner l src) (x + i) (y + r))
@@ -142,67 +132,6 @@ module _ (l : Layout) (n : ℕ) (s : Step) (top : ℕ) (sigmas src : List Float)
         inside-means src l.image.width (l.image.height * l.image.width) s.scales slopes (first_slope (top + y + r)) (corner_of l q r) n s.step _ _ c i three two (slope-of sigmas slopes (sigma_first l q) (blocks_along q.cols) s.scale s.edge (top + y + r) i steep (omega arith))
         ∙ reader-is (beside src l.image.width (l.image.height * l.image.width) (corner_of l q r + i)) c r i (omega arith) C R I uncopied (rw (three, two) (beside-alike l src q f r i R I))
 
--- ---- copied columns in place of filtered ones
-module _ (l : Layout) (n : ℕ) (limit : Float) (sigmas src : List Float) (first : ℕ) (q : Rect) (o : Picture) where
-  pub mixed-none : (d a : List Float) → a ≡ rect_filled l n q o d → a ≡ rect_filled l n q (mixed l n limit sigmas src first q o 0) d
-  unfolding mixed
-  mixed-none d a e = e ∙ planes-cong _ _ _ _ _ _ _ _ d n (λ c i r p k h. rw (le-ltb i (0 * 8) (omega arith)))
-
-  -- a block that is not copied
-  pub mixed-kept : (d a : List Float) (b : ℕ) → copied (get_or sigmas (first + b) nan) limit ≡ false → a ≡ rect_filled l n q (mixed l n limit sigmas src first q o b) d → a ≡ rect_filled l n q (mixed l n limit sigmas src first q o (b + 1)) d
-  unfolding mixed
-  mixed-kept d a b u e = e ∙ planes-cong _ _ _ _ _ _ _ _ d n (λ c i r p k h. go c i r (dec_lt i (b * 8)) (dec_lt i ((b + 1) * 8)))
-    where
-      go : (c i r : ℕ) → Dec (i < b * 8) → Dec (i < (b + 1) * 8) → mixed l n limit sigmas src first q o b c i r ≡ mixed l n limit sigmas src first q o (b + 1) c i r
-      go c i r (yes p) k = rw (lt-ltb i (b * 8) p, lt-ltb i ((b + 1) * 8) (omega arith))
-      go c i r (no p) (yes k) =
-          let z : i / 8 ≡ b = omega arith in
-          rw (le-ltb i (b * 8) (omega arith), lt-ltb i ((b + 1) * 8) k, z, u)
-      go c i r (no p) (no k) = rw (le-ltb i (b * 8) (omega arith), le-ltb i ((b + 1) * 8) (omega arith))
-
-  -- a block that is copied: m columns of it
-  pub mixed-copied : (d a f : List Float) (b m : ℕ) → RectFits l n q (length d) → b * 8 < q.cols → m ≡ min (q.cols - b * 8) 8 → copied (get_or sigmas (first + b) nan) limit ≡ true → a ≡ rect_filled l n q (mixed l n limit sigmas src first q o b) d
-      → f ≡ rect_filled l n (record { x = q.x + b * 8; y = q.y; rows = q.rows; cols = m }) (λ c i r. inner l src c (q.x + b * 8 + i) (q.y + r)) a → f ≡ rect_filled l n q (mixed l n limit sigmas src first q o (b + 1)) d
-  unfolding mixed
-  mixed-copied d a f b m fits some em u ea ef =
-      let at : l.left + q.x + b * 8 ≡ l.left + (q.x + b * 8) = omega arith in
-      rect-inside n l.image.width l.image.height n (omega arith) (l.left + q.x) q.cols (l.top + q.y) q.rows (b * 8) m (mixed l n limit sigmas src first q o b) (λ c i r. inner l src c (q.x + b * 8 + i) (q.y + r)) (mixed l n limit sigmas src first q o (b + 1)) d a f
-      fits.set (omega (arith, fits.layout.across, fits.across)) (omega (arith, fits.layout.down, fits.down)) (omega arith) ea (rw at ef)
-      (λ c i r p k h. rw (lt-ltb i (b * 8) k, lt-ltb i ((b + 1) * 8) (omega arith)))
-      (λ c i r p k h.
-      let z : (b * 8 + i) / 8 ≡ b = omega arith in
-      let k : q.x + (b * 8 + i) ≡ q.x + b * 8 + i = omega arith in
-      rw (lt-ltb (b * 8 + i) ((b + 1) * 8) (omega arith), z, u, k))
-      (λ c i r p k g h. rw (le-ltb i (b * 8) (omega arith), le-ltb i ((b + 1) * 8) (omega arith)))
-
-  pub mixed-end : (d a : List Float) (b : ℕ) (t : Picture) → q.cols ≤ b * 8 → a ≡ rect_filled l n q (mixed l n limit sigmas src first q o b) d
-      → ((c r i : ℕ) → c < n → r < q.rows → i < q.cols → copied (get_or sigmas (first + i / 8) nan) limit ≡ true → inner l src c (q.x + i) (q.y + r) ≡ t c i r)
-      → ((c r i : ℕ) → c < n → r < q.rows → i < q.cols → copied (get_or sigmas (first + i / 8) nan) limit ≡ false → o c i r ≡ t c i r) → a ≡ rect_filled l n q t d
-  unfolding mixed
-  mixed-end d a b t h e p k = e ∙ planes-cong _ _ _ _ _ _ _ _ d n (λ c i r C I R. rw (lt-ltb i (b * 8) (omega arith)) (go c i r C I R (copied (get_or sigmas (first + i / 8) nan) limit) refl))
-    where
-      go : (c i r : ℕ) → c < n → i < q.cols → r < q.rows → (z : Bool) → copied (get_or sigmas (first + i / 8) nan) limit ≡ z → cond z (inner l src c (q.x + i) (q.y + r)) (o c i r) ≡ t c i r
-      go c i r C I R true u = p c r i C R I u
-      go c i r C I R false u = k c r i C R I u
-
-module _ (l : Layout) (n : ℕ) (limit : Float) (sigmas src : List Float) (first : ℕ) (q : Rect) where
-  pub restored-none : (d : List Float) → Restored l n limit sigmas src first q 0 d d
-  restored-none d o e len p = mixed-none l n limit sigmas src first q o e d p
-
-  -- one more block
-  pub restored-next : (d a f : List Float) (b m : ℕ) → b * 8 < q.cols → m ≡ min (q.cols - b * 8) 8 → Restored l n limit sigmas src first q b d a
-      → f ≡ cond (copied (get_or sigmas (first + b) nan) limit) (rect_filled l n (record { x = q.x + b * 8; y = q.y; rows = q.rows; cols = m }) (λ c i r. inner l src c (q.x + b * 8 + i) (q.y + r)) a) a
-      → Restored l n limit sigmas src first q (b + 1) d f
-  restored-next d a f b m some em h ef o e fits p = go (copied (get_or sigmas (first + b) nan) limit) refl
-    where
-      go : (k : Bool) → copied (get_or sigmas (first + b) nan) limit ≡ k → f ≡ rect_filled l n q (mixed l n limit sigmas src first q o (b + 1)) e
-      go true u = mixed-copied l n limit sigmas src first q o e a f b m fits some em u (h o e fits p) (ef ∙ rw u)
-      go false u = (ef ∙ rw u) ∙ mixed-kept l n limit sigmas src first q o e a b u (h o e fits p)
-
--- a block that is copied keeps the samples of `src`
-pub block-copied : (k r : Bool) (p d a : List Float) → r ≡ k → r ≡ true → a ≡ p → a ≡ cond k p d
-block-copied k r p d a e f g = let z : k ≡ true = sym e ∙ f in rw z g
-
 -- ---- how a tile is computed
 module _ (p : Pass) (src : List Float) (q : Rect) (d : List Float) (fit : TileInPass p q (length src) (length d)) where
   abbrev l : Layout
@@ -238,6 +167,11 @@ module _ (p : Pass) (src : List Float) (q : Rect) (d : List Float) (fit : TileIn
   small : q.rows ≤ 8
   small = omega (arith, fits.rows-le)
 
+  -- no sigma copies, so a picture that is the step's where none does is the step's
+  filled : (sigmas : List Float) → NoneCopied p sigmas q → (o : Picture) (a : List Float) → a ≡ rect_filled l n q o d
+      → ((c r i : ℕ) → c < n → r < q.rows → i < q.cols → copied (sigma_in l q sigmas i) s.limit ≡ false → o c i r ≡ step_over n l s top sigmas src c (q.x + i) (q.y + r)) → a ≡ tile_stepped p q sigmas src d
+  filled sigmas none o a stored agrees = stored ∙ planes-cong _ _ _ _ _ _ _ _ d n (λ c i r C I R. agrees c r i C R I (none (i / 8) (omega arith)))
+
   -- from its windows
   module _ (w₀ e₀ slopes win e : List Float) (lw : length w₀ ≡ 2688) (le : length e₀ ≡ 5376) (ew : win ≡ loaded l n src q.x q.y s.step (q.rows + 6 - 2 * s.step) (q.cols + 8) w₀)
       (ee : e ≡ distances_of s.step n s.scales win q.rows e₀) where
@@ -248,34 +182,17 @@ module _ (p : Pass) (src : List Float) (q : Rect) (d : List Float) (fit : TileIn
     e-is = ee ∙ distances-done s.step n s.scales win q.rows e₀ fits.planes-le fits.rows-pos small
 
     pub computed : (a : List Float) → a ≡ lanes_stored s.step e slopes win l n (top + q.y) q d → FilteredBy p slopes src q d a
-    computed a ea sigmas steep = record {
-      lanes = tile_of s.step e slopes win (top + q.y);
-      stored = ea ∙ lanes-done s.step e slopes win l n (top + q.y) q d room small fits.cols-le;
-      agrees = lane-is l n s top sigmas src q fits slopes steep win w₀ e e₀ fit.step-lt lw (omega (arith, le)) win-is e-is;
-    }
+    computed a ea sigmas steep none =
+        filled sigmas none (tile_of s.step e slopes win (top + q.y)) a (ea ∙ lanes-done s.step e slopes win l n (top + q.y) q d room small fits.cols-le)
+        (lane-is l n s top sigmas src q fits slopes steep win w₀ e e₀ fit.step-lt lw (omega (arith, le)) win-is e-is)
 
   -- from the planes
   pub inside-filtered : (slopes a : List Float) → n ≡ 3 → s.step ≡ 2 → lies_inside l q ≡ true → a ≡ inside_filled l s.scales slopes (top + q.y) q src d → FilteredBy p slopes src q d a
-  inside-filtered slopes a three two f ea sigmas steep = record {
-    lanes = inside_of l src s.scales slopes (top + q.y) q;
-    stored = rw three (ea ∙ inside-done l s.scales slopes (top + q.y) q src d (rw three at room) fit.same (omega (arith, fits.cols-le)) f);
-    agrees = inside_is l n s top sigmas src q fits slopes steep three two (inside-facts l q f);
-  }
+  inside-filtered slopes a three two f ea sigmas steep none =
+      filled sigmas none (inside_of l src s.scales slopes (top + q.y) q) a (rw three (ea ∙ inside-done l s.scales slopes (top + q.y) q src d (rw three at room) fit.same (omega (arith, fits.cols-le)) f))
+      (inside_is l n s top sigmas src q fits slopes steep three two (inside-facts l q f))
 
-  module _ (sigmas : List Float) where
-    -- the slopes of its columns
-    pub tile-sloped : (e slopes : List Float) → sigma_first l q + blocks_along q.cols ≤ length sigmas → length e ≡ 128 → slopes ≡ slopes_of sigmas (sigma_first l q) (blocks_along q.cols) s.scale s.edge e
-        → Sloped sigmas (sigma_first l q) (blocks_along q.cols) s.scale s.edge slopes
-    tile-sloped e slopes h k m = sloped sigmas e slopes (sigma_first l q) (blocks_along q.cols) s.scale s.edge (omega (arith, fits.cols-le)) h k m
-
-    -- with its copied blocks restored it equals the step
-    pub tile-done : (a b : List Float) → Filtered p sigmas src q d a → Restored l n s.limit sigmas src (sigma_first l q) q (blocks_along q.cols) a b
-        → b ≡ tile_stepped p q sigmas src d
-    tile-done a b f g =
-        mixed-end l n s.limit sigmas src (sigma_first l q) q f.lanes d b (blocks_along q.cols) (λ c i r. step_over n l s top sigmas src c (q.x + i) (q.y + r)) (omega arith)
-        (g f.lanes d room f.stored) (λ c r i C R I u. copied_is l n s top sigmas src q fits c r i R I u) f.agrees
-
-    -- and so does the copied rectangle, if all its blocks are copied
-    pub tile-copied : (a : List Float) → ((b : ℕ) → b < blocks_along q.cols → copied (get_or sigmas (sigma_first l q + b) nan) s.limit ≡ true) → a ≡ copied_rect l n q src d
-        → a ≡ tile_stepped p q sigmas src d
-    tile-copied a h e = e ∙ rect-copied l n q src d room fit.same ∙ planes-cong _ _ _ _ _ _ _ _ d n (λ c i r C I R. copied_is l n s top sigmas src q fits c r i R I (h (i / 8) (omega arith)))
+  -- the slopes of its columns
+  pub tile-sloped : (sigmas e slopes : List Float) → sigma_first l q + blocks_along q.cols ≤ length sigmas → length e ≡ 128 → slopes ≡ slopes_of sigmas (sigma_first l q) (blocks_along q.cols) s.scale s.edge e
+      → Sloped sigmas (sigma_first l q) (blocks_along q.cols) s.scale s.edge slopes
+  tile-sloped sigmas e slopes h k m = sloped sigmas e slopes (sigma_first l q) (blocks_along q.cols) s.scale s.edge (omega (arith, fits.cols-le)) h k m

@@ -1,5 +1,5 @@
 -- A tile of a step: when its arguments fit, and what is stored. Definitions only.
-use Rattle.std.specs.Prelude.{◌≡◌, false, cond, ◌&&◌, List, ℕ, ◌+◌, ◌*◌, ◌/◌, ◌%◌, ◌<◌, ◌≤◌, ltb, length, get_or, Float}
+use Rattle.std.specs.Prelude.{◌≡◌, false, List, ℕ, ◌+◌, ◌*◌, ◌/◌, ◌%◌, ◌<◌, ◌≤◌, get_or, Float}
 use Rattle.std.specs.Float.{nan}
 use Rattle.planes.specs.declared.Layout.{Layout}
 use Rattle.planes.specs.Picture.{Picture}
@@ -63,31 +63,16 @@ sigma_first l q = sigma_start l q.x q.y
 abbrev pub sigma_in : Layout → Rect → List Float → ℕ → Float
 sigma_in l q sigmas i = get_or sigmas (sigma_first l q + i / block_side) nan
 
--- ---- copied columns in place of filtered ones
-module _ (l : Layout) (n : ℕ) (limit : Float) (sigmas src : List Float) (first : ℕ) (q : Rect) (o : Picture) where
-  -- in the first b blocks, copied samples where the sigma says so; all others as in o
-  unfoldable pub mixed : ℕ → Picture
-  mixed b = λ c i r. cond (ltb i (b * block_side) && copied (get_or sigmas (first + i / block_side) nan) limit) (inner l src c (q.x + i) (q.y + r)) (o c i r)
+-- no block of the tile is copied
+abbrev pub NoneCopied : Pass → List Float → Rect → Type 0
+NoneCopied p sigmas q = (b : ℕ) → b < blocks_along q.cols → copied (get_or sigmas (sigma_first p.layout q + b) nan) p.settings.limit ≡ false
 
 -- ---- what the functions write
 
--- the set with a rectangle's samples copied, and with those of the step
-abbrev pub rect_copied : Pass → Rect → List Float → List Float → List Float
-rect_copied p q src d = rect_filled p.layout p.planes q (λ c i r. inner p.layout src c (q.x + i) (q.y + r)) d
-
+-- the set with a rectangle's samples of the step
 abbrev pub tile_stepped : Pass → Rect → List Float → List Float → List Float → List Float
 tile_stepped p q sigmas src d = rect_filled p.layout p.planes q (λ c i r. pass_over p sigmas src c (q.x + i) (q.y + r)) d
 
--- the tile's rectangle holds a picture that is the step's wherever the sigma does not copy
-pub record Filtered (p : Pass) (sigmas src : List Float) (q : Rect) (d a : List Float) : Type 0 where
-  pub lanes : Picture
-  pub stored : a ≡ rect_filled p.layout p.planes q lanes d
-  pub agrees : (c r i : ℕ) → c < p.planes → r < q.rows → i < q.cols → copied (sigma_in p.layout q sigmas i) p.settings.limit ≡ false → lanes c i r ≡ pass_over p sigmas src c (q.x + i) (q.y + r)
-
--- the same for any sigmas that have these slopes
+-- a tile computed with these slopes holds the step's samples, for any sigmas that have these slopes and copy no block of it
 abbrev pub FilteredBy : Pass → List Float → List Float → Rect → List Float → List Float → Type 0
-FilteredBy p slopes src q d a = (sigmas : List Float) → Sloped sigmas (sigma_first p.layout q) (blocks_along q.cols) p.settings.scale p.settings.edge slopes → Filtered p sigmas src q d a
-
--- the copied blocks among the first b are restored, whatever picture the rectangle holds
-abbrev pub Restored : Layout → ℕ → Float → List Float → List Float → ℕ → Rect → ℕ → List Float → List Float → Type 0
-Restored l n limit sigmas src first q b d a = (o : Picture) (e : List Float) → RectFits l n q (length e) → d ≡ rect_filled l n q o e → a ≡ rect_filled l n q (mixed l n limit sigmas src first q o b) e
+FilteredBy p slopes src q d a = (sigmas : List Float) → Sloped sigmas (sigma_first p.layout q) (blocks_along q.cols) p.settings.scale p.settings.edge slopes → NoneCopied p sigmas q → a ≡ tile_stepped p q sigmas src d

@@ -1,15 +1,20 @@
-// Rows of the filter region in strips, each within one row of blocks.
-ghost use Rattle.std.specs.Prelude.{◌≡◌, ◌-◌, ◌≤◌, length};
-ghost use Rattle.epf_tiles.specs.Region.{PassFits, StripFits, rows_stepped, region_of};
+// Rows of the filter region in strips, each within one row of blocks. A strip is filtered by runs of blocks, and a run by tiles.
+ghost use Rattle.std.specs.Prelude.{◌≡◌, false, ◌+◌, ◌-◌, ◌*◌, ◌/◌, ◌<◌, ◌≤◌, length};
+ghost use Rattle.epf_tiles.specs.Blocks.{block_side, block_columns};
+ghost use Rattle.epf_tiles.specs.Region.{PassFits, StripFits, AllOfKind, RunEnd, HoldsCopied};
+ghost use Rattle.epf_tiles.specs.Region.{share_of, blocks_stepped, rows_stepped, region_of};
 
 use crate::tile::{blocks_of, tile};
 use crate::{Arrays, Pass, Step};
-use epf_rects::Rect;
+use epf_rects::{Rect, copy_rect};
 use epf_sizes::{FIELDS, LANES, WINDOWS};
 use epf_slopes::SLOPES;
-use epf_step::LAST_STEP;
+use epf_step::{LAST_STEP, copied};
 use limits::BLOCK;
 use planes::{Layout, set_fits};
+
+// The largest number of blocks of a tile.
+const TILE_BLOCKS: usize = LANES / BLOCK;
 
 // The top of a region, an i32, is below this, so row positions do not overflow.
 const MAX_TOP: usize = 4_294_967_296;
@@ -22,10 +27,91 @@ struct RowSpan {
     rows: usize,
 }
 
-// Filters a strip of rows, tile by tile.
+// The number of blocks of the first tile of a run of so many blocks: a run takes as few tiles as it can, nearly equal.
+fn share(blocks: usize) -> usize
+    requires { 0 < blocks }
+    ensures { result ≡ share_of blocks }
+{
+    blocks.div_ceil(blocks.div_ceil(TILE_BLOCKS))
+}
+
+// The end of the longest run of blocks from block `from` on that are all copied, or all filtered, in the row of blocks at row y.
+fn run_end(pass: Pass, sigmas: &[f32], y: usize, of_copied: bool, from: usize) -> usize
+    requires row_in_bounds { y / block_side * block_columns pass.layout + block_columns pass.layout ≤ length sigmas.now }
+    requires from_le { from ≤ block_columns pass.layout }
+    ensures { RunEnd pass sigmas.now y of_copied from result }
+{
+    let limit = pass.settings.limit;
+    let across = blocks_of(pass.layout.width);
+    let first = y / BLOCK * across;
+    sigmas[first + from..first + across]
+        .iter()
+        .position(|sigma| copied(*sigma, limit) != of_copied)
+        .map_or(across, |blocks| from + blocks)
+}
+
+// Filters blocks `from` up to `to` of a strip, tile by tile. None of them is copied.
+fn tiles(
+    dst: &mut [f32],
+    src: &[f32],
+    pass: Pass,
+    sigmas: &[f32],
+    span: RowSpan,
+    from: usize,
+    to: usize,
+    arrays: &mut Arrays,
+)
+    requires pass_fits { PassFits pass (length src.now) (length dst.old) (length sigmas.now) }
+    requires strip_fits { StripFits pass.layout span.y span.rows }
+    requires in_strip { (from ≤ to) × (to ≤ block_columns pass.layout) }
+    requires filtered { AllOfKind pass sigmas.now span.y false from to }
+    ensures { dst.new ≡ blocks_stepped pass span.y span.rows from to sigmas.now
+        src.now dst.old }
+{
+    let width = pass.layout.width;
+    let mut b = from;
+    while b < to {
+        let blocks = share(to - b);
+        let x = b * BLOCK;
+        let rect = Rect {
+            x,
+            y: span.y,
+            rows: span.rows,
+            cols: (width - x).min(blocks * BLOCK),
+        };
+        tile(dst, src, pass, sigmas, rect, arrays);
+        b += blocks;
+    }
+}
+
+// Filters the blocks of a strip that are not copied, run by run. The copied blocks are in `dst` already.
+fn runs(
+    dst: &mut [f32],
+    src: &[f32],
+    pass: Pass,
+    sigmas: &[f32],
+    span: RowSpan,
+    arrays: &mut Arrays,
+)
+    requires pass_fits { PassFits pass (length src.now) (length dst.old) (length sigmas.now) }
+    requires strip_fits { StripFits pass.layout span.y span.rows }
+    requires holds_copied { HoldsCopied pass sigmas.now src.now span.y span.rows dst.old }
+    ensures { dst.new ≡ rows_stepped pass span.y span.rows sigmas.now
+        src.now dst.old }
+{
+    let across = blocks_of(pass.layout.width);
+    let mut b = 0;
+    while b < across {
+        let from = run_end(pass, sigmas, span.y, true, b);
+        let to = run_end(pass, sigmas, span.y, false, from);
+        tiles(dst, src, pass, sigmas, span, from, to, arrays);
+        b = to;
+    }
+}
+
+// Filters a strip of rows. If any of its blocks is copied, the whole strip is copied first.
 // Form: `dst`, `src` and `sigmas` are slices of `filter_region`'s caller, handed on by `strips`; a struct that holds `dst` is not
 // `Copy`, and each contract would have to say what else of it stays.
-#[tactic(auto, using(crate::proofs::Region::no_columns))]
 fn strip(
     dst: &mut [f32],
     src: &[f32],
@@ -39,14 +125,20 @@ fn strip(
     ensures { dst.new ≡ rows_stepped pass span.y span.rows sigmas.now
         src.now dst.old }
 {
-    let width = pass.layout.width;
-    let y = span.y;
-    let rows = span.rows;
-    for x in (0..width).step_by(LANES) {
-        let cols = (width - x).min(LANES);
-        let rect = Rect { x, y, rows, cols };
-        tile(dst, src, pass, sigmas, rect, arrays);
+    let l = pass.layout;
+    let across = blocks_of(l.width);
+    if run_end(pass, sigmas, span.y, false, 0) == across {
+        tiles(dst, src, pass, sigmas, span, 0, across, arrays);
+        return;
     }
+    let rect = Rect {
+        x: 0,
+        y: span.y,
+        rows: span.rows,
+        cols: l.width,
+    };
+    copy_rect(dst, src, l, pass.planes, rect);
+    runs(dst, src, pass, sigmas, span, arrays);
 }
 
 // Filters rows `from` up to `to`, strip by strip; it has the arrays that a tile is computed in.

@@ -1,0 +1,13 @@
+-- `epf_tiles::strips::tiles` meets its contract. The invariant: the blocks before b are written. Assumes nothing.
+use mathlib.Core.Path.{◌≡◌}
+use Prim.Native.Nat.{◌-◌, ◌≤◌}
+use lib.ListN.{length}
+use Rattle.epf_tiles.specs.Region.{blocks_stepped}
+use Rattle.epf_tiles.proofs.strips.tiles.Given as goal
+
+abbrev pub invariant-loop-b : goal.invariant-loop-b
+invariant-loop-b l = (l.from ≤ l.b) × (l.b ≤ l.to) × (length l.dst ≡ length l.initial.dst)
+    × (l.dst ≡ blocks_stepped l.pass l.span.y l.span.rows l.from l.b l.sigmas l.src l.initial.dst)
+
+abbrev pub decreases-loop-b : goal.decreases-loop-b
+decreases-loop-b l = l.to - l.b
