@@ -1,4 +1,5 @@
-// A step of the edge-preserving filter in tiles of at most 8 rows of 56 columns, each within one row of blocks.
+// A step of the edge-preserving filter. Copied blocks are copied, the others are filtered in tiles, each of whole blocks of
+// one row of blocks.
 #![tactic(auto)]
 
 pub mod strips;

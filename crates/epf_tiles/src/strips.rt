@@ -1,4 +1,5 @@
-// Rows of the filter region in strips, each within one row of blocks. A strip is filtered by runs of blocks, and a run by tiles.
+// Rows of the filter region in strips, each within one row of blocks. If any block of a strip is copied, the strip is
+// copied from `src` first; then each run of blocks that are not copied is filtered, in tiles of nearly equal width.
 ghost use Rattle.std.specs.Prelude.{◌≡◌, false, ◌+◌, ◌-◌, ◌*◌, ◌/◌, ◌<◌, ◌≤◌, length};
 ghost use Rattle.epf_tiles.specs.Blocks.{block_side, block_columns};
 ghost use Rattle.epf_tiles.specs.Region.{PassFits, StripFits, AllOfKind, RunEnd, HoldsCopied};
@@ -27,7 +28,8 @@ struct RowSpan {
     rows: usize,
 }
 
-// The number of blocks of the first tile of a run of so many blocks: a run takes as few tiles as it can, nearly equal.
+// The number of blocks of the next tile, for a run of which so many are left. A run takes as few tiles as it can, of
+// nearly equal numbers of blocks.
 fn share(blocks: usize) -> usize
     requires { 0 < blocks }
     ensures { result ≡ share_of blocks }
@@ -35,7 +37,9 @@ fn share(blocks: usize) -> usize
     blocks.div_ceil(blocks.div_ceil(TILE_BLOCKS))
 }
 
-// The end of the longest run of blocks from block `from` on that are all copied, or all filtered, in the row of blocks at row y.
+// The end of the longest run of blocks that starts at block `from`, in the row of blocks at row y: of copied blocks, or
+// of others. It is `from` itself where block `from` is of the other kind.
+// Form: `of_copied` is what `copied` answers for the run's sigmas; an enum of two kinds would be made from that answer.
 fn run_end(pass: Pass, sigmas: &[f32], y: usize, of_copied: bool, from: usize) -> usize
     requires row_in_bounds { y / block_side * block_columns pass.layout + block_columns pass.layout ≤ length sigmas.now }
     requires from_le { from ≤ block_columns pass.layout }
@@ -51,6 +55,7 @@ fn run_end(pass: Pass, sigmas: &[f32], y: usize, of_copied: bool, from: usize) -
 }
 
 // Filters blocks `from` up to `to` of a strip, tile by tile. None of them is copied.
+// Form: the parameters are those of `strip`, and two bounds, as `strips` has them.
 fn tiles(
     dst: &mut [f32],
     src: &[f32],
@@ -70,6 +75,7 @@ fn tiles(
 {
     let width = pass.layout.width;
     let mut b = from;
+    // Form: the tiles of a run may differ by a block, so no range with a fixed step gives them.
     while b < to {
         let blocks = share(to - b);
         let x = b * BLOCK;
@@ -84,7 +90,8 @@ fn tiles(
     }
 }
 
-// Filters the blocks of a strip that are not copied, run by run. The copied blocks are in `dst` already.
+// Filters the blocks of a strip that are not copied, run by run; `dst` holds the copied blocks already.
+// Form: the parameters are those of `strip`.
 fn runs(
     dst: &mut [f32],
     src: &[f32],
@@ -101,6 +108,7 @@ fn runs(
 {
     let across = blocks_of(pass.layout.width);
     let mut b = 0;
+    // Form: runs are as long as the sigmas make them, so no range gives their starts.
     while b < across {
         let from = run_end(pass, sigmas, span.y, true, b);
         let to = run_end(pass, sigmas, span.y, false, from);
@@ -109,7 +117,8 @@ fn runs(
     }
 }
 
-// Filters a strip of rows. If any of its blocks is copied, the whole strip is copied first.
+// Computes a strip of rows. If any of its blocks is copied, all its columns are copied first, and only the runs between
+// copied blocks are filtered.
 // Form: `dst`, `src` and `sigmas` are slices of `filter_region`'s caller, handed on by `strips`; a struct that holds `dst` is not
 // `Copy`, and each contract would have to say what else of it stays.
 fn strip(

@@ -1,4 +1,4 @@
-// One tile of blocks that are filtered.
+// One tile: a rectangle of filtered blocks.
 ghost use Rattle.std.specs.Prelude.{◌≡◌, ◌+◌, ◌≤◌, length};
 ghost use Rattle.epf_sizes.specs.Sizes.{max_side};
 ghost use Rattle.frame.specs.Sizes.{blocks_along};
@@ -67,7 +67,7 @@ fn filter_window(dst: &mut [f32], src: &[f32], pass: Pass, rect: Rect, arrays: &
     );
 }
 
-// Filters a tile, none of whose blocks is copied.
+// Filters a tile. None of its blocks is copied.
 // Form: a step is a number, and is asked once per tile. The tile's sigmas are counted from the start of the list, as the
 // definition of a step has them; for a slice of them it would have to be shown here that sigma b of the slice is that one.
 pub(crate) fn tile(
