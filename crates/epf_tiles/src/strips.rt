@@ -39,7 +39,8 @@ fn share(blocks: usize) -> usize
 
 // The end of the longest run of blocks that starts at block `from`, in the row of blocks at row y: of copied blocks, or
 // of others. It is `from` itself where block `from` is of the other kind.
-// Form: `of_copied` is what `copied` answers for the run's sigmas; an enum of two kinds would be made from that answer.
+// Form: `of_copied` is what `copied` answers for the run's sigmas; an enum of two kinds would be made from that answer. The
+// row's sigmas are found in the whole list, as in `tile`.
 fn run_end(pass: Pass, sigmas: &[f32], y: usize, of_copied: bool, from: usize) -> usize
     requires row_in_bounds { y / block_side * block_columns pass.layout + block_columns pass.layout ≤ length sigmas.now }
     requires from_le { from ≤ block_columns pass.layout }
