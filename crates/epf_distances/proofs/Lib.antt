@@ -1,5 +1,5 @@
 pub mod Fields
-pub mod Runs
+mod Lanes
+mod Loops
 pub mod Seen
-pub mod Taps
-mod Vectors
+pub mod TapLaws

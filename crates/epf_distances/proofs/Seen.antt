@@ -1,30 +1,34 @@
--- What a sample sees in its window, and that differences between indices of the window are those of the definition. Assumes nothing.
-use mathlib.Core.Path.{◌≡◌, ◌∙◌}
-use mathlib.Core.List.{List}
-use Prim.Native.Nat.{ℕ, zero, suc, ◌+◌, ◌-◌, ◌*◌, ◌/◌, ◌%◌, ◌≤◌}
+-- What a lane sees, and that the differences between indices of the samples are those of the definition, up to the sign of zeros. Assumes nothing.
+use mathlib.Core.Path.{◌≡◌, refl, ap, ◌∙◌, subst}
+use mathlib.Core.List.{List, [], ◌∷◌}
+use mathlib.Core.Logic.{inl}
+use Prim.Native.Nat.{ℕ, zero, suc, ◌+◌, ◌-◌, ◌*◌, ◌≤◌}
+use native.Mathlib.Nat.{suc-mul}
 use native.Mathlib.Omega.{arith}
 use borrow.Author.Tests.{le-ltb}
 use lib.ListN.{get_or}
-use lib.IntN.{ℤ, pos, negsuc, ◌+ℤ◌, sub_ℕ, nat_abs}
+use lib.IntN.{pos, negsuc, ◌+ℤ◌, sub_ℕ, nat_abs}
 use lib.Ieee.{Float, nan, binary32}
+use Rattle.rounding.specs.Magnitude.{magnitude}
+use Rattle.rounding.specs.Zeros.{EqualOrZeros}
 use Rattle.rounding.proofs.MagnitudeLaws.{difference-swap}
+use Rattle.rounding.proofs.Zeros.{zeros-sym, zeros-trans, sums-alike, products-alike, parted-alike, zero-plus-magnitude}
 use Rattle.mirror.proofs.Offset.{offset-from, offset-sum}
+use Rattle.planes.specs.Samples.{◌⊕◌, ◌⊖◌, ◌⊗◌, b0}
 use Rattle.planes.specs.Picture.{Around}
-use Rattle.epf_step.specs.Steps.{Offset, dists, along, apart}
-use Rattle.epf_distances.specs.Seen.{gap, nearby, apart_by}
+use Rattle.epf_step.specs.Steps.{Offset, Scaled, dists, along, apart, distance}
+use Rattle.epf_distances.specs.declared.View.{View}
+use Rattle.epf_distances.specs.Seen.{nearby, apart_by, summed}
 
--- A plane's window has 14 rows of 64 columns. For the sample at index i its centre is index 196 + i; offsets count from there.
-abbrev pub flat : ℤ → ℤ → ℕ
-flat dx dy = nat_abs (pos 3 +ℤ dy) * 64 + nat_abs (pos 4 +ℤ dx)
+-- what the lane whose corner has index p sees: the corner is 3 rows above the lane and 4 columns left of it
+unfoldable pub seen : List Float → View → ℕ → Around
+seen src v p = λ c dx dy. get_or src (c * v.plane + (p + (nat_abs (pos 3 +ℤ dy) * v.stride + nat_abs (pos 4 +ℤ dx)))) nan
 
--- the offset of an index
-abbrev pub way : ℕ → Offset
-way k = (sub_ℕ (k % 64) 4, sub_ℕ (k / 64) 3)
+-- the offset of a row and a column that count from the corner
+abbrev pub way : ℕ → ℕ → Offset
+way row col = (sub_ℕ col 4, sub_ℕ row 3)
 
-unfoldable pub seen : List Float → ℕ → Around
-seen win i = λ c dx dy. get_or win (c * 896 + (i + flat dx dy)) nan
-
--- ---- indices
+-- ---- rows and columns
 
 nat_abs-sub : (a b : ℕ) → b ≤ a → nat_abs (sub_ℕ a b) ≡ a - b
 nat_abs-sub a b h = rw (le-ltb a b h)
@@ -35,87 +39,107 @@ side m a p q h =
     let e : pos m +ℤ (sub_ℕ a m +ℤ sub_ℕ p q) ≡ sub_ℕ (m + (a + p)) (m + q) = rw (offset-sum a m p q) (offset-from m (a + p) (m + q)) in
     rw e (nat_abs-sub (m + (a + p)) (m + q) (omega arith) ∙ omega arith)
 
--- (p - q) columns right and (r - s) rows down from index k
-flat-way : (k p q r s : ℕ) → q ≤ k % 64 + p → s ≤ k / 64 + r → flat ((way k).0 +ℤ sub_ℕ p q) ((way k).1 +ℤ sub_ℕ r s) ≡ k + p + r * 64 - q - s * 64
-flat-way k p q r s h l = rw (side 4 (k % 64) p q h, side 3 (k / 64) r s l) (omega arith)
+side-at : (m a : ℕ) → nat_abs (pos m +ℤ sub_ℕ a m) ≡ a
+side-at m a = rw (offset-from m a m) (nat_abs-sub (m + a) m (omega arith) ∙ omega arith)
 
-pub flat-at : (k : ℕ) → flat (way k).0 (way k).1 ≡ k
-flat-at k =
-    let e : nat_abs (pos 4 +ℤ sub_ℕ (k % 64) 4) ≡ k % 64 = rw (offset-from 4 (k % 64) 4) (nat_abs-sub (4 + k % 64) 4 (omega arith) ∙ omega arith) in
-    let f : nat_abs (pos 3 +ℤ sub_ℕ (k / 64) 3) ≡ k / 64 = rw (offset-from 3 (k / 64) 3) (nat_abs-sub (3 + k / 64) 3 (omega arith) ∙ omega arith) in
-    rw (e, f) (omega arith)
-
--- the sample at index k
-pub seen_at : (win : List Float) (i c k : ℕ) → seen win i c (way k).0 (way k).1 ≡ get_or win (c * 896 + (i + k)) nan
+-- the sample at a row and a column
+pub seen-way : (src : List Float) (v : View) (p c row col : ℕ) → get_or src (c * v.plane + (p + (row * v.stride + col))) nan ≡ seen src v p c (way row col).0 (way row col).1
 unfolding seen
-seen_at win i c k = rw (flat-at k)
+seen-way src v p c row col = rw (side-at 3 row, side-at 4 col)
 
--- only those indices matter
-pub nearby-cong : (step j : ℕ) (d e : ℕ → Float) → (d (j - 64) ≡ e (j - 64)) × (d (j + 1) ≡ e (j + 1)) × (d j ≡ e j) × (d (j - 1) ≡ e (j - 1)) × (d (j + 64) ≡ e (j + 64))
-    → nearby step d j ≡ nearby step e j
-unfolding nearby
-nearby-cong zero j d e h = rw (h.0, h.1, h.2, h.3, h.4)
-nearby-cong (suc zero) j d e h = rw (h.0, h.1, h.2, h.3, h.4)
-nearby-cong (suc (suc s)) j d e h = rw h.2
+-- ---- differences, up to the sign of zeros
+module _ (src : List Float) (start p : ℕ) where
+  abbrev sample : ℕ → Float
+  sample i = get_or src (start + (p + i)) nan
 
--- an index with a neighbour on each side
-pub record Inner (k : ℕ) : Type 0 where
-  pub col-pos : 1 ≤ k % 64
-  pub row-pos : 64 ≤ k
+  -- a sample that comes `by` after index q less the one at q, and the other way round
+  forward : (q by a b : ℕ) → q + by ≡ p + a → q ≡ p + b → EqualOrZeros (apart_by src start by q) (magnitude (sample a ⊖ sample b))
+  unfolding apart_by
+  forward q by a b e f = rw (e, f) (parted-alike (sample a) (sample b))
 
-module _ (win : List Float) (c i k : ℕ) (h : Inner k) where
-  here : flat ((way k).0 +ℤ pos 0) ((way k).1 +ℤ pos 0) ≡ k
-  here = flat-way k 0 0 0 0 (omega arith) (omega arith) ∙ omega arith
+  backward : (q by a b : ℕ) → q ≡ p + a → q + by ≡ p + b → EqualOrZeros (apart_by src start by q) (magnitude (sample a ⊖ sample b))
+  unfolding apart_by
+  backward q by a b e f = rw (f, e) (subst (EqualOrZeros _) (difference-swap binary32 (sample b) (sample a)) (parted-alike (sample b) (sample a)))
 
-  above : flat ((way k).0 +ℤ pos 0) ((way k).1 +ℤ negsuc 0) ≡ k - 64
-  above = let u = h.row-pos in flat-way k 0 0 0 1 (omega arith) (omega arith) ∙ omega arith
+module _ (src : List Float) (v : View) (p c row col : ℕ) (high : 1 ≤ row) (right : 1 ≤ col) where
+  here : nat_abs (pos 3 +ℤ ((way row col).1 +ℤ pos 0)) ≡ row
+  here = side 3 row 0 0 (omega arith) ∙ omega arith
 
-  below : flat ((way k).0 +ℤ pos 0) ((way k).1 +ℤ pos 1) ≡ k + 64
-  below = flat-way k 0 0 1 0 (omega arith) (omega arith) ∙ omega arith
+  above : nat_abs (pos 3 +ℤ ((way row col).1 +ℤ negsuc 0)) ≡ row - 1
+  above = side 3 row 0 1 (omega arith) ∙ omega arith
 
-  before : flat ((way k).0 +ℤ negsuc 0) ((way k).1 +ℤ pos 0) ≡ k - 1
-  before = let u = h.col-pos in flat-way k 0 1 0 0 (omega arith) (omega arith) ∙ omega arith
+  below : nat_abs (pos 3 +ℤ ((way row col).1 +ℤ pos 1)) ≡ row + 1
+  below = side 3 row 1 0 (omega arith) ∙ omega arith
 
-  after : flat ((way k).0 +ℤ pos 1) ((way k).1 +ℤ pos 0) ≡ k + 1
-  after = flat-way k 1 0 0 0 (omega arith) (omega arith) ∙ omega arith
+  level : nat_abs (pos 4 +ℤ ((way row col).0 +ℤ pos 0)) ≡ col
+  level = side 4 col 0 0 (omega arith) ∙ omega arith
 
-  -- |differences| between the samples around index k and those around the centre
-  abbrev at : ℕ → ℕ → Float
-  at a b = gap win c (i + a) (i + b)
+  before : nat_abs (pos 4 +ℤ ((way row col).0 +ℤ negsuc 0)) ≡ col - 1
+  before = side 4 col 0 1 (omega arith) ∙ omega arith
 
-  apart-is : (step : ℕ) (d : ℕ → Float) (j : ℕ)
-      → (d (j - 64) ≡ at (k - 64) 132) × (d (j + 1) ≡ at (k + 1) 197) × (d j ≡ at k 196) × (d (j - 1) ≡ at (k - 1) 195) × (d (j + 64) ≡ at (k + 64) 260)
-      → nearby step d j ≡ apart (dists step) (seen win i) c (way k)
+  after : nat_abs (pos 4 +ℤ ((way row col).0 +ℤ pos 1)) ≡ col + 1
+  after = side 4 col 1 0 (omega arith) ∙ omega arith
+
+  -- |difference| between the samples at two rows and columns
+  abbrev gap : ℕ → ℕ → ℕ → ℕ → Float
+  gap r k s m = magnitude (get_or src (c * v.plane + (p + (r * v.stride + k))) nan ⊖ get_or src (c * v.plane + (p + (s * v.stride + m))) nan)
+
+  apart-is : (step j : ℕ) (d : ℕ → Float)
+      → EqualOrZeros (d (j - v.stride)) (gap (row - 1) col 2 4) → EqualOrZeros (d (j + 1)) (gap row (col + 1) 3 5) → EqualOrZeros (d j) (gap row col 3 4)
+      → EqualOrZeros (d (j - 1)) (gap row (col - 1) 3 3) → EqualOrZeros (d (j + v.stride)) (gap (row + 1) col 4 4)
+      → EqualOrZeros (nearby v.stride step d j) (apart (dists step) (seen src v p) c (way row col))
   unfolding apart dists along seen nearby
-  apart-is zero d j e = rw (here, above, below, before, after, e.0, e.1, e.2, e.3, e.4)
-  apart-is (suc zero) d j e = rw (here, above, below, before, after, e.0, e.1, e.2, e.3, e.4)
-  apart-is (suc (suc s)) d j e = rw (here, e.2)
+  apart-is zero j d a b e f g =
+      rw (here, above, below, level, before, after)
+      (sums-alike (sums-alike (sums-alike (sums-alike (zeros-trans a (zeros-sym (zero-plus-magnitude _ _))) b) e) f) g)
+  apart-is (suc zero) j d a b e f g =
+      rw (here, above, below, level, before, after)
+      (sums-alike (sums-alike (sums-alike (sums-alike (zeros-trans a (zeros-sym (zero-plus-magnitude _ _))) e) g) f) b)
+  apart-is (suc (suc s)) j d a b e f g = rw (here, level) (zeros-trans e (zeros-sym (zero-plus-magnitude _ _)))
 
-gap_same : (win : List Float) (c a b a' b' : ℕ) → a ≡ a' → b ≡ b' → gap win c a b ≡ gap win c a' b'
-gap_same win c a b a' b' p q = rw (p, q)
+  -- a row more or less
+  less : (row - 1) * v.stride + v.stride ≡ row * v.stride
+  less =
+      let z : row ≡ suc (row - 1) = omega arith in
+      omega (arith, suc-mul (row - 1) v.stride, ap (λ (n : ℕ). n * v.stride) z)
 
-gap-swap : (win : List Float) (c a b a' b' : ℕ) → a ≡ b' → b ≡ a' → gap win c a b ≡ gap win c a' b'
-gap-swap win c a b a' b' p q = rw (p, q) (difference-swap binary32 _ _)
+  more : (row + 1) * v.stride ≡ row * v.stride + v.stride
+  more =
+      let z : row + 1 ≡ suc row = omega arith in
+      omega (arith, suc-mul row v.stride, ap (λ (n : ℕ). n * v.stride) z)
 
-module _ (step : ℕ) (win : List Float) (c i shift : ℕ) where
   -- the neighbour that comes this far after the centre
-  pub nearby-forward : Inner (196 + shift) → nearby step (apart_by win c shift) (i + 196) ≡ apart (dists step) (seen win i) c (way (196 + shift))
-  unfolding apart_by
-  nearby-forward h = apart-is win c i (196 + shift) h step (apart_by win c shift) (i + 196) (
-    gap_same win c _ _ _ _ (omega arith) (omega arith),
-    gap_same win c _ _ _ _ (omega arith) (omega arith),
-    gap_same win c _ _ _ _ (omega arith) (omega arith),
-    gap_same win c _ _ _ _ (omega arith) (omega arith),
-    gap_same win c _ _ _ _ (omega arith) (omega arith),
-  )
+  pub nearby-forward : (step j by : ℕ) → j ≡ p + (3 * v.stride + 4) → j + by ≡ p + (row * v.stride + col)
+      → EqualOrZeros (nearby v.stride step (apart_by src (c * v.plane) by) j) (apart (dists step) (seen src v p) c (way row col))
+  nearby-forward step j by e f =
+      apart-is step j (apart_by src (c * v.plane) by)
+      (forward src (c * v.plane) p _ by ((row - 1) * v.stride + col) (2 * v.stride + 4) (omega (arith, less)) (omega arith))
+      (forward src (c * v.plane) p _ by (row * v.stride + (col + 1)) (3 * v.stride + 5) (omega arith) (omega arith))
+      (forward src (c * v.plane) p _ by (row * v.stride + col) (3 * v.stride + 4) (omega arith) (omega arith))
+      (forward src (c * v.plane) p _ by (row * v.stride + (col - 1)) (3 * v.stride + 3) (omega arith) (omega arith))
+      (forward src (c * v.plane) p _ by ((row + 1) * v.stride + col) (4 * v.stride + 4) (omega (arith, more)) (omega arith))
 
-  -- the neighbour that comes this far before it: the same differences with operands exchanged, from an index that much earlier
-  pub nearby-backward : shift ≤ 132 → Inner (196 - shift) → nearby step (apart_by win c shift) (i + (196 - shift)) ≡ apart (dists step) (seen win i) c (way (196 - shift))
-  unfolding apart_by
-  nearby-backward s h = apart-is win c i (196 - shift) h step (apart_by win c shift) (i + (196 - shift)) (
-    gap-swap win c _ _ _ _ (omega (arith, h.row-pos)) (omega (arith, h.row-pos)),
-    gap-swap win c _ _ _ _ (omega arith) (omega arith),
-    gap-swap win c _ _ _ _ (omega arith) (omega arith),
-    gap-swap win c _ _ _ _ (omega (arith, h.row-pos)) (omega (arith, h.row-pos)),
-    gap-swap win c _ _ _ _ (omega arith) (omega arith),
-  )
+  -- the neighbour that comes this far before it: the same differences with operands exchanged, from the neighbour's own index
+  pub nearby-backward : (step j by : ℕ) → j ≡ p + (row * v.stride + col) → j + by ≡ p + (3 * v.stride + 4)
+      → EqualOrZeros (nearby v.stride step (apart_by src (c * v.plane) by) j) (apart (dists step) (seen src v p) c (way row col))
+  nearby-backward step j by e f =
+      apart-is step j (apart_by src (c * v.plane) by)
+      (backward src (c * v.plane) p _ by ((row - 1) * v.stride + col) (2 * v.stride + 4) (omega (arith, less)) (omega (arith, less)))
+      (backward src (c * v.plane) p _ by (row * v.stride + (col + 1)) (3 * v.stride + 5) (omega arith) (omega arith))
+      (backward src (c * v.plane) p _ by (row * v.stride + col) (3 * v.stride + 4) (omega arith) (omega arith))
+      (backward src (c * v.plane) p _ by (row * v.stride + (col - 1)) (3 * v.stride + 3) (omega arith) (omega arith))
+      (backward src (c * v.plane) p _ by ((row + 1) * v.stride + col) (4 * v.stride + 4) (omega (arith, more)) (omega (arith, more)))
+
+-- ---- the distances of all channels
+
+along-alike : (f g : Scaled → Float) → ((a : Scaled) → EqualOrZeros (f a) (g a)) → (l : List Scaled) (x y : Float) → EqualOrZeros x y
+    → EqualOrZeros (along (λ (s : Float) (a : Scaled). s ⊕ a.1 ⊗ f a) x l) (along (λ (s : Float) (a : Scaled). s ⊕ a.1 ⊗ g a) y l)
+unfolding along
+along-alike f g h [] x y e = e
+along-alike f g h (a ∷ l) x y e = along-alike f g h l _ _ (sums-alike e (products-alike a.1 (h a)))
+
+pub distance-alike : (src : List Float) (v : View) (step p j by : ℕ) (o : Offset) (cs : List Scaled)
+    → ((c : ℕ) → EqualOrZeros (nearby v.stride step (apart_by src (c * v.plane) by) j) (apart (dists step) (seen src v p) c o))
+    → EqualOrZeros (summed v.stride step cs (λ c. apart_by src (c * v.plane) by) j) (distance cs (dists step) (seen src v p) o)
+unfolding summed distance
+distance-alike src v step p j by o cs h = along-alike _ _ (λ a. h a.0) cs b0 b0 (inl refl)

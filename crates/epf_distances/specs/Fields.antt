@@ -1,43 +1,74 @@
--- Fields of distances: for each shift of a step, the distances at the indices of a tile. Definitions only.
-use Rattle.std.specs.Prelude.{cond, ◌&&◌, List, ℕ, zero, suc, ◌+◌, ◌-◌, ◌*◌, ◌≤◌, leb, Float}
-use Rattle.planes.specs.Samples.{◌⊕◌, ◌⊗◌, b0}
-use Rattle.planes.specs.Fill.{fill}
-use Rattle.epf_step.specs.Steps.{Scaled, along, scaled}
-use Rattle.epf_distances.specs.Seen.{nearby, apart_by}
-use Rattle.epf_distances.specs.Taps.{half, shift}
-use Rattle.epf_distances.specs.declared.Run.{Run}
-use Rattle.epf_sizes.specs.Sizes.{lanes, tile_rows, stride, window_plane, window_centre, fields_length}
+-- Fields of distances: for each pair of opposite neighbours, the distances at the places of a tile. Definitions only.
+use Rattle.std.specs.Prelude.{Bool, cond, ◌&&◌, List, ℕ, zero, suc, ◌+◌, ◌-◌, ◌*◌, ◌≤◌, leb, ltb, length, Float}
+use Rattle.planes.specs.Rect.{rows_fill, planes_fill}
+use Rattle.epf_step.specs.Steps.{Scaled, scaled}
+use Rattle.epf_distances.specs.declared.View.{View}
+use Rattle.epf_distances.specs.declared.Pair.{Pair}
+use Rattle.epf_distances.specs.Seen.{apart_by, summed}
+use Rattle.epf_distances.specs.Taps.{half, pair_of, apart_in, field_vectors, field_start}
+use Rattle.epf_sizes.specs.Sizes.{lanes, tile_rows, stride, margin_rows, difference_rows}
 
 -- ---- a field
 
--- the distance at index j between samples that lie `by` apart
-unfoldable pub dist_at : ℕ → List Scaled → List Float → ℕ → ℕ → Float
-dist_at step cs win by j = along (λ (d : Float) (c : Scaled). d ⊕ c.1 ⊗ nearby step (apart_by win c.0 by) j) b0 cs
+-- index in a plane of a pair's first sample, for the tile's first lane
+abbrev pub first_place : View → Pair → ℕ
+first_place v k = v.corner + (margin_rows - k.up) * v.stride + k.first
 
--- where field h starts in its plane
-abbrev pub field_from : ℕ → ℕ → ℕ
-field_from step h = window_centre - shift step h
+-- the distance at index p between samples that a pair compares
+unfoldable pub dist_at : ℕ → List Scaled → List Float → View → Pair → ℕ → Float
+dist_at step cs src v k p = summed v.stride step cs (λ c. apart_by src (c * v.plane) (apart_in v.stride k)) p
 
--- the index past the last lane of a tile with this number of rows
-abbrev pub past_lanes : ℕ → ℕ
-past_lanes rows = rows * stride + (window_centre + lanes - stride)
+-- the first n fields of a tile
+unfoldable pub fields_fill : ℕ → List Scaled → List Float → View → ℕ → ℕ → List Float → ℕ → List Float
+fields_fill step cs src v rows cols e zero = e
+fields_fill step cs src v rows cols e (suc h) =
+    let k = pair_of step h in
+    rows_fill (fields_fill step cs src v rows cols e h) (field_start h k) stride (4 * field_vectors cols k) (rows + k.up) (λ r i. dist_at step cs src v k (first_place v k + r * v.stride + i))
 
--- the length of field h for such a tile
-abbrev pub field_len : ℕ → ℕ → ℕ → ℕ
-field_len step rows h = past_lanes rows - field_from step h
+-- ---- the differences of a field, of n planes: those of its rows and of the rows above and below, one column more on the left and three on the right
 
--- the first k fields, each in a plane as long as a window's
-unfoldable pub fields_fill : ℕ → List Scaled → List Float → ℕ → List Float → ℕ → List Float
-fields_fill step cs win rows e zero = e
-fields_fill step cs win rows e (suc h) =
-    fill (fields_fill step cs win rows e h) (h * window_plane + field_from step h) (field_len step rows h) (λ i. dist_at step cs win (shift step h) (field_from step h + i))
+abbrev pub field_differences : ℕ → List Float → View → ℕ → ℕ → Pair → List Float → List Float
+field_differences n src v rows cols k d =
+    planes_fill stride difference_rows 0 (4 * field_vectors cols k + 4) 0 (rows + k.up + 2) (λ c i r. apart_by src (c * v.plane) (apart_in v.stride k) (first_place v k - v.stride - 1 + r * v.stride + i)) d n
 
--- the distances of a tile, from windows of at most three planes; unchanged if a count is out of range
-unfoldable pub distances_of : ℕ → ℕ → List Float → List Float → ℕ → List Float → List Float
-distances_of step n scales win rows e = cond (leb n 3 && (leb 1 rows && leb rows tile_rows)) (fields_fill step (scaled n scales) win rows e (half step)) e
+-- those of the first fields, one after another in the same place
+unfoldable pub differences_fill : ℕ → ℕ → List Float → View → ℕ → ℕ → List Float → ℕ → List Float
+differences_fill step n src v rows cols d zero = d
+differences_fill step n src v rows cols d (suc h) = field_differences n src v rows cols (pair_of step h) (differences_fill step n src v rows cols d h)
+
+-- ---- what `distances` leaves
+
+-- no index is as large as this
+abbrev pub max_index : ℕ
+max_index = 4294967296
+
+-- past every sample that is read: 3 rows below the tile and 12 columns right of it, from the last plane's corner on
+abbrev pub view_end : View → ℕ → ℕ → ℕ → ℕ
+view_end v n rows cols = (n - 1) * v.plane + v.corner + (rows + 5) * v.stride + cols + 12
+
+-- a tile of 1 to 8 rows and at most 64 columns in 1 to 3 planes, all of whose samples are there
+abbrev pub view_fits : View → ℕ → ℕ → ℕ → ℕ → Bool
+view_fits v n rows cols len =
+    leb 1 n && (leb n 3 && (leb 1 rows && (leb rows tile_rows && (leb cols lanes && (leb 1 v.stride && (leb v.plane max_index && (leb v.corner max_index && (leb v.stride max_index && leb (view_end v n rows cols) len))))))))
+
+-- the fields of a tile; unchanged if the arguments do not fit
+unfoldable pub distances_of : ℕ → ℕ → List Float → List Float → View → ℕ → ℕ → List Float → List Float
+distances_of step n scales src v rows cols e = cond (view_fits v n rows cols (length src)) (fields_fill step (scaled n scales) src v rows cols e (half step)) e
+
+-- the differences that stay behind: those of the last field in steps 0 and 1
+unfoldable pub differences_of : ℕ → ℕ → List Float → View → ℕ → ℕ → List Float → List Float
+differences_of step n src v rows cols d = cond (view_fits v n rows cols (length src) && ltb step 2) (differences_fill step n src v rows cols d (half step)) d
 
 -- ---- what the loops require
 
--- a run lies inside the fields; its samples, those k after them, and the rows above and below both lie inside a window's plane
-abbrev pub RunFits : Run → ℕ → Type 0
-RunFits run k = (stride ≤ run.from) × (run.from + run.n + stride + k ≤ window_plane) × (run.at + run.n ≤ fields_length)
+pub record ViewFits (v : View) (n rows cols len : ℕ) : Type 0 where
+  pub planes-pos : 1 ≤ n
+  pub planes-le : n ≤ 3
+  pub rows-pos : 1 ≤ rows
+  pub rows-le : rows ≤ tile_rows
+  pub cols-le : cols ≤ lanes
+  pub stride-pos : 1 ≤ v.stride
+  pub plane-le : v.plane ≤ max_index
+  pub corner-le : v.corner ≤ max_index
+  pub stride-le : v.stride ≤ max_index
+  pub end-le : view_end v n rows cols ≤ len

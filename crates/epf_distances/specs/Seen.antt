@@ -1,21 +1,22 @@
--- The differences that a distance sums, by indices of a window. Definitions only.
-use Rattle.std.specs.Prelude.{List, ℕ, zero, suc, ◌+◌, ◌-◌, ◌*◌, get_or, Float}
+-- The differences that a distance sums, by indices of the samples. They are |differences| but for the sign of zeros (`spread`), and sums
+-- start at their first term, so a distance may be -0 where the definition of a step has 0; weights are the same. Definitions only.
+use Rattle.std.specs.Prelude.{List, ℕ, zero, suc, ◌+◌, ◌-◌, get_or, Float}
 use Rattle.std.specs.Float.{nan}
-use Rattle.rounding.specs.Magnitude.{magnitude}
-use Rattle.planes.specs.Samples.{◌⊕◌, ◌⊖◌, b0}
-use Rattle.epf_sizes.specs.Sizes.{stride, window_plane}
+use Rattle.planes.specs.Samples.{◌⊕◌, ◌⊗◌, b0}
+use Rattle.epf_step.specs.Steps.{Scaled, along}
+use Rattle.epf_vectors.specs.Lanes.{spread}
 
--- |difference| of two samples of channel c's window
-abbrev pub gap : List Float → ℕ → ℕ → ℕ → Float
-gap win c a b = magnitude (get_or win (c * window_plane + a) nan ⊖ get_or win (c * window_plane + b) nan)
-
--- ---- the sum of the differences that a step's distance has at an index, in that step's order
-
-unfoldable pub nearby : ℕ → (ℕ → Float) → ℕ → Float
-nearby zero d j = b0 ⊕ d (j - stride) ⊕ d (j + 1) ⊕ d j ⊕ d (j - 1) ⊕ d (j + stride)
-nearby (suc zero) d j = b0 ⊕ d (j - stride) ⊕ d j ⊕ d (j + stride) ⊕ d (j - 1) ⊕ d (j + 1)
-nearby (suc (suc s)) d j = b0 ⊕ d j
-
--- |differences| between samples that lie `shift` apart
+-- the difference between the sample `apart` after index p of a plane that starts at index `plane`, and that at p
 unfoldable pub apart_by : List Float → ℕ → ℕ → ℕ → Float
-apart_by win c shift p = gap win c (p + shift) p
+apart_by src plane apart p = spread (get_or src (plane + (p + apart)) nan) (get_or src (plane + p) nan)
+
+-- ---- the sum of the differences that a step's distance has at an index, in that step's order; rows lie `across` apart
+
+unfoldable pub nearby : ℕ → ℕ → (ℕ → Float) → ℕ → Float
+nearby across zero d j = d (j - across) ⊕ d (j + 1) ⊕ d j ⊕ d (j - 1) ⊕ d (j + across)
+nearby across (suc zero) d j = d (j - across) ⊕ d j ⊕ d (j + across) ⊕ d (j - 1) ⊕ d (j + 1)
+nearby across (suc (suc s)) d j = d j
+
+-- the distance at an index: f has the differences of each channel
+unfoldable pub summed : ℕ → ℕ → List Scaled → (ℕ → ℕ → Float) → ℕ → Float
+summed across step cs f j = along (λ (s : Float) (c : Scaled). s ⊕ c.1 ⊗ nearby across step (f c.0) j) b0 cs

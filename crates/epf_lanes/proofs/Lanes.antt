@@ -1,33 +1,36 @@
--- A lane computed by four neighbours at a time is the lane of the definition; rows of lanes make a tile. Assumes nothing.
+-- A lane computed by four neighbours at a time is the lane of the definition; vectors make rows, and rows a tile. Assumes nothing.
 use mathlib.Core.Path.{◌≡◌, refl, sym, ap, ◌∙◌}
+use mathlib.Core.Bool.{true, not, ◌&&◌, ◌||◌}
 use mathlib.Core.List.{List}
-use Prim.Native.Nat.{ℕ, zero, suc, ◌+◌, ◌*◌, ◌%◌, ◌<◌, ◌≤◌}
-use native.Mathlib.Nat.{add-mul, mul_assoc, mul-le-mul, mul-le-mul_right}
+use Prim.Native.Nat.{ℕ, zero, suc, ◌+◌, ◌-◌, ◌*◌, ◌%◌, ◌<◌, ◌≤◌, min}
 use native.Mathlib.Omega.{arith}
-use borrow.Author.Tests.{le-leb, eq-eqb, ne_eqb}
+use borrow.Author.Tests.{eq-eqb, ne_eqb}
+use lib.Dec.{eqb}
 use lib.ListN.{length, get_or}
 use lib.Ieee.{Float, nan}
 use Rattle.planes.specs.declared.Layout.{Layout}
 use Rattle.planes.specs.Samples.{◌⊕◌, ◌⊗◌, ◌⊘◌, b1}
+use Rattle.planes.specs.Picture.{Picture}
 use Rattle.planes.specs.Fill.{fill}
-use Rattle.planes.specs.Rect.{rows_fill}
-use Rattle.planes.proofs.Rect.{rows-turn}
+use Rattle.planes.specs.Rect.{rows_fill, planes_fill}
+use Rattle.planes.proofs.Join.{rect-below, rect-beside}
 use Rattle.epf_rects.specs.declared.Rect.{Rect}
 use Rattle.epf_rects.specs.Rects.{rect_filled, RectFits}
-use Rattle.epf_rects.specs.Three.{three_fill}
 use Rattle.epf_rects.proofs.Rects.{rect-true}
-use Rattle.epf_rects.proofs.Three.{rows_to, row_below}
 use Rattle.epf_step.specs.Steps.{kernel}
 use Rattle.epf_slopes.specs.Slopes.{first_slope}
 use Rattle.epf_slopes.proofs.Slopes.{first-same}
+use Rattle.epf_distances.specs.declared.View.{View}
 use Rattle.epf_distances.specs.Taps.{tap_of}
+use Rattle.epf_distances.specs.Fields.{ViewFits}
 use Rattle.epf_lanes.specs.declared.Four.{Four}
 use Rattle.epf_lanes.specs.declared.LaneWeights.{LaneWeights}
 use Rattle.epf_vectors.specs.Lanes.{lanes_of}
 use Rattle.epf_vectors.proofs.Rows.{lane-is}
-use Rattle.epf_lanes.specs.Lanes.{weights_to, samples_to, weight_in, weight_of, neighbour_of, lane_of, ◌⊞◌, field_weight, weights_in, four_of, no_four, sums_of, weights_of, mix_of, row_of, row_lanes, tile_of, lanes_stored}
+use Rattle.epf_lanes.specs.Lanes.{weights_to, samples_to, weight_in, weight_of, neighbour_of, lane_of, ◌⊞◌, field_weight, weights_in, four_of, no_four, sums_of, weights_of, mix_of, row_of, tile_of, lanes_stored}
 use Rattle.epf_lanes.specs.Divisors.{LaneBounded}
 use Rattle.epf_lanes.proofs.Divisors.{lane-bounded}
+use Rattle.epf_distances.proofs.Fields.{view-true}
 use Rattle.epf_lanes.proofs.Vectors.{each-lane}
 
 twelve-neighbours : length (kernel 0) ≡ 12
@@ -83,11 +86,11 @@ samples-same f s t x y (suc n) e h = rw (samples-same f s t x y n e h, h n)
 -- ---- `weights`
 
 -- four weights of each lane after index j of a field
-pub four-in : (step : ℕ) (e slopes : List Float) (r i j q : ℕ) (w : Four) → j ≡ r * 64 + i → w ≡ four_of (field_weight step e slopes j) q → w ≡ four_of (weights_in step e slopes r i) q
+pub four-in : (step : ℕ) (e slopes : List Float) (r i j q : ℕ) (w : Four) → j ≡ r * 72 + i → w ≡ four_of (field_weight step e slopes j) q → w ≡ four_of (weights_in step e slopes r i) q
 four-in step e slopes r i j q w ej ew = ew ∙ rw (same q, same (q + 1), same (q + 2), same (q + 3))
   where
     same : (n : ℕ) → lanes_of (field_weight step e slopes j n) ≡ lanes_of (weights_in step e slopes r i n)
-    same n = each-lane (field_weight step e slopes j n) (weights_in step e slopes r i n) (λ k. let z : (tap_of step n).start + j + k ≡ (tap_of step n).start + r * 64 + (i + k) = omega arith in rw z)
+    same n = each-lane (field_weight step e slopes j n) (weights_in step e slopes r i n) (λ k. let z : (tap_of step n).start + j + k ≡ (tap_of step n).start + r * 72 + (i + k) = omega arith in rw z)
 
 -- four more weights are added
 summed : (f : ℕ → ℕ → Float) (q : ℕ) (w : Four) (x y : List Float) → w ≡ four_of f q → x ≡ sums_of f q → y ≡ x ⊞ w.a ⊞ w.b ⊞ w.c ⊞ w.d → y ≡ sums_of f (q + 4)
@@ -131,16 +134,16 @@ none-added : (f s : ℕ → Float) (x : Float) → x ≡ samples_to f s x 0
 unfolding samples_to
 none-added f s x = refl
 
--- lane k of the windows from index p on, with the weights f
-module _ (step : ℕ) (f : ℕ → ℕ → Float) (win : List Float) (p k : ℕ) where
+-- lane k of the samples whose corners start at index p, with the weights f
+module _ (step : ℕ) (f : ℕ → ℕ → Float) (src : List Float) (across p k : ℕ) where
   abbrev weight : ℕ → Float
   weight q = f q k
 
   abbrev sample : ℕ → Float
-  sample q = get_or win (p + (tap_of step q).index + k) nan
+  sample q = get_or src (p + ((tap_of step q).row * across + (tap_of step q).col) + k) nan
 
   abbrev centre : Float
-  centre = get_or win (p + 196 + k) nan
+  centre = get_or src (p + (3 * across + 4) + k) nan
 
   abbrev mixed_lane : Float
   mixed_lane = samples_to weight sample centre (length (kernel step)) ⊘ weights_to weight (length (kernel step))
@@ -156,89 +159,82 @@ module _ (step : ℕ) (f : ℕ → ℕ → Float) (win : List Float) (p k : ℕ)
       rw e
       (ap (λ (y : Float). y ⊘ weights_to weight 12) (samples-four weight sample centre _ 8 (samples-four weight sample centre _ 4 (samples-four weight sample centre centre 0 (none-added weight sample centre)))))
 
-mixed : (step : ℕ) (f : ℕ → ℕ → Float) (win : List Float) (p : ℕ) → mix_of step win p (weights_of step f) ≡ lanes_of (mixed_lane step f win p)
-mixed zero f win p = rw (twelve-mixed 0 f win p 0 twelve-neighbours, twelve-mixed 0 f win p 1 twelve-neighbours, twelve-mixed 0 f win p 2 twelve-neighbours, twelve-mixed 0 f win p 3 twelve-neighbours)
-mixed (suc n) f win p =
+mixed : (step : ℕ) (f : ℕ → ℕ → Float) (src : List Float) (across p : ℕ) → mix_of step src across p (weights_of step f) ≡ lanes_of (mixed_lane step f src across p)
+mixed zero f src across p =
+    rw (twelve-mixed 0 f src across p 0 twelve-neighbours, twelve-mixed 0 f src across p 1 twelve-neighbours, twelve-mixed 0 f src across p 2 twelve-neighbours, twelve-mixed 0 f src across p 3 twelve-neighbours)
+mixed (suc n) f src across p =
     rw (ne_eqb (suc n) 0 (λ z. omega (arith, z)))
-    (rw (four-mixed (suc n) f win p 0 (four-neighbours n), four-mixed (suc n) f win p 1 (four-neighbours n), four-mixed (suc n) f win p 2 (four-neighbours n), four-mixed (suc n) f win p 3 (four-neighbours n)))
+    (rw (four-mixed (suc n) f src across p 0 (four-neighbours n), four-mixed (suc n) f src across p 1 (four-neighbours n), four-mixed (suc n) f src across p 2 (four-neighbours n), four-mixed (suc n) f src across p 3 (four-neighbours n)))
 
-module _ (step : ℕ) (e slopes win : List Float) (first c i r p : ℕ) (v : List Float) (ep : p ≡ c * 896 + r * 64 + i) where
+module _ (step : ℕ) (e slopes src : List Float) (v : View) (first c i r : ℕ) where
   abbrev of_lanes : ℕ → ℕ → Float
   of_lanes q k = weight_of step e slopes first r (i + k) q
 
-  -- the windows' samples after p are those of the lanes
-  seen_same : (k : ℕ) → mixed_lane step of_lanes win p k ≡ row_of step e slopes win first r c (i + k)
+  abbrev corner_at : ℕ
+  corner_at = c * v.plane + (v.corner + r * v.stride + i)
+
+  -- the samples after the first lane's corner are those of the lanes
+  seen_same : (k : ℕ) → mixed_lane step of_lanes src v.stride corner_at k ≡ row_of step e slopes src v first r c (i + k) 0
   unfolding lane_of neighbour_of
   seen_same k =
       let n = length (kernel step) in
       ap (λ (y : Float). y ⊘ weights_to (λ q. of_lanes q k) n)
-      (samples-same (λ q. of_lanes q k) _ _ _ _ n (ap (λ (j : ℕ). get_or win j nan) (omega arith)) (λ q. ap (λ (j : ℕ). get_or win j nan) (omega arith)))
+      (samples-same (λ q. of_lanes q k) _ _ _ _ n (ap (λ (j : ℕ). get_or src j nan) (omega arith)) (λ q. ap (λ (j : ℕ). get_or src j nan) (omega arith)))
 
   -- the weights by the slopes that start at `first`
   steep : weights_of step (weights_in step e (lanes_of (λ k. get_or slopes (first + (i + k)) nan)) r i) ≡ weights_of step of_lanes
   unfolding weight_of
   steep = refl
 
-  pub lanes-mixed : (s : List Float) (w : LaneWeights) → s ≡ lanes_of (λ k. get_or slopes (first + (i + k)) nan) → w ≡ weights_of step (weights_in step e s r i) → v ≡ mix_of step win p w
-      → v ≡ row_lanes step e slopes win first r i c
-  lanes-mixed s w es ew ev = ev ∙ rw (ew, es, steep) (mixed step of_lanes win p ∙ each-lane (mixed_lane step of_lanes win p) (λ k. row_of step e slopes win first r c (i + k)) seen_same)
+  pub lanes-mixed : (s x : List Float) (w : LaneWeights) → s ≡ lanes_of (λ k. get_or slopes (first + (i + k)) nan) → w ≡ weights_of step (weights_in step e s r i) → x ≡ mix_of step src v.stride corner_at w
+      → x ≡ lanes_of (λ k. row_of step e slopes src v first r c (i + k) 0)
+  lanes-mixed s x w es ew ex =
+      ex ∙ rw (ew, es, steep) (mixed step of_lanes src v.stride corner_at ∙ each-lane (mixed_lane step of_lanes src v.stride corner_at) (λ k. row_of step e slopes src v first r c (i + k) 0) seen_same)
 
--- ---- a row in any step
+-- ---- a tile in any step
 
 -- steps 1 and 2 have the same lanes
-lanes-same : (s : ℕ) (e slopes win : List Float) (first r : ℕ) → row_of 1 e slopes win first r ≡ row_of (suc s) e slopes win first r
+lanes-same : (s : ℕ) (e slopes src : List Float) (v : View) (top : ℕ) → tile_of 1 e slopes src v top ≡ tile_of (suc s) e slopes src v top
 unfolding lane_of weight_of neighbour_of tap_of kernel
-lanes-same s e slopes win first r = refl
+lanes-same s e slopes src v top = refl
 
-pub row-later : (step : ℕ) (e slopes win : List Float) (first r : ℕ) → (step ≡ 0 → ⊥) → row_of 1 e slopes win first r ≡ row_of step e slopes win first r
-row-later zero e slopes win first r h = absurd (h refl)
-row-later (suc s) e slopes win first r h = lanes-same s e slopes win first r
+pub tile-later : (step : ℕ) (e slopes src : List Float) (v : View) (top : ℕ) → (step ≡ 0 → ⊥) → tile_of 1 e slopes src v top ≡ tile_of step e slopes src v top
+tile-later zero e slopes src v top h = absurd (h refl)
+tile-later (suc s) e slopes src v top h = lanes-same s e slopes src v top
 
--- ---- loops over rows
+-- ---- the loops: one more vector, and one more row
 
--- one more row of plane c
-pub one-next : (step : ℕ) (e slopes win : List Float) (top c r first start stride n at : ℕ) (d a b : List Float) → first ≡ first_slope (top % 8 + r)
-    → a ≡ rows_fill d start stride n r (λ k i. tile_of step e slopes win top c i k) → at ≡ start + r * stride → b ≡ fill a at n (row_of step e slopes win first r c)
-    → b ≡ rows_fill d start stride n (r + 1) (λ k i. tile_of step e slopes win top c i k)
-one-next step e slopes win top c r first start stride n at d a b ef ea eo eb =
-    rows-turn d a b start stride n r at (λ k i. tile_of step e slopes win top c i k) ea eo (rw (first-same first top r ef) at eb)
+module _ (step : ℕ) (e slopes src : List Float) (v : View) (l : Layout) (n : ℕ) (q : Rect) (d a b : List Float) (g : RectFits l n q (length d)) where
+  pub vector-beside : (first r k : ℕ) → r < q.rows → 4 * k < q.cols
+      → a ≡ planes_fill l.image.width l.image.height (l.left + q.x) (min (4 * k) q.cols) (l.top + q.y + r) 1 (row_of step e slopes src v first r) d n
+      → b ≡ planes_fill l.image.width l.image.height (l.left + q.x + 4 * k) (min (q.cols - 4 * k) 4) (l.top + q.y + r) 1 (λ c x y. row_of step e slopes src v first r c (4 * k + x) y) a n
+      → b ≡ planes_fill l.image.width l.image.height (l.left + q.x) (min (4 * (k + 1)) q.cols) (l.top + q.y + r) 1 (row_of step e slopes src v first r) d n
+  vector-beside first r k R h ea eb =
+      let before : min (4 * k) q.cols ≡ 4 * k = omega (arith, h) in
+      let after : min (4 * (k + 1)) q.cols ≡ 4 * k + min (q.cols - 4 * k) 4 = omega (arith, h) in
+      let row = row_of step e slopes src v first r in
+      rw after (rect-beside n l.image.width l.image.height n (omega arith) (l.left + q.x) (4 * k) (min (q.cols - 4 * k) 4) (l.top + q.y + r) 1 row (λ c x y. row c (4 * k + x) y) row d a b
+      g.set (omega (arith, h, g.layout.across, g.across)) (omega (arith, R, g.layout.down, g.down)) (rw before at ea) eb (λ c x y _ _ _. refl) (λ c x y _ _ _. refl))
 
--- one more row of three planes
-pub three-next : (step : ℕ) (e slopes win : List Float) (l : Layout) (top : ℕ) (q : Rect) (r first at plane : ℕ) (d a b : List Float) → RectFits l 3 q (length d) → r < q.rows → first ≡ first_slope (top % 8 + r)
-    → at ≡ (l.top + q.y + r) * l.image.width + (l.left + q.x) → plane ≡ l.image.height * l.image.width
-    → a ≡ rows_to l q r (tile_of step e slopes win top) d → b ≡ three_fill a at plane q.cols (row_of step e slopes win first r) → b ≡ rows_to l q (r + 1) (tile_of step e slopes win top) d
-three-next step e slopes win l top q r first at plane d a b g R ef eo ep ea eb =
-    row_below l q r at plane (tile_of step e slopes win top) d a b g R eo ep ea (rw (first-same first top r ef) at eb)
-
--- row r of a rectangle in three planes, in machine integers
-pub record ThreeRoom (l : Layout) (q : Rect) (r len : ℕ) : Type 0 where
-  pub plane-le : l.image.height * l.image.width ≤ 268435456
-  pub start-le : (l.top + q.y + r) * l.image.width ≤ 268435456
-  pub left_le : l.left + q.x ≤ 16384
-  pub top-le : l.top + q.y + r ≤ 16384
-  pub cols-le : q.cols ≤ l.image.height * l.image.width
-  pub end-le : (l.top + q.y + r) * l.image.width + (l.left + q.x) + 2 * (l.image.height * l.image.width) + q.cols ≤ len
-
-pub three-room : (l : Layout) (q : Rect) (r len : ℕ) → RectFits l 3 q len → r < q.rows → ThreeRoom l q r len
-three-room l q r len g R =
-    let t = l.top + q.y + r in
-    let w = l.image.width in
-    let h = l.image.height in
-    let high : t + 1 ≤ h = omega (arith, g.down, g.layout.down) in
-    let all = mul-le-mul_right w high in
-    let one = add-mul t 1 w in
-    let wide : l.left + q.x + q.cols ≤ w = omega (arith, g.across, g.layout.across) in
-    record {
-      plane-le = mul-le-mul g.layout.height-le g.layout.width-le;
-      start-le = omega (arith, all, one, mul-le-mul g.layout.height-le g.layout.width-le);
-      left_le = omega (arith, wide, g.layout.width-le);
-      top-le = omega (arith, high, g.layout.height-le);
-      cols-le = omega (arith, all, one, wide);
-      end-le = omega (arith, all, one, wide, g.set, mul_assoc 3 h w);
-    }
+  pub row-below : (top first r : ℕ) → r < q.rows → first ≡ first_slope (top % 8 + r)
+      → a ≡ planes_fill l.image.width l.image.height (l.left + q.x) q.cols (l.top + q.y) r (tile_of step e slopes src v top) d n
+      → b ≡ planes_fill l.image.width l.image.height (l.left + q.x) q.cols (l.top + q.y + r) 1 (row_of step e slopes src v first r) a n
+      → b ≡ planes_fill l.image.width l.image.height (l.left + q.x) q.cols (l.top + q.y) (r + 1) (tile_of step e slopes src v top) d n
+  row-below top first r R ef ea eb =
+      let tile = tile_of step e slopes src v top in
+      rect-below n l.image.width l.image.height n (omega arith) (l.left + q.x) q.cols (l.top + q.y) r 1 tile (row_of step e slopes src v first r) tile d a b
+      g.set (omega (arith, g.layout.across, g.across)) (omega (arith, R, g.layout.down, g.down)) ea eb (λ c x y _ _ _. refl) same
+    where
+      same : (c x y : ℕ) → c < n → x < q.cols → y < 1 → row_of step e slopes src v first r c x y ≡ tile_of step e slopes src v top c x (r + y)
+      same c x y _ _ h = let z : r + y ≡ r = omega (arith, h) in rw (z, first-same first top r ef)
 
 -- ---- a tile that fits
-module _ (step : ℕ) (e slopes win : List Float) (l : Layout) (n top : ℕ) (q : Rect) (d : List Float) where
-  pub lanes-done : RectFits l n q (length d) → q.rows ≤ 8 → q.cols ≤ 56 → lanes_stored step e slopes win l n top q d ≡ rect_filled l n q (tile_of step e slopes win top) d
+module _ (step : ℕ) (e slopes src : List Float) (v : View) (l : Layout) (n top : ℕ) (q : Rect) (d : List Float) where
+  pub lanes-done : RectFits l n q (length d) → ViewFits v n q.rows q.cols (length src) → (step ≡ 0 → (v.plane ≡ 1008) × (v.stride ≡ 72))
+      → lanes_stored step e slopes src v l n top q d ≡ rect_filled l n q (tile_of step e slopes src v top) d
   unfolding lanes_stored
-  lanes-done f h k = rw (rect-true l n q (length d) f, le-leb q.rows 8 h, le-leb q.cols 56 k)
+  lanes-done f g w = rw (rect-true l n q (length d) f, view-true v n q.rows q.cols (length src) g, windows step w)
+    where
+      windows : (s : ℕ) → (s ≡ 0 → (v.plane ≡ 1008) × (v.stride ≡ 72)) → (not (eqb s 0) || (eqb v.plane 1008 && eqb v.stride 72)) ≡ true
+      windows zero h = rw (eq-eqb v.plane 1008 (h refl).0, eq-eqb v.stride 72 (h refl).1)
+      windows (suc s) h = rw (ne_eqb (suc s) 0 (λ z. omega (arith, z)))

@@ -1,4 +1,5 @@
 pub mod Vectors
 pub mod Divisors
+pub mod Room
 pub mod Lanes
 pub mod Meaning

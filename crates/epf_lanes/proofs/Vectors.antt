@@ -1,16 +1,15 @@
--- Vectors of four lanes, and rows that are stored by vectors. Assumes nothing.
+-- Vectors of four lanes, and their storing in planes. Assumes nothing.
 use mathlib.Core.Path.{◌≡◌, refl, ◌∙◌}
 use mathlib.Core.List.{List}
-use Prim.Native.Nat.{ℕ, ◌+◌, ◌-◌, ◌*◌, ◌<◌, ◌≤◌, min}
+use Prim.Native.Nat.{ℕ, ◌+◌, ◌-◌, ◌*◌, ◌≤◌}
 use native.Mathlib.Omega.{arith}
 use lib.Ieee.{Float}
 use borrow.Rule.Slice.PartMut.{put_mid, mid_of}
 use lib.ListN.{length, take}
-use Rattle.planes.specs.Fill.{fill}
 use Rattle.std.proofs.lemmas.Simd.{length-chunk}
-use Rattle.planes.proofs.Fill.{length-fill, fill-then}
-use Rattle.epf_rects.specs.Three.{three_fill}
-use Rattle.epf_rects.proofs.Three.{three-then, three-long}
+use Rattle.planes.specs.Fill.{fill}
+use Rattle.planes.specs.Rect.{rows_fill, planes_fill}
+use Rattle.planes.proofs.Rect.{planes-turn}
 use Rattle.epf_vectors.specs.Lanes.{lanes_of}
 use Rattle.epf_vectors.proofs.Rows.{some-more}
 
@@ -33,58 +32,14 @@ stored d v w p m f e l h is =
     let b : 0 + m ≡ m = omega arith in
     rw (a, b) at (some-more d d p 0 f (none-filled d p f) m w (is ∙ rw (length-part d p m h, e)) l (omega (arith, h)))
 
--- ---- a row of n lanes by vectors, of which the last one is cut: m lanes of vector b
-module _ (d now : List Float) (o b n m : ℕ) (below : b * 4 < n) (size : m ≡ min (n - b * 4) 4) where
-  before : min (b * 4) n ≡ b * 4
-  before = omega (arith, below)
+-- a run is a rectangle of one row
+one-row : (d : List Float) (at stride n : ℕ) (f : ℕ → Float) → fill d at n f ≡ rows_fill d at stride n 1 (λ i x. f x)
+unfolding rows_fill
+one-row d at stride n f = let z : at + 0 * stride ≡ at = omega arith in rw z
 
-  after : min ((b + 1) * 4) n ≡ b * 4 + m
-  after = omega (arith, below, size)
-
-  -- the lanes of the vector
-  abbrev next : (ℕ → Float) → ℕ → Float
-  next f k = f (b * 4 + k)
-
-  -- `part` is what `store` leaves of the samples from index p on
-  abbrev Stores : ℕ → List Float → List Float → List Float → Type 0
-  Stores p d v part = part ≡ take (length (mid_of p (p + m - p) d)) v
-
-  -- in one plane
-  pub one-vector-more : (f : ℕ → Float) (v part : List Float) → o + n ≤ length d → now ≡ fill d o (min (b * 4) n) f → v ≡ lanes_of (next f) → Stores (o + b * 4) now v part
-      → put_mid (o + b * 4) (o + b * 4 + m - (o + b * 4)) now part ≡ fill d o (min ((b + 1) * 4) n) f
-  one-vector-more f v part h is e s =
-      let long : length now ≡ length d = rw is (length-fill d o (min (b * 4) n) f) in
-      rw (stored now v part (o + b * 4) m (next f) e (omega (arith, size)) (omega (arith, h, size, below, long)) s, is, before, after)
-      (fill-then d o (b * 4) m f (next f) f (λ k l. refl) (λ k l. refl))
-
-  -- in three planes
-  module _ (plane : ℕ) (f : ℕ → ℕ → Float) (x y z part-x part-y part-z : List Float) where
-    abbrev first : ℕ
-    first = o + b * 4
-
-    abbrev second : ℕ
-    second = o + plane + b * 4
-
-    abbrev third : ℕ
-    third = o + 2 * plane + b * 4
-
-    abbrev now-x : List Float
-    now-x = put_mid first (first + m - first) now part-x
-
-    abbrev now-y : List Float
-    now-y = put_mid second (second + m - second) now-x part-y
-
-    abbrev now-z : List Float
-    now-z = put_mid third (third + m - third) now-y part-z
-
-    pub three-vectors-more : n ≤ plane → o + 2 * plane + n ≤ length d → now ≡ three_fill d o plane (min (b * 4) n) f → x ≡ lanes_of (next (f 0)) → y ≡ lanes_of (next (f 1)) → z ≡ lanes_of (next (f 2))
-        → Stores first now x part-x → Stores second now-x y part-y → Stores third now-y z part-z → now-z ≡ three_fill d o plane (min ((b + 1) * 4) n) f
-    three-vectors-more l h is ex ey ez sx sy sz =
-        let long : length now ≡ length d = rw is (three-long d o plane (min (b * 4) n) f) in
-        let four : m ≤ 4 = omega (arith, size) in
-        let ax : now-x ≡ fill now first m (next (f 0)) = stored now x part-x first m (next (f 0)) ex four (omega (arith, h, size, below, long)) sx in
-        let long-x : length now-x ≡ length d = rw ax (length-fill now first m (next (f 0)) ∙ long) in
-        let ay : now-y ≡ fill now-x second m (next (f 1)) = stored now-x y part-y second m (next (f 1)) ey four (omega (arith, l, h, size, below, long-x)) sy in
-        let long-y : length now-y ≡ length d = rw ay (length-fill now-x second m (next (f 1)) ∙ long-x) in
-        let az : now-z ≡ fill now-y third m (next (f 2)) = stored now-y z part-z third m (next (f 2)) ez four (omega (arith, h, size, below, long-y)) sz in
-        rw (az, ay, ax, is, before, after) (three-then d o plane (b * 4) m f (λ c. next (f c)) (omega (arith, l, below, size)) (λ c i. refl))
+-- ---- the loop over planes: `part` is what `store` leaves of the samples from index o on
+module _ (w h left top n m : ℕ) (v : ℕ → ℕ → Float) (d now x part : List Float) (k o : ℕ) where
+  pub plane-more : now ≡ planes_fill w h left n top 1 (λ c i j. v c i) d k → o ≡ (k * h + top) * w + left → m ≡ n → m ≤ 4 → o + m ≤ length now → x ≡ lanes_of (v k)
+      → part ≡ take (length (mid_of o (o + m - o) now)) x → put_mid o (o + m - o) now part ≡ planes_fill w h left n top 1 (λ c i j. v c i) d (k + 1)
+  plane-more is eo em few room ex es =
+      planes-turn w h left n top 1 (λ c i j. v c i) d now _ k is (stored now x part o m (v k) ex few room es ∙ rw (eo, em) (one-row now ((k * h + top) * w + left) w n (v k)))

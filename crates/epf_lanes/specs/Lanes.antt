@@ -1,17 +1,19 @@
--- What the loops over a tile's lanes compute from fields, slopes and windows, one neighbour at a time. Definitions only.
-use Rattle.std.specs.Prelude.{cond, ◌&&◌, List, ℕ, zero, suc, ◌+◌, ◌*◌, ◌<◌, ◌≤◌, leb, eqb, length, get_or, Float}
+-- What the loops over a tile's lanes compute from fields, slopes and samples, one neighbour at a time. Definitions only.
+use Rattle.std.specs.Prelude.{◌≡◌, Bool, cond, not, ◌&&◌, ◌||◌, List, ℕ, zero, suc, ◌+◌, ◌*◌, ◌<◌, ◌≤◌, eqb, length, get_or, Float}
 use Rattle.std.specs.Float.{nan}
 use Rattle.std.specs.Simd.Lanes.{zip2}
 use Rattle.planes.specs.declared.Layout.{Layout}
 use Rattle.planes.specs.Samples.{◌⊕◌, ◌⊗◌, ◌⊘◌, b0, b1}
 use Rattle.planes.specs.Picture.{Picture}
 use Rattle.epf_rects.specs.declared.Rect.{Rect}
-use Rattle.epf_rects.specs.Rects.{rect_filled, rect_fits}
+use Rattle.epf_rects.specs.Rects.{rect_filled, rect_fits, RectFits}
 use Rattle.epf_step.specs.Steps.{kernel, weight_by}
 use Rattle.epf_slopes.specs.Slopes.{slope_columns, first_slope}
+use Rattle.epf_distances.specs.declared.View.{View}
 use Rattle.epf_distances.specs.Taps.{tap_of}
+use Rattle.epf_distances.specs.Fields.{view_fits, ViewFits}
 use Rattle.epf_vectors.specs.Lanes.{lanes_of}
-use Rattle.epf_sizes.specs.Sizes.{lanes, tile_rows, stride, window_plane, window_centre}
+use Rattle.epf_sizes.specs.Sizes.{lanes, tile_rows, stride, window_plane, margin_rows, margin_columns}
 use Rattle.epf_lanes.specs.declared.Four.{Four}
 use Rattle.epf_lanes.specs.declared.LaneWeights.{LaneWeights}
 
@@ -40,18 +42,18 @@ weight_in step e slope r i q = weight_by slope (distance_of step e r i q)
 unfoldable pub weight_of : ℕ → List Float → List Float → ℕ → ℕ → ℕ → ℕ → Float
 weight_of step e slopes first r i q = weight_by (get_or slopes (first + i) nan) (get_or e ((tap_of step q).start + r * stride + i) nan)
 
--- the sample of lane i at index k of channel c's window
-abbrev pub sample_of : List Float → ℕ → ℕ → ℕ → ℕ → Float
-sample_of win c r k i = get_or win (c * window_plane + r * stride + k + i) nan
+-- the sample of lane i in channel c, `row` rows and `col` columns after its corner
+abbrev pub sample_of : List Float → View → ℕ → ℕ → ℕ → ℕ → ℕ → Float
+sample_of src v c r row col i = get_or src (c * v.plane + (v.corner + r * v.stride + i) + (row * v.stride + col)) nan
 
 -- the sample of neighbour q
-unfoldable pub neighbour_of : ℕ → List Float → ℕ → ℕ → ℕ → ℕ → Float
-neighbour_of step win c r i q = sample_of win c r (tap_of step q).index i
+unfoldable pub neighbour_of : ℕ → List Float → View → ℕ → ℕ → ℕ → ℕ → Float
+neighbour_of step src v c r i q = sample_of src v c r (tap_of step q).row (tap_of step q).col i
 
 -- the sample plus its weighted neighbours, over the divisor: 1 plus the sum of the weights
-unfoldable pub lane_of : ℕ → List Float → List Float → List Float → ℕ → ℕ → ℕ → ℕ → Float
-lane_of step e slopes win first c i r =
-    samples_to (weight_of step e slopes first r i) (neighbour_of step win c r i) (sample_of win c r window_centre i) (length (kernel step))
+unfoldable pub lane_of : ℕ → List Float → List Float → List Float → View → ℕ → ℕ → ℕ → ℕ → Float
+lane_of step e slopes src v first c i r =
+    samples_to (weight_of step e slopes first r i) (neighbour_of step src v c r i) (sample_of src v c r margin_rows margin_columns i) (length (kernel step))
     ⊘ weights_to (weight_of step e slopes first r i) (length (kernel step))
 
 -- ---- the same by four neighbours and four lanes at a time, as the code has it
@@ -98,50 +100,44 @@ weights_of step f =
     cond (eqb step 0) (record { u = four_of f 0; v = four_of f 4; w = four_of f 8; sum = sums_of f 12 })
     (record { u = four_of f 0; v = no_four; w = no_four; sum = sums_of f 4 })
 
--- the samples of neighbour q of the four lanes from index p of the windows on
-abbrev pub sample_at : ℕ → List Float → ℕ → ℕ → List Float
-sample_at step win p q = lanes_of (λ k. get_or win (p + (tap_of step q).index + k) nan)
+-- the samples of neighbour q of the four lanes whose corners start at index p, where rows lie `across` apart
+abbrev pub sample_at : ℕ → List Float → ℕ → ℕ → ℕ → List Float
+sample_at step src across p q = lanes_of (λ k. get_or src (p + ((tap_of step q).row * across + (tap_of step q).col) + k) nan)
 
 -- the sums over the divisors
-abbrev pub mix_of : ℕ → List Float → ℕ → LaneWeights → List Float
-mix_of step win p w =
-    let s = sample_at step win p in
-    let x = with_four (lanes_of (λ k. get_or win (p + window_centre + k) nan)) w.u s 0 in
+abbrev pub mix_of : ℕ → List Float → ℕ → ℕ → LaneWeights → List Float
+mix_of step src across p w =
+    let s = sample_at step src across p in
+    let x = with_four (lanes_of (λ k. get_or src (p + (margin_rows * across + margin_columns) + k) nan)) w.u s 0 in
     cond (eqb step 0) (with_four (with_four x w.v s 4) w.w s 8 ⧄ w.sum) (x ⧄ w.sum)
 
 -- ---- rows and tiles
 
--- the lanes of row r: sample i of plane c
-abbrev pub row_of : ℕ → List Float → List Float → List Float → ℕ → ℕ → ℕ → ℕ → Float
-row_of step e slopes win first r = λ c i. lane_of step e slopes win first c i r
-
--- lanes i to i + 3 of plane c
-abbrev pub row_lanes : ℕ → List Float → List Float → List Float → ℕ → ℕ → ℕ → ℕ → List Float
-row_lanes step e slopes win first r i c = lanes_of (λ k. row_of step e slopes win first r c (i + k))
+-- the lanes of row r, whose slopes start at index `first`: sample i of plane c
+abbrev pub row_of : ℕ → List Float → List Float → List Float → View → ℕ → ℕ → Picture
+row_of step e slopes src v first r = λ c i y. lane_of step e slopes src v first c i r
 
 -- a tile; its row 0 is at y = `top`
-abbrev pub tile_of : ℕ → List Float → List Float → List Float → ℕ → Picture
-tile_of step e slopes win top = λ c i r. lane_of step e slopes win (first_slope (top + r)) c i r
+abbrev pub tile_of : ℕ → List Float → List Float → List Float → View → ℕ → Picture
+tile_of step e slopes src v top = λ c i r. lane_of step e slopes src v (first_slope (top + r)) c i r
 
--- the set after filtering a rectangle in n planes; unchanged if the rectangle or the set does not fit
-unfoldable pub lanes_stored : ℕ → List Float → List Float → List Float → Layout → ℕ → ℕ → Rect → List Float → List Float
-lanes_stored step e slopes win l n top q d =
-    cond (rect_fits l n q (length d) && (leb q.rows tile_rows && leb q.cols lanes)) (rect_filled l n q (tile_of step e slopes win top) d) d
+-- step 0 reads windows alone
+abbrev pub reads_windows : View → Bool
+reads_windows v = eqb v.plane window_plane && eqb v.stride stride
+
+-- the set after filtering a rectangle in n planes; unchanged if the rectangle, the set or the samples do not fit
+unfoldable pub lanes_stored : ℕ → List Float → List Float → List Float → View → Layout → ℕ → ℕ → Rect → List Float → List Float
+lanes_stored step e slopes src v l n top q d =
+    cond (rect_fits l n q (length d) && (view_fits v n q.rows q.cols (length src) && (not (eqb step 0) || reads_windows v))) (rect_filled l n q (tile_of step e slopes src v top) d) d
 
 -- ---- what the loops require
 
--- index of a tile's last lane in a field, counted from the first
-abbrev pub last_lane : ℕ
-last_lane = 503
+-- past the last lane of a tile in a field, counted from its first
+abbrev pub past_lanes : ℕ
+past_lanes = 568
 
--- n lanes of row r, with slopes from index `first` on
-pub record RowFits (first r n : ℕ) : Type 0 where
-  pub first-le : first ≤ slope_columns
-  pub row_lt : r < tile_rows
-  pub lanes-le : n ≤ lanes
-
--- a vector that starts at lane i of row r
-pub record LanesFit (first r i : ℕ) : Type 0 where
-  pub first-le : first ≤ slope_columns
-  pub row_lt : r < tile_rows
-  pub lane_lt : i < lanes
+-- a rectangle of n planes, and the view that it is read by
+pub record TileFits (step : ℕ) (l : Layout) (n : ℕ) (q : Rect) (v : View) (dst src : ℕ) : Type 0 where
+  pub room : RectFits l n q dst
+  pub view : ViewFits v n q.rows q.cols src
+  pub windows : step ≡ 0 → (v.plane ≡ window_plane) × (v.stride ≡ stride)

@@ -1,2 +1,1 @@
 pub mod Rects
-pub mod Three

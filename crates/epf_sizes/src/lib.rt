@@ -4,22 +4,33 @@
 // The largest number of columns of a tile, and of rows.
 #![tactic(auto)]
 
-pub const LANES: usize = 56;
+pub const LANES: usize = 64;
 
 pub const TILE_ROWS: usize = 8;
 
-// The distance from one row to the next, in a window and in a field.
-pub const STRIDE: usize = 64;
+// The distance from one row to the next, in a window, in a field and in a plane of differences.
+pub const STRIDE: usize = 72;
 
-// The rows of a window, and its length: one plane, three planes.
+// The rows of a window, and its length: one plane, and three planes with room for the vectors that end past the last row.
 pub const WINDOW_ROWS: usize = 14;
 
-pub const WINDOW_PLANE: usize = 896;
+pub const WINDOW_PLANE: usize = 1008;
 
-pub const WINDOWS: usize = 2688;
+pub const WINDOWS: usize = 3032;
 
-// Index of the tile's first sample in its window: 3 rows down, 4 columns in.
-pub const CENTRE: usize = 196;
+// Where a tile's first sample stands in its window: 3 rows down, 4 columns in.
+pub const MARGIN_ROWS: usize = 3;
 
-// Six fields of distances, each as long as a window's plane.
-pub const FIELDS: usize = 5376;
+pub const MARGIN_COLUMNS: usize = 4;
+
+// A field has 10 rows: two above the tile. There are six fields.
+pub const FIELD_PLANE: usize = 720;
+
+pub const FIELDS: usize = 4320;
+
+// Differences have 12 rows: two above the rows of a field's tile, or one above and one below. There are three planes of them.
+pub const DIFFERENCE_ROWS: usize = 12;
+
+pub const DIFFERENCE_PLANE: usize = 864;
+
+pub const DIFFERENCES: usize = 2592;

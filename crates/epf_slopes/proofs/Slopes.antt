@@ -32,12 +32,12 @@ block-next sigmas d a b first at k scale edge s row ea es eb =
 
 -- ---- the slopes of a tile whose arguments fit
 module _ (sigmas : List Float) (first blocks : ℕ) (scale edge : Float) (d : List Float) where
-  pub slopes-done : blocks ≤ 7 → first + blocks ≤ length sigmas
+  pub slopes-done : blocks ≤ 8 → first + blocks ≤ length sigmas
       → slopes_of sigmas first blocks scale edge d ≡ fill (fill d 0 (blocks * 8) (slope_at sigmas first scale edge 1)) 64 (blocks * 8) (slope_at sigmas first scale edge 0)
   unfolding slopes_of
-  slopes-done h k = rw (le-leb blocks 7 h, le-leb (first + blocks) (length sigmas) k)
+  slopes-done h k = rw (le-leb blocks 8 h, le-leb (first + blocks) (length sigmas) k)
 
-pub sloped : (sigmas d b : List Float) (first blocks : ℕ) (scale edge : Float) → blocks ≤ 7 → first + blocks ≤ length sigmas → length d ≡ 128
+pub sloped : (sigmas d b : List Float) (first blocks : ℕ) (scale edge : Float) → blocks ≤ 8 → first + blocks ≤ length sigmas → length d ≡ 128
     → b ≡ slopes_of sigmas first blocks scale edge d → Sloped sigmas first blocks scale edge b
 sloped sigmas d b first blocks scale edge few room len e =
     let a = fill d 0 (blocks * 8) (slope_at sigmas first scale edge 1) in

@@ -14,7 +14,7 @@ block = 8
 
 -- the largest number of blocks in a tile
 abbrev pub tile_blocks : ℕ
-tile_blocks = 7
+tile_blocks = 8
 
 -- the columns that have slopes, for each kind of row; the slopes of border rows start at this index
 abbrev pub slope_columns : ℕ

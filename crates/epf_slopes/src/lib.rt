@@ -13,7 +13,7 @@ use epf_step::{at_border, multiplier, slope};
 use limits::BLOCK;
 
 // The largest number of blocks in a tile.
-const BLOCKS: usize = 7;
+const BLOCKS: usize = 8;
 
 // Where the slopes of border rows start, and the number of slopes.
 const BORDER: usize = 64;
@@ -78,7 +78,7 @@ fn row_slopes(
     }
 }
 
-// Computes the slopes of at most seven blocks, whose sigmas start at index `first`; `edge` is `border_sad_mul`. Does
+// Computes the slopes of at most eight blocks, whose sigmas start at index `first`; `edge` is `border_sad_mul`. Does
 // nothing if there are more blocks or sigmas are missing.
 // Form: `scale` and `edge` as in `block_slopes`.
 #[tactic(auto, unfolding(crate::specs::Slopes::slopes_of))]

@@ -13,7 +13,7 @@ use Rattle.planes.specs.Picture.{Picture, in_rect}
 use Rattle.planes.specs.Sets.{of}
 use Rattle.planes.proofs.SetLaws.{around-inside, sets-ext}
 use Rattle.planes.specs.Rect.{planes_fill}
-use Rattle.planes.proofs.Rect.{Between, between, planes-at, length-planes_fill}
+use Rattle.planes.proofs.Rect.{Between, between, planes-at, length-planes_fill, columns-none}
 use Rattle.planes.proofs.Join.{planes-cong, rect-at, rect-beside, rect-inside}
 use Rattle.planes.specs.Band.{inner}
 use Rattle.epf_rects.specs.declared.Rect.{Rect}
@@ -24,7 +24,6 @@ use Rattle.epf_tiles.specs.declared.Pass.{Pass}
 use Rattle.epf_tiles.specs.Blocks.{block_columns, sigma_of}
 use Rattle.epf_tiles.specs.Tile.{step_over, pass_over, tile_stepped}
 use Rattle.epf_tiles.specs.Region.{PassFits, StripFits, AllOfKind, HoldsCopied, block_copied, block_start, columns_stepped, rows_stepped}
-use Rattle.epf_tiles.proofs.Region.{columns-none}
 
 -- ---- a rectangle of a set of n planes, and the samples outside it
 module _ (n w h left cols top rows : ℕ) (v : Picture) (d : List Float) (long : length d ≡ n * h * w) (fits : left + cols ≤ w) (high : top + rows ≤ h) where

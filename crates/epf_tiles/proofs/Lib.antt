@@ -2,3 +2,4 @@ pub mod Blocks
 pub mod Region
 pub mod Columns
 pub mod TileLaws
+pub mod ViewLaws

@@ -10,6 +10,7 @@ use Rattle.planes.specs.declared.Layout.{Layout}
 use Rattle.planes.specs.Picture.{Picture}
 use Rattle.planes.specs.Fill.{fill}
 use Rattle.planes.specs.Rect.{rows_fill, planes_fill}
+use Rattle.planes.proofs.Rect.{rows-none}
 use Rattle.planes.proofs.Join.{rect-below}
 use Rattle.planes.specs.Fits.{LayoutFits}
 use Rattle.planes.proofs.Room.{set-true}
@@ -18,24 +19,9 @@ use Rattle.epf_tiles.specs.Tile.{step_over}
 use Rattle.epf_tiles.specs.Blocks.{block_columns, block_rows}
 use Rattle.epf_tiles.specs.Region.{RegionFits, region_of}
 
--- no columns, no rows
-rows_empty : (d : List Float) (at stride m : ℕ) (v : ℕ → ℕ → Float) → d ≡ rows_fill d at stride 0 m v
-unfolding rows_fill fill
-rows_empty d at stride zero v = refl
-rows_empty d at stride (suc m) v = rows_empty d at stride m v
-
-pub columns-none : (w h left top m : ℕ) (v : Picture) (d : List Float) (k : ℕ) → d ≡ planes_fill w h left 0 top m v d k
-unfolding planes_fill
-columns-none w h left top m v d zero = refl
-columns-none w h left top m v d (suc k) = rw (← (columns-none w h left top m v d k)) (rows_empty d ((k * h + top) * w + left) w m (λ i x. v k x i))
-
-rows_none : (w h left n top : ℕ) (v : Picture) (d : List Float) (k : ℕ) → d ≡ planes_fill w h left n top 0 v d k
-unfolding planes_fill rows_fill
-rows_none w h left n top v d zero = refl
-rows_none w h left n top v d (suc k) = rows_none w h left n top v d k
-
+-- no rows
 pub rows_start : (w h left n top y : ℕ) (v : Picture) (d : List Float) (k : ℕ) → d ≡ planes_fill w h left n top (y - y) v d k
-rows_start w h left n top y v d k = let z : y - y ≡ 0 = omega arith in rw z (rows_none w h left n top v d k)
+rows_start w h left n top y v d k = let z : y - y ≡ 0 = omega arith in rw z (rows-none w h left n top v d k)
 
 -- one more strip
 pub strip-below : (l : Layout) (n : ℕ) (p : Picture) (d a b : List Float) (from y rows : ℕ) → length d ≡ n * l.image.height * l.image.width → LayoutFits l → from ≤ y → y + rows ≤ l.height

@@ -1,3 +1,4 @@
 pub mod Blocks
 pub mod Tile
 pub mod Region
+pub mod Views

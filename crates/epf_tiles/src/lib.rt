@@ -4,8 +4,9 @@
 
 pub mod strips;
 mod tile;
+mod views;
 
-use epf_sizes::{FIELDS, WINDOWS};
+use epf_sizes::{DIFFERENCES, FIELDS, WINDOWS};
 use epf_slopes::SLOPES;
 use planes::Layout;
 
@@ -22,11 +23,13 @@ pub struct Step {
     pub limit: f32,
 }
 
-// The arrays that a tile is computed in: its windows, its fields of distances and the slopes of its columns.
+// The arrays that a tile is computed in: its windows, its fields of distances, the differences that a field sums, and
+// the slopes of its columns.
 #[derive(Drop)]
 pub(crate) struct Arrays {
     win: [f32; WINDOWS],
     fields: [f32; FIELDS],
+    differences: [f32; DIFFERENCES],
     slopes: [f32; SLOPES],
 }
 

@@ -8,7 +8,7 @@ ghost use Rattle.epf_tiles.specs.Region.{share_of, blocks_stepped, rows_stepped,
 use crate::tile::{blocks_of, tile};
 use crate::{Arrays, Pass, Step};
 use epf_rects::{Rect, copy_rect};
-use epf_sizes::{FIELDS, LANES, WINDOWS};
+use epf_sizes::{DIFFERENCES, FIELDS, LANES, WINDOWS};
 use epf_slopes::SLOPES;
 use epf_step::{LAST_STEP, copied};
 use limits::BLOCK;
@@ -162,6 +162,7 @@ fn strips(dst: &mut [f32], src: &[f32], pass: Pass, sigmas: &[f32], from: usize,
     let mut arrays = Arrays {
         win: [0.0; WINDOWS],
         fields: [0.0; FIELDS],
+        differences: [0.0; DIFFERENCES],
         slopes: [0.0; SLOPES],
     };
     let mut y = from;

@@ -1,19 +1,22 @@
 // One tile: a rectangle of filtered blocks.
-ghost use Rattle.std.specs.Prelude.{◌≡◌, ◌+◌, ◌≤◌, length};
-ghost use Rattle.epf_sizes.specs.Sizes.{max_side};
+ghost use Rattle.std.specs.Prelude.{◌≡◌, ◌+◌, ◌-◌, ◌*◌, ◌<◌, ◌≤◌, length};
+ghost use Rattle.epf_sizes.specs.Sizes.{lanes, tile_rows, max_side};
+ghost use Rattle.epf_window.specs.Window.{loaded};
+ghost use Rattle.epf_distances.specs.Fields.{distances_of};
+ghost use Rattle.epf_lanes.specs.Lanes.{lanes_stored};
 ghost use Rattle.frame.specs.Sizes.{blocks_along};
-ghost use Rattle.epf_tiles.specs.Tile.{sigma_first, TileInPass, NoneCopied, FilteredBy, tile_stepped};
+ghost use Rattle.epf_tiles.specs.Tile.{sigma_first, TileInPass, NoneCopied, tile_stepped, max_top};
 
+use crate::views::{lies_inside, planes_view, window_view};
 use crate::{Arrays, Pass};
-use epf_distances::distances;
-use epf_interior::{filter_inside, lies_inside};
+use epf_distances::{View, distances};
 use epf_lanes::filter_tile;
 use epf_rects::Rect;
-use epf_slopes::tile_slopes;
-use epf_step::LAST_STEP;
+use epf_sizes::{DIFFERENCES, FIELDS, WINDOWS};
+use epf_slopes::{SLOPES, tile_slopes};
 use epf_window::{WindowPart, load};
 use limits::BLOCK;
-use planes::{Layout, PLANES};
+use planes::Layout;
 
 // The number of blocks in n columns or rows; the last may be partial.
 pub(crate) fn blocks_of(n: usize) -> usize
@@ -32,39 +35,61 @@ fn first_sigma(l: Layout, rect: Rect) -> usize
     row * across + rect.x / BLOCK
 }
 
-// Filters a tile from its windows.
+// Loads the windows of a tile: the rows and columns that its step reads.
 // Form: `TileInPass` is about a pass, a rectangle and the lengths of two borrowed sets, so no one parameter can hold it.
-fn filter_window(dst: &mut [f32], src: &[f32], pass: Pass, rect: Rect, arrays: &mut Arrays)
-    requires tile_in_pass { TileInPass pass rect (length src.now) (length dst.old) }
-    ensures { FilteredBy pass arrays.old.slopes src.now rect dst.old dst.new }
+fn load_windows(win: &mut [f32; WINDOWS], src: &[f32], pass: Pass, rect: Rect)
+    requires { (rect.rows ≤ tile_rows) × (rect.cols ≤ lanes) × (pass.settings.step < 3) }
+    ensures { win.new ≡ loaded pass.layout pass.planes src.now rect.x rect.y pass.settings.step
+        (rect.rows + 6 - 2 * pass.settings.step) (rect.cols + 8) win.old }
 {
-    let l = pass.layout;
-    let n = pass.planes;
-    let s = pass.settings;
-    let rows = rect.rows;
-    let step = s.step;
-    let scales = s.scales;
+    let step = pass.settings.step;
     let part = WindowPart {
         x: rect.x,
         y: rect.y,
         top: step,
-        rows: rows + 6 - 2 * step,
+        rows: rect.rows + 6 - 2 * step,
         cols: rect.cols + 8,
     };
-    load(&mut arrays.win, src, l, n, part);
-    distances(&mut arrays.fields, &arrays.win, step, &scales, n, rows);
-    let top = pass.top + rect.y;
-    filter_tile(
-        dst,
-        &arrays.fields,
-        &arrays.slopes,
-        &arrays.win,
+    load(win, src, pass.layout, pass.planes, part);
+}
+
+// Filters a tile whose samples are those of `v`, with the slopes of its columns.
+// Form: the tile's arrays stand side by side, since the samples may be one of them.
+fn filter_view(
+    dst: &mut [f32],
+    samples: &[f32],
+    v: View,
+    pass: Pass,
+    rect: Rect,
+    fields: &mut [f32; FIELDS],
+    differences: &mut [f32; DIFFERENCES],
+    slopes: &[f32; SLOPES],
+)
+    requires { (pass.top ≤ max_top) × (rect.y ≤ max_side) }
+    ensures { dst.new ≡ lanes_stored pass.settings.step
+        (distances_of pass.settings.step pass.planes pass.settings.scales samples.now v rect.rows rect.cols fields.old)
+        slopes.now samples.now v pass.layout pass.planes (pass.top + rect.y) rect dst.old }
+{
+    let l = pass.layout;
+    let n = pass.planes;
+    let s = pass.settings;
+    let step = s.step;
+    let scales = s.scales;
+    let rows = rect.rows;
+    let cols = rect.cols;
+    distances(
+        fields,
+        differences,
+        samples,
+        v,
         step,
-        l,
+        &scales,
         n,
-        top,
-        rect,
+        rows,
+        cols,
     );
+    let top = pass.top + rect.y;
+    filter_tile(dst, fields, slopes, samples, v, step, l, n, top, rect);
 }
 
 // Filters a tile. None of its blocks is copied.
@@ -85,30 +110,34 @@ pub(crate) fn tile(
         dst.old }
 {
     let l = pass.layout;
-    let n = pass.planes;
     let s = pass.settings;
     let first = first_sigma(l, rect);
-    tile_slopes(
-        &mut arrays.slopes,
-        sigmas,
-        first,
-        blocks_of(rect.cols),
-        s.scale,
-        s.edge,
-    );
-    let scales = s.scales;
-    // Away from the filter region's edges, where rows are whole vectors, step 2 needs no window.
-    if s.step == LAST_STEP && n == PLANES && lies_inside(l, rect) {
-        filter_inside(
+    let blocks = blocks_of(rect.cols);
+    tile_slopes(&mut arrays.slopes, sigmas, first, blocks, s.scale, s.edge);
+    // Step 0 reads 15 rows; in planes whose rows are a power of two apart, these share a few lines of the cache.
+    if s.step != 0 && lies_inside(l, rect) {
+        let v = planes_view(l, rect);
+        filter_view(
             dst,
             src,
-            l,
-            &scales,
-            &arrays.slopes,
-            pass.top + rect.y,
+            v,
+            pass,
             rect,
+            &mut arrays.fields,
+            &mut arrays.differences,
+            &arrays.slopes,
         );
         return;
     }
-    filter_window(dst, src, pass, rect, arrays)
+    load_windows(&mut arrays.win, src, pass, rect);
+    filter_view(
+        dst,
+        &arrays.win,
+        window_view(),
+        pass,
+        rect,
+        &mut arrays.fields,
+        &mut arrays.differences,
+        &arrays.slopes,
+    );
 }

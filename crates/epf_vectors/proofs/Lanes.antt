@@ -6,19 +6,19 @@ use native.Mathlib.Omega.{arith}
 use lib.Ieee.{Float, binary32, sub, add, mul, lt, of_bits}
 use lib.Lanes.{zip2, sel_l}
 use lib.ListN.{length, replicate}
-use Rattle.rounding.specs.Magnitude.{magnitude}
-use Rattle.rounding.proofs.MagnitudeLaws.{difference-is}
 use Rattle.epf_step.specs.Steps.{positive, weight_by}
+use Rattle.rounding.specs.Zeros.{parted}
 
 -- n lanes of differences
 pub lanes-differ : (n : ℕ) (xs ys : List Float) → length xs ≡ n → length ys ≡ n
-    → zip2 (add binary32) (replicate n (of_bits binary32 0)) (sel_l (zip2 lt (zip2 (sub binary32) xs ys) (zip2 (sub binary32) ys xs)) (zip2 (sub binary32) ys xs) (zip2 (sub binary32) xs ys))
-    ≡ zip2 (λ a b. magnitude (sub binary32 a b)) xs ys
+    → zip2 (sub binary32) (sel_l (zip2 lt (zip2 (sub binary32) xs ys) (replicate n (of_bits binary32 0))) (replicate n (of_bits binary32 0)) (zip2 (sub binary32) xs ys))
+    (sel_l (zip2 lt (zip2 (sub binary32) xs ys) (replicate n (of_bits binary32 0))) (zip2 (sub binary32) xs ys) (replicate n (of_bits binary32 0)))
+    ≡ zip2 (λ a b. parted (sub binary32 a b)) xs ys
 lanes-differ zero [] ys h k = refl
 lanes-differ zero (x ∷ xs) ys h k = absurd (omega (arith, h))
 lanes-differ (suc n) [] ys h k = absurd (omega (arith, h))
 lanes-differ (suc n) (x ∷ xs) [] h k = absurd (omega (arith, k))
-lanes-differ (suc n) (x ∷ xs) (y ∷ ys) h k = rw (difference-is x y, lanes-differ n xs ys (omega (arith, h)) (omega (arith, k)))
+lanes-differ (suc n) (x ∷ xs) (y ∷ ys) h k = rw (lanes-differ n xs ys (omega (arith, h)) (omega (arith, k)))
 
 -- n lanes of weights
 pub lanes-weigh : (n : ℕ) (ds ss : List Float) → length ds ≡ n → length ss ≡ n

@@ -1,16 +1,19 @@
 -- The four lanes of a vector, and what is computed lane by lane. Definitions only.
 use Rattle.std.specs.Prelude.{List, [], ◌∷◌, ℕ, Float}
 use Rattle.std.specs.Simd.Lanes.{zip2}
-use Rattle.rounding.specs.Magnitude.{magnitude}
+use Rattle.rounding.specs.Zeros.{parted}
 use Rattle.planes.specs.Samples.{◌⊖◌}
 use Rattle.epf_step.specs.Steps.{weight_by}
 
 abbrev pub lanes_of : (ℕ → Float) → List Float
 lanes_of f = f 0 ∷ f 1 ∷ f 2 ∷ f 3 ∷ []
 
--- |x - y|
+-- |x - y|, but for a zero's sign
+abbrev pub spread : Float → Float → Float
+spread x y = parted (x ⊖ y)
+
 abbrev pub lanes_apart : List Float → List Float → List Float
-lanes_apart xs ys = zip2 (λ x y. magnitude (x ⊖ y)) xs ys
+lanes_apart xs ys = zip2 (λ x y. spread x y) xs ys
 
 -- the weight of a distance at a slope
 abbrev pub lanes_weighed : List Float → List Float → List Float

@@ -7,13 +7,15 @@ ghost use Rattle.epf_vectors.specs.Lanes.{lanes_apart, lanes_weighed};
 
 use std::simd::prelude::*;
 
-// The magnitudes of x - y, lane by lane, as `rounding::difference` has them.
+// The magnitudes of x - y, lane by lane, but for the sign of zeros: the part of x - y that is not below 0 less the part that
+// is. A zero of the other sign in a distance gives the same weight (`rounding/proofs/Zeros.antt`).
 pub fn differences(x: f32x4, y: f32x4) -> f32x4
     ensures { result ≡ lanes_apart x y }
 {
     let d = x - y;
-    let e = y - x;
-    f32x4::splat(0.0) + d.simd_lt(e).select(e, d)
+    let zero = f32x4::splat(0.0);
+    let below = d.simd_lt(zero);
+    below.select(zero, d) - below.select(d, zero)
 }
 
 // The weights of four neighbours or lanes, from their distances and slopes, as `epf_step::weight` has them.

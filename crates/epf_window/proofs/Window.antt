@@ -65,11 +65,11 @@ row_is l src a b p c o i k q ek eq h =
 -- an iteration of the loop over planes
 pub plane-next : (l : Layout) (src win a b : List Float) (p : WindowPart) (k : ℕ)
     → a ≡ window_filled l k src p.x p.y p.top p.rows p.cols win
-    → b ≡ rows_fill a ((k * 14 + p.top) * 64) 64 p.cols p.rows (λ i j. window_sample l src p.x p.y k j (p.top + i))
+    → b ≡ rows_fill a ((k * 14 + p.top) * 72) 72 p.cols p.rows (λ i j. window_sample l src p.x p.y k j (p.top + i))
     → b ≡ window_filled l (k + 1) src p.x p.y p.top p.rows p.cols win
 plane-next l src win a b p k e q =
-    let z : (k * 14 + p.top) * 64 ≡ (k * 14 + p.top) * 64 + 0 = omega arith in
-    planes-turn 64 14 0 p.cols p.top p.rows (λ c j i. window_sample l src p.x p.y c j (p.top + i)) win a b k e (rw z at q)
+    let z : (k * 14 + p.top) * 72 ≡ (k * 14 + p.top) * 72 + 0 = omega arith in
+    planes-turn 72 14 0 p.cols p.top p.rows (λ c j i. window_sample l src p.x p.y c j (p.top + i)) win a b k e (rw z at q)
 
 -- what plane c's loop requires
 pub plane-fits : (l : Layout) (n c len : ℕ) (p : WindowPart) → WindowFits l n len p.x p.y p.top p.rows p.cols → c < n → PlaneFits l c p len
@@ -100,5 +100,5 @@ module _ (l : Layout) (n : ℕ) (src : List Float) (x y top rows cols : ℕ) (wi
         le-leb top 14 (omega (arith, f.rows-le)),
         le-leb rows (14 - top) (omega (arith, f.rows-le)),
         le-leb 4 cols f.cols-ge,
-        le-leb cols 64 f.cols-le,
+        le-leb cols 72 f.cols-le,
       )

@@ -1,6 +1,6 @@
 // A window on a filter region: the rows and columns around a position in each plane, mirrored at the filter region's
-// edges, as planes of 14 rows of 64 columns. A step mirrors only here. Step 2 away from the edges needs no mirror and
-// reads the planes directly.
+// edges, as planes of 14 rows of 72 columns. A step mirrors only here. Away from the edges steps 1 and 2 need no mirror
+// and read the planes directly.
 #![tactic(auto)]
 
 mod row;

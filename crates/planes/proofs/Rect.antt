@@ -51,6 +51,23 @@ pub planes-end : (w h left n top m : ℕ) (v : Picture) (d a : List Float) (i k 
     → a ≡ planes_fill w h left n top m v d k
 planes-end w h left n top m v d a i k e p q = let z : i ≡ k = omega arith in rw (← z) e
 
+-- ---- no columns, no rows
+
+rows-empty : (d : List Float) (at stride m : ℕ) (v : ℕ → ℕ → Float) → d ≡ rows_fill d at stride 0 m v
+unfolding rows_fill fill
+rows-empty d at stride zero v = refl
+rows-empty d at stride (suc m) v = rows-empty d at stride m v
+
+pub columns-none : (w h left top m : ℕ) (v : Picture) (d : List Float) (k : ℕ) → d ≡ planes_fill w h left 0 top m v d k
+unfolding planes_fill
+columns-none w h left top m v d zero = refl
+columns-none w h left top m v d (suc k) = rw (← (columns-none w h left top m v d k)) (rows-empty d ((k * h + top) * w + left) w m (λ i x. v k x i))
+
+pub rows-none : (w h left n top : ℕ) (v : Picture) (d : List Float) (k : ℕ) → d ≡ planes_fill w h left n top 0 v d k
+unfolding planes_fill rows_fill
+rows-none w h left n top v d zero = refl
+rows-none w h left n top v d (suc k) = rows-none w h left n top v d k
+
 -- ---- one row of a set; r counts the rows of all planes
 module _ (d : List Float) (w r left n : ℕ) (f : ℕ → Float) (fits : left + n ≤ w) where
   row_other : (q x : ℕ) → x < w → (q ≡ r → ⊥) → get_or (fill d (r * w + left) n f) (q * w + x) nan ≡ get_or d (q * w + x) nan

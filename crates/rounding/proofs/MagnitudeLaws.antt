@@ -1,4 +1,4 @@
--- |x - y| is the larger of x - y and y - x, plus 0, for all x and y. Assumes nothing.
+-- Numbers that fit a format, x - y and y - x, and magnitudes. Assumes nothing.
 use mathlib.Core.Path.{◌≡◌, refl, sym, ap, ◌∙◌}
 use mathlib.Core.Logic.{◌⊎◌, inl, inr}
 use mathlib.Core.Bool.{Bool, true, false, not, ◌&&◌, cond}
@@ -10,13 +10,13 @@ use borrow.Author.Tests.{lt-ltb, le-ltb}
 use lib.Dec.{T, eqb, ltb, leb, eqb→eq, ltb→lt, leb→le}
 use lib.Pow.{pow-add, pow_pos, pow-lt}
 use lib.IntN.{ℤ, pos, negsuc}
-use lib.Ieee.{Float, nan, inf, fin, Format, binary32, prec, emax, low, up, down, lt, neg, sub, add, sum, round, units, odd, fits, to_bits, of_bits, of_fields}
-use lib.Ieee.Fits.{up_pos, down_pos, and_l, and_r, round_is, round-fits, sub-fits}
+use lib.Ieee.{Float, nan, inf, fin, Format, binary32, prec, emax, low, up, down, neg, sub, add, sum, round, units, odd, fits, to_bits, of_bits, of_fields}
+use lib.Ieee.Fits.{down_pos, and_l, and_r, round_is, round-fits}
 use lib.Ieee.Exact.{HasValue, round_exact}
 use lib.Ieee.Nearest.{div_same}
 use lib.Ieee.Bits.{of_bits-to_bits}
 use Rattle.rounding.proofs.Rounded.{round-zero}
-use Rattle.rounding.specs.Magnitude.{larger, magnitude}
+use Rattle.rounding.specs.Magnitude.{magnitude}
 
 -- ---- a value that fits a format has one encoding
 same_bits : (f : Format) (s : Bool) (m n : ℕ) (e g : ℤ) → m * up e * down g ≡ n * up g * down e → to_bits f (fin s m e) ≡ to_bits f (fin s n g)
@@ -81,7 +81,7 @@ flat (pos zero) h = refl
 flat (pos (suc k)) h = absurd (omega (arith, pow-lt (zero-lt-suc k)))
 flat (negsuc k) h = absurd (omega (arith, pow-lt (zero-lt-suc k)))
 
-zero_exp : (f : Format) (s : Bool) (e : ℤ) → T (fits f (fin s zero e)) → e ≡ pos 0
+pub zero_exp : (f : Format) (s : Bool) (e : ℤ) → T (fits f (fin s zero e)) → e ≡ pos 0
 unfolding fits
 zero_exp f s e t = flat e (eqb→eq (up e * down e) 1 t)
 
@@ -149,47 +149,22 @@ opposite f (fin s m e) (inf false) = inl refl
 opposite f (fin s m e) (fin t n g) =
     rw (mul_comm (down g) (down e)) (sum-opp f s t (m * up e * down g) (n * up g * down e) (down e * down g) (mul-pos (down_pos e) (down_pos g)))
 
--- ---- the larger of two opposite values
+-- ---- magnitudes
+
 pub zero_is : of_bits binary32 0 ≡ fin false 0 (pos 0)
 unfolding of_bits of_fields odd
 zero_is = refl
-
-add-own : (m : ℕ) (e : ℤ) → T (fits binary32 (fin false m e)) → add binary32 zero_f (fin false m e) ≡ fin false m e
-unfolding add sum
-add-own m e t =
-    let a : 0 * 1 * down e + m * up e * 1 ≡ m * up e = omega arith in
-    let c : 1 * down e ≡ down e = omega arith in
-    rw (a, c) (round-back binary32 false m e t)
 
 unsigned : (m : ℕ) (e : ℤ) (s : Bool) → T (fits binary32 (fin s m e)) → T (fits binary32 (fin false m e))
 unfolding fits
 unsigned zero e s t = t
 unsigned (suc m) e s t = t
 
-of-opp : (d : Float) → T (fits binary32 d) → add binary32 zero_f (larger d (neg d)) ≡ magnitude d
-unfolding lt neg magnitude
-of-opp nan t = unfold add in refl
-of-opp (inf true) t = unfold add in refl
-of-opp (inf false) t = unfold add in refl
-of-opp (fin false m e) t = add-own m e t
-of-opp (fin true zero e) t =
-    let z : 0 * up e * down e + 0 * up e * down e ≡ 0 = omega arith in
-    rw (z, zero_exp binary32 true e t) (unfold add sum in round-zero binary32 false _ 1 refl (zero-lt-suc 0))
-of-opp (fin true (suc m) e) t =
-    let p : 0 < suc m * up e * down e = mul-pos (mul-pos (zero-lt-suc m) (up_pos e)) (down_pos e) in
-    rw (lt-ltb 0 (suc m * up e * down e + suc m * up e * down e) (omega arith)) (add-own (suc m) e (unsigned (suc m) e true t))
-
-of-zeros : add binary32 zero_f (larger zero_f zero_f) ≡ magnitude zero_f
-unfolding lt magnitude fits
-of-zeros = add-own 0 (pos 0) tt
-
--- the code's expression is |x - y|
-pub difference-is : (x y : Float) → add binary32 (of_bits binary32 0) (larger (sub binary32 x y) (sub binary32 y x)) ≡ magnitude (sub binary32 x y)
-difference-is x y = rw zero_is (go (opposite binary32 x y))
-  where
-    go : Opp (sub binary32 x y) (sub binary32 y x) → add binary32 zero_f (larger (sub binary32 x y) (sub binary32 y x)) ≡ magnitude (sub binary32 x y)
-    go (inl p) = rw p (of-opp (sub binary32 x y) (sub-fits binary32 x y))
-    go (inr p) = rw (p.0, p.1) of-zeros
+pub magnitude-fits : (d : Float) → T (fits binary32 d) → T (fits binary32 (magnitude d))
+unfolding magnitude
+magnitude-fits nan t = t
+magnitude-fits (inf s) t = unfold fits in t
+magnitude-fits (fin s m e) t = unsigned m e s t
 
 magnitude-neg : (d : Float) → magnitude d ≡ magnitude (neg d)
 unfolding magnitude neg

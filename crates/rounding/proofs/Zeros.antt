@@ -1,19 +1,19 @@
 -- Sums and products of binary32 numbers that differ at most in the sign of a zero differ at most in the sign of a zero. Assumes nothing.
 use mathlib.Core.Path.{◌≡◌, refl, sym, ap, ◌∙◌, subst}
 use mathlib.Core.Logic.{inl, inr}
-use mathlib.Core.Bool.{Bool, true, false}
+use mathlib.Core.Bool.{Bool, true, false, cond, true≢false}
 use Prim.Native.Nat.{ℕ, zero, suc, ◌+◌, ◌-◌, ◌*◌, ◌<◌}
 use native.Mathlib.Nat.{mul-pos, zero-lt-suc}
 use native.Mathlib.Omega.{arith}
 use borrow.Author.Tests.{lt-ltb, le-ltb}
 use lib.Dec.{T}
 use lib.IntN.{ℤ, pos}
-use lib.Ieee.{Float, nan, inf, fin, Format, binary32, up, down, unlike, lt, sub, add, mul, sum, round, fits, of_bits}
-use lib.Ieee.Fits.{up_pos, down_pos, add-fits, sub-fits, cond-fits}
-use Rattle.rounding.proofs.MagnitudeLaws.{difference-is, round-back, zero_is}
+use lib.Ieee.{Float, nan, inf, fin, Format, binary32, up, down, unlike, lt, neg, sub, add, mul, sum, round, fits, of_bits}
+use lib.Ieee.Fits.{up_pos, down_pos, sub-fits, neg-fits}
+use Rattle.rounding.proofs.MagnitudeLaws.{round-back, zero_exp, zero_is, magnitude-fits}
 use Rattle.rounding.proofs.Rounded.{round-zero}
-use Rattle.rounding.specs.Magnitude.{larger, magnitude}
-use Rattle.rounding.specs.Zeros.{Zero, EqualOrZeros}
+use Rattle.rounding.specs.Magnitude.{magnitude}
+use Rattle.rounding.specs.Zeros.{Zero, EqualOrZeros, parted}
 
 -- ---- an equivalence
 
@@ -149,17 +149,51 @@ plus-zero (fin s (suc m) e) t =
 pub zero-plus : (x : Float) → T (fits binary32 x) → EqualOrZeros (add binary32 (of_bits binary32 0) x) x
 zero-plus x t = rw zero_is (plus-zero x t)
 
--- ---- |x - y|
+-- ---- |d|, from the part of d that is not below 0 and the part that is
 
--- the larger of x - y and y - x
-pub larger-alike : (x y : Float) → EqualOrZeros (larger (sub binary32 x y) (sub binary32 y x)) (magnitude (sub binary32 x y))
-larger-alike x y =
-    let d = sub binary32 x y in
-    let e = sub binary32 y x in
-    subst (EqualOrZeros (larger d e)) (difference-is x y) (zeros-sym (zero-plus (larger d e) (cond-fits binary32 (lt d e) e d (sub-fits binary32 y x) (sub-fits binary32 x y))))
+abbrev zero_f : Float
+zero_f = fin false 0 (pos 0)
 
-magnitude-fits : (x y : Float) → T (fits binary32 (magnitude (sub binary32 x y)))
-magnitude-fits x y = subst (λ z. T (fits binary32 z)) (difference-is x y) (add-fits binary32 (of_bits binary32 0) (larger (sub binary32 x y) (sub binary32 y x)))
+below-zero : (d : Float) → lt d zero_f ≡ true → neg d ≡ magnitude d
+unfolding lt neg magnitude
+below-zero nan h = absurd (true≢false (sym h))
+below-zero (inf true) h = refl
+below-zero (inf false) h = absurd (true≢false (sym h))
+below-zero (fin true m e) h = refl
+below-zero (fin false m e) h = absurd (true≢false (sym h ∙ le-ltb (m * up e * 1) (0 * 1 * down e) (omega arith)))
+
+not-below : (d : Float) → T (fits binary32 d) → lt d zero_f ≡ false → EqualOrZeros d (magnitude d)
+unfolding lt magnitude
+not-below nan t h = inl refl
+not-below (inf true) t h = absurd (true≢false h)
+not-below (inf false) t h = inl refl
+not-below (fin false m e) t h = inl refl
+not-below (fin true zero e) t h = rw (zero_exp binary32 true e t) (inr (inr refl, inl refl))
+not-below (fin true (suc m) e) t h =
+    let l : 0 < suc m * up e * 1 + 0 * 1 * down e = omega (arith, scaled m e (pos 0)) in
+    absurd (true≢false (sym (lt-ltb 0 (suc m * up e * 1 + 0 * 1 * down e) l) ∙ h))
+
+add-later : (x : Float) → T (fits binary32 x) → EqualOrZeros (add binary32 x (fin true 0 (pos 0))) x
+unfolding add
+add-later nan t = inl refl
+add-later (inf s) t = inl refl
+add-later (fin s zero e) t =
+    inr (sum-zeros binary32 s true _ _ _ (omega arith) (omega arith) (under e (pos 0)), subst Zero (round-back binary32 s 0 e t) (round-zeros binary32 s _ _ (omega arith) (down_pos e)))
+add-later (fin s (suc m) e) t =
+    let a : suc m * up e * 1 ≡ suc m * up e = omega arith in
+    let c : down e * 1 ≡ down e = omega arith in
+    inl (sum-left binary32 s true _ _ _ (scaled m e (pos 0)) (omega arith) ∙ rw (a, c) (round-back binary32 s (suc m) e t))
+
+pub parted-alike : (x y : Float) → EqualOrZeros (parted (sub binary32 x y)) (magnitude (sub binary32 x y))
+unfolding sub
+parted-alike x y = rw zero_is (go (lt d zero_f) refl)
+  where
+    d : Float
+    d = sub binary32 x y
+
+    go : (b : Bool) → lt d zero_f ≡ b → EqualOrZeros (sub binary32 (cond b zero_f d) (cond b d zero_f)) (magnitude d)
+    go true h = zeros-trans (plus-zero (neg d) (neg-fits binary32 d (sub-fits binary32 x y))) (inl (below-zero d h))
+    go false h = zeros-trans (add-later d (sub-fits binary32 x y)) (not-below d (sub-fits binary32 x y) h)
 
 pub zero-plus-magnitude : (x y : Float) → EqualOrZeros (add binary32 (of_bits binary32 0) (magnitude (sub binary32 x y))) (magnitude (sub binary32 x y))
-zero-plus-magnitude x y = zero-plus (magnitude (sub binary32 x y)) (magnitude-fits x y)
+zero-plus-magnitude x y = zero-plus (magnitude (sub binary32 x y)) (magnitude-fits (sub binary32 x y) (sub-fits binary32 x y))

@@ -6,4 +6,4 @@ use Rattle.epf_window.specs.Window.{window_sample}
 use Rattle.epf_window.proofs.load_plane.Given as goal
 
 abbrev pub invariant-loop-i : goal.invariant-loop-i
-invariant-loop-i l = (l.i ≤ l.rows) × (l.win ≡ rows_fill l.initial.win l.at 64 l.part.cols l.i (λ k j. window_sample l.l l.src l.part.x l.part.y l.c j (l.part.top + k)))
+invariant-loop-i l = (l.i ≤ l.rows) × (l.win ≡ rows_fill l.initial.win l.at 72 l.part.cols l.i (λ k j. window_sample l.l l.src l.part.x l.part.y l.c j (l.part.top + k)))

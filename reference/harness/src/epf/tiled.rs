@@ -1,6 +1,7 @@
-//! Pictures that are several tiles wide: the proved code filters 56 columns at a time. In step 2, a tile
-//! with samples of the filter region on every side is read from the planes directly, any other tile
-//! through a window; narrower pictures have no tile of the first kind.
+//! Pictures that are several tiles wide: the proved code filters at most 64 columns at a time. In steps 1
+//! and 2, a tile with samples of the filter region on every side is read from the planes directly, any
+//! other tile through a window. Without copied blocks only pictures of three tiles or more have one of the
+//! first kind; between copied blocks narrower ones have.
 
 use restoration::BLOCK;
 
@@ -13,13 +14,13 @@ use crate::{
 };
 
 /// Columns of a tile.
-const TILE: u32 = 56;
+const TILE: u32 = 64;
 /// Whole tiles across a picture.
-const TILES: core::ops::RangeInclusive<u32> = 2..=5;
+const TILES: core::ops::RangeInclusive<u32> = 1..=4;
 /// Columns beyond the whole tiles: none, a few, about a block, and one less than a tile.
 const BEYOND: [u32; 7] = [0, 1, 2, BLOCK - 1, BLOCK, BLOCK + 1, TILE - 1];
 /// The largest width, also of random ones.
-const WIDEST: u32 = 300;
+const WIDEST: u32 = 320;
 const HIGHEST: u32 = 40;
 /// The largest left and top of a filter region, in blocks.
 const FARTHEST: i128 = 40;

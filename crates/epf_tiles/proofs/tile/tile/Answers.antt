@@ -10,7 +10,7 @@ use Rattle.epf_slopes.specs.Slopes.{slopes_of, Sloped}
 use Rattle.epf_rects.specs.declared.Rect.{Rect}
 use Rattle.epf_tiles.specs.declared.Pass.{Pass}
 use Rattle.epf_tiles.specs.Tile.{sigma_first, TileInPass}
-use Rattle.epf_tiles.proofs.TileLaws.{tile-sloped, inside-filtered}
+use Rattle.epf_tiles.proofs.TileLaws.{tile-sloped, window-filtered, planes-filtered}
 use Rattle.epf_tiles.proofs.tile.tile.Goals as goal
 
 -- the slopes are those of the tile
@@ -23,10 +23,12 @@ pub returns-then-lies_inside : goal.returns-then-lies_inside
 returns-then-lies_inside c =
     let a = c.args in
     let p = c.requires.tile_in_pass in
-    inside-filtered a.pass a.src.now a.rect a.dst.now p _ _ c.if-n-eq-PLANES.true c.if-s-eq-LAST_STEP.true (sym c.lies_inside.ensures ∙ c.if-lies_inside.true) c.filter_inside.ensures _
-    (steep a.pass a.src.now a.rect a.dst.now p a.sigmas.now a.arrays.now.slopes c.requires.cols_in_bounds (omega arith) _ _ _ c.first_sigma-first.ensures c.blocks_of.ensures c.tile_slopes.ensures) c.requires.filtered
+    planes-filtered a.pass a.src.now a.rect a.dst.now p _ a.arrays.now.fields _ _ c.planes_view-v.ensures (omega arith) c.if-s-ne0.true (sym c.lies_inside.ensures ∙ c.if-lies_inside.true) c.filter_view.ensures a.sigmas.now
+    (steep a.pass a.src.now a.rect a.dst.now p a.sigmas.now a.arrays.now.slopes c.requires.cols_in_bounds (omega arith) _ _ _ c.first_sigma-first.ensures c.blocks_of-blocks.ensures c.tile_slopes.ensures) c.requires.filtered
 
 pub returns : goal.returns
 returns c =
     let a = c.args in
-    c.filter_window.ensures _ (steep a.pass a.src.now a.rect a.dst.now c.requires.tile_in_pass a.sigmas.now a.arrays.now.slopes c.requires.cols_in_bounds (omega arith) _ _ _ c.first_sigma-first.ensures c.blocks_of.ensures c.tile_slopes.ensures) c.requires.filtered
+    let p = c.requires.tile_in_pass in
+    window-filtered a.pass a.src.now a.rect a.dst.now p _ a.arrays.now.win _ a.arrays.now.fields _ _ c.window_view.ensures (omega arith) (omega arith) (omega arith) c.load_windows.ensures c.filter_view-2.ensures a.sigmas.now
+    (steep a.pass a.src.now a.rect a.dst.now p a.sigmas.now a.arrays.now.slopes c.requires.cols_in_bounds (omega arith) _ _ _ c.first_sigma-first.ensures c.blocks_of-blocks.ensures c.tile_slopes.ensures) c.requires.filtered

@@ -1,0 +1,7 @@
+use mathlib.Core.Path.{refl}
+use native.Mathlib.Omega.{arith}
+use Rattle.planes.proofs.Rect.{rows-turn}
+use Rattle.epf_distances.proofs.sums.sum_rows.Goals as goal
+
+pub loop-r-preserved : goal.loop-r-preserved
+loop-r-preserved g c = (omega arith, rows-turn _ _ _ _ _ _ _ _ _ c.loop-r.invariant.1 refl c.sum_row.ensures)

@@ -1,4 +1,0 @@
-pub mod Divisor
-pub mod Inside
-pub mod Lanes
-pub mod Runs
