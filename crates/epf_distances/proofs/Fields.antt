@@ -6,7 +6,6 @@ use mathlib.Core.Logic.{inl, inr}
 use Prim.Native.Nat.{ℕ, zero, suc, ◌+◌, ◌-◌, ◌*◌, ◌<◌, ◌≤◌}
 use native.Mathlib.Nat.{le_of_suc-le-suc, add-mul, mul-le-mul_left}
 use native.Mathlib.Decide.{ℕ_discrete}
-use native.Mathlib.Numerals.{add-one}
 use native.Mathlib.Omega.{arith}
 use borrow.Author.Tests.{leb-true, le-leb}
 use lib.Dec.{leb}
@@ -46,11 +45,9 @@ unfolding scaled_from
 scaled-last c zero ss = let z : c + 0 ≡ c = omega arith in rw z
 scaled-last c (suc n) ss = let z : c + suc n ≡ suc c + n = omega arith in rw z (ap (λ (l : List Scaled). (c, get_or ss c nan) ∷ l) (scaled-last (suc c) n ss))
 
--- one more channel
-pub along-channel : {B : Type 0} (f : B → Scaled → B) (b : B) (n : ℕ) (ss : List Float) → f (along f b (scaled n ss)) (n, get_or ss n nan) ≡ along f b (scaled (n + 1) ss)
-along-channel f b n ss =
-    let z : 0 + n ≡ n = omega arith in
-    sym (ap (along f b) (rw (add-one n) (scaled-last 0 n ss)) ∙ along-last f b (scaled n ss) (0 + n, get_or ss (0 + n) nan) ∙ rw z)
+-- one more channel, i, after n of them from channel c on
+pub along-channel : {B : Type 0} (f : B → Scaled → B) (b : B) (c n i : ℕ) (ss : List Float) → i ≡ c + n → f (along f b (scaled_from c n ss)) (i, get_or ss i nan) ≡ along f b (scaled_from c (suc n) ss)
+along-channel f b c n i ss e = rw e (sym (ap (along f b) (scaled-last c n ss) ∙ along-last f b (scaled_from c n ss) (c + n, get_or ss (c + n) nan)))
 
 -- ---- a view that fits
 

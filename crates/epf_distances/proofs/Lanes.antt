@@ -1,35 +1,35 @@
--- Four lanes of differences, and of distances with one channel more. Assumes nothing.
+-- Four lanes of differences, and of distances from the first channel to the last. Assumes nothing.
 use mathlib.Core.Path.{◌≡◌, refl}
 use mathlib.Core.List.{List}
 use Prim.Native.Nat.{ℕ, zero, suc, ◌+◌, ◌-◌, ◌*◌, ◌≤◌}
 use native.Mathlib.Nat.{add_assoc}
+use native.Mathlib.Numerals.{add-one}
 use native.Mathlib.Omega.{arith}
 use lib.Ieee.{Float, nan, binary32, add, mul}
 use lib.Lanes.{chunk, zip2}
 use lib.ListN.{length, get_or, replicate, take, drop}
-use Rattle.planes.specs.Samples.{◌⊕◌, ◌⊗◌, b0}
+use Rattle.planes.specs.Samples.{◌⊕◌, ◌⊗◌}
 use Rattle.epf_step.specs.Steps.{Scaled, along, scaled_from, scaled}
 use Rattle.epf_vectors.specs.Lanes.{lanes_of, lanes_apart, spread}
 use Rattle.epf_vectors.proofs.Rows.{loaded}
 use Rattle.epf_distances.specs.Seen.{apart_by, nearby, summed}
 use Rattle.epf_distances.proofs.Fields.{along-channel}
 
--- lanes of differences between the samples from index `from` on and those `apart` after them, where a plane starts at index `start`
-pub lanes-differences : (src : List Float) (from to start p apart : ℕ) (f : ℕ → Float) → to ≡ from + apart → from ≡ start + p → to + 4 ≤ length src
-    → ((k : ℕ) → apart_by src start apart (p + k) ≡ f k)
-    → lanes_apart (chunk 0 4 (take (to + 4 - to) (drop to src))) (chunk 0 4 (take (from + 4 - from) (drop from src))) ≡ lanes_of f
+-- lanes of differences between the samples from index p on and those `apart` after them
+pub lanes-differences : (src : List Float) (p to apart : ℕ) → to ≡ p + apart → to + 4 ≤ length src
+    → lanes_apart (chunk 0 4 (take (to + 4 - to) (drop to src))) (chunk 0 4 (take (p + 4 - p) (drop p src))) ≡ lanes_of (λ k. apart_by src 0 apart (p + k))
 unfolding apart_by
-lanes-differences src from to start p apart f t o l h = rw (loaded src from (omega arith), loaded src to l) (rw (lane 0, lane 1, lane 2, lane 3) refl)
+lanes-differences src p to apart t l = rw (loaded src p (omega arith), loaded src to l) (rw (lane 0, lane 1, lane 2, lane 3) refl)
   where
-    lane : (k : ℕ) → spread (get_or src (to + k) nan) (get_or src (from + k) nan) ≡ f k
+    lane : (k : ℕ) → spread (get_or src (to + k) nan) (get_or src (p + k) nan) ≡ spread (get_or src (0 + (p + k + apart)) nan) (get_or src (0 + (p + k)) nan)
     lane k =
-        let a : to + k ≡ start + (p + k + apart) = omega arith in
-        let b : from + k ≡ start + (p + k) = omega arith in
-        rw (a, b) (h k)
+        let a : 0 + (p + k + apart) ≡ to + k = omega arith in
+        let b : 0 + (p + k) ≡ p + k = omega arith in
+        rw (a, b) refl
 
--- the distances of four lanes, counted from a row's start
-pub lanes-from : (across step : ℕ) (cs : List Scaled) (f : ℕ → ℕ → Float) (j n : ℕ) → lanes_of (λ k. summed across step cs f (j + n + k)) ≡ lanes_of (λ k. summed across step cs f (j + (n + k)))
-lanes-from across step cs f j n = rw (add_assoc j n 0, add_assoc j n 1, add_assoc j n 2, add_assoc j n 3) refl
+-- four lanes, counted from a row's start
+pub lanes-from : (f : ℕ → Float) (j n : ℕ) → lanes_of (λ k. f (j + n + k)) ≡ lanes_of (λ k. f (j + (n + k)))
+lanes-from f j n = rw (add_assoc j n 0, add_assoc j n 1, add_assoc j n 2, add_assoc j n 3) refl
 
 -- a difference counted from the start of the list, and from the start of its plane
 pub apart-from : (src : List Float) (start apart p q : ℕ) → q ≡ start + p → apart_by src 0 apart q ≡ apart_by src start apart p
@@ -39,21 +39,27 @@ apart-from src start apart p q e =
     let b : 0 + q ≡ start + p = omega arith in
     rw (a, b) refl
 
--- one summand more
-pub lanes-more : (sum near : List Float) (scale : Float) (f g h : ℕ → Float) → sum ≡ lanes_of f → near ≡ lanes_of g → ((k : ℕ) → f k ⊕ scale ⊗ g k ≡ h k)
-    → zip2 (add binary32) sum (zip2 (mul binary32) (replicate 4 scale) near) ≡ lanes_of h
-lanes-more sum near scale f g h e q more = rw (e, q) (rw (more 0, more 1, more 2, more 3) refl)
-
+-- sums of the channels' differences; those that are added, `near`, may be read at other indices than f's
 module _ (across step : ℕ) (ss : List Float) (f : ℕ → ℕ → Float) where
-  -- no channel
-  pub lanes-none : (j : ℕ) → replicate 4 b0 ≡ lanes_of (λ k. summed across step (scaled 0 ss) f (j + k))
+  -- the first channel
+  pub lanes-first : (near : List Float) (g : ℕ → Float) (j : ℕ) → near ≡ lanes_of g → ((k : ℕ) → g k ≡ nearby across step (f 0) (j + k))
+      → zip2 (mul binary32) (replicate 4 (get_or ss 0 nan)) near ≡ lanes_of (λ k. summed across step (scaled 1 ss) f (j + k))
   unfolding summed along scaled_from
-  lanes-none j = refl
+  lanes-first near g j e is = rw (e, is 0, is 1, is 2, is 3) refl
+
+  summed-more : (c j : ℕ) → 1 ≤ c → summed across step (scaled c ss) f j ⊕ get_or ss c nan ⊗ nearby across step (f c) j ≡ summed across step (scaled (c + 1) ss) f j
+  unfolding summed scaled_from
+  summed-more zero j h = absurd (omega arith)
+  summed-more (suc c) j h = rw (add-one (suc c)) (along-channel (λ (s : Float) (a : Scaled). s ⊕ a.1 ⊗ nearby across step (f a.0) j) (get_or ss 0 nan ⊗ nearby across step (f 0) j) 1 c (suc c) ss (omega arith))
 
   -- a channel more
-  pub summed-more : (c j : ℕ) → summed across step (scaled c ss) f j ⊕ get_or ss c nan ⊗ nearby across step (f c) j ≡ summed across step (scaled (c + 1) ss) f j
-  unfolding summed
-  summed-more c j = along-channel (λ (s : Float) (a : Scaled). s ⊕ a.1 ⊗ nearby across step (f a.0) j) b0 c ss
+  pub lanes-more : (c : ℕ) (sum near : List Float) (g : ℕ → Float) (j : ℕ) → 1 ≤ c → sum ≡ lanes_of (λ k. summed across step (scaled c ss) f (j + k)) → near ≡ lanes_of g
+      → ((k : ℕ) → g k ≡ nearby across step (f c) (j + k))
+      → zip2 (add binary32) sum (zip2 (mul binary32) (replicate 4 (get_or ss c nan)) near) ≡ lanes_of (λ k. summed across step (scaled (c + 1) ss) f (j + k))
+  lanes-more c sum near g j h e q is = rw (e, q, is 0, is 1, is 2, is 3) (rw (more 0, more 1, more 2, more 3) refl)
+    where
+      more : (k : ℕ) → summed across step (scaled c ss) f (j + k) ⊕ get_or ss c nan ⊗ nearby across step (f c) (j + k) ≡ summed across step (scaled (c + 1) ss) f (j + k)
+      more k = summed-more c (j + k) h
 
   -- all channels
   pub lanes-all : (c n j : ℕ) (sum : List Float) → sum ≡ lanes_of (λ k. summed across step (scaled c ss) f (j + k)) → c ≤ n → n ≤ c → sum ≡ lanes_of (λ k. summed across step (scaled n ss) f (j + k))
@@ -81,12 +87,7 @@ nearby-later across step d o j a b = go step
     go (suc zero) = rw (above, below, before, after) refl
     go (suc (suc s)) = refl
 
--- a channel more, of planes of stored differences
-pub stored-more : (across step : ℕ) (ss d : List Float) (c j k : ℕ) → across ≤ j → 1 ≤ j
-    → summed across step (scaled c ss) (λ (c : ℕ) (p : ℕ). get_or d (c * 864 + p) nan) (j + k) ⊕ get_or ss c nan ⊗ nearby across step (λ (p : ℕ). get_or d p nan) (c * 864 + j + k)
-    ≡ summed across step (scaled (c + 1) ss) (λ (c : ℕ) (p : ℕ). get_or d (c * 864 + p) nan) (j + k)
-stored-more across step ss d c j k a b =
-    let z : c * 864 + j + k ≡ c * 864 + (j + k) = omega arith in
-    let n : nearby across step (λ (p : ℕ). get_or d p nan) (c * 864 + (j + k)) ≡ nearby across step (λ (p : ℕ). get_or d (c * 864 + p) nan) (j + k) =
-    nearby-later across step (λ (p : ℕ). get_or d p nan) (c * 864) (j + k) (omega arith) (omega arith) in
-    rw (z, n) (summed-more across step ss (λ (c : ℕ) (p : ℕ). get_or d (c * 864 + p) nan) c (j + k))
+-- stored differences counted from the start of the list, and from the start of their plane
+pub stored-from : (across step : ℕ) (d : List Float) (c j q : ℕ) → across ≤ j → 1 ≤ j → q ≡ c * 864 + j
+    → nearby across step (λ (p : ℕ). get_or d p nan) q ≡ nearby across step (λ (p : ℕ). get_or d (c * 864 + p) nan) j
+stored-from across step d c j q a b e = rw e (nearby-later across step (λ (p : ℕ). get_or d p nan) (c * 864) j a b)

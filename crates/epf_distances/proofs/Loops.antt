@@ -1,7 +1,7 @@
 -- What the loops over fields keep, and the room that a field's samples need. Assumes nothing.
 use mathlib.Core.Path.{◌≡◌, refl, sym, ap, ◌∙◌}
 use mathlib.Core.Bool.{Bool, true, false, cond}
-use mathlib.Core.List.{List}
+use mathlib.Core.List.{List, [], ◌∷◌}
 use Prim.Native.Nat.{ℕ, zero, suc, ◌+◌, ◌-◌, ◌*◌, ◌<◌, ◌≤◌}
 use native.Mathlib.Nat.{add-mul, mul-le-mul_right}
 use native.Mathlib.Numerals.{add-one}
@@ -9,10 +9,11 @@ use native.Mathlib.Omega.{arith}
 use lib.ListN.{length, get_or}
 use lib.Ieee.{Float, nan}
 use Rattle.std.specs.Int.{abs_diff, div_ceil}
-use Rattle.planes.specs.Samples.{◌⊕◌, ◌⊗◌, b0}
+use Rattle.planes.specs.Samples.{◌⊕◌, ◌⊗◌}
 use Rattle.planes.specs.Sets.{of}
 use Rattle.planes.specs.Rect.{rows_fill, planes_fill}
 use Rattle.planes.proofs.Join.{rect-at}
+use Rattle.planes.proofs.Rect.{rows-cong}
 use Rattle.epf_step.specs.Steps.{Scaled, along, scaled_from, scaled}
 use Rattle.epf_distances.specs.declared.View.{View}
 use Rattle.epf_distances.specs.declared.Pair.{Pair}
@@ -37,12 +38,22 @@ unfolding differences_fill
 differences-more step n src v rows cols d a b h true p q = rw (add-one h, q, p) refl
 differences-more step n src v rows cols d a b h false p q = q ∙ p
 
--- steps after 2 are like step 2
+-- steps after 2 are like step 2: they sum single differences, so that it does not matter how far apart rows lie
+summed-later : (s t across : ℕ) (cs : List Scaled) (f : ℕ → ℕ → Float) (j : ℕ) → summed t 2 cs f j ≡ summed across (suc (suc s)) cs f j
+unfolding summed nearby
+summed-later s t across [] f j = refl
+summed-later s t across (c ∷ cs) f j = refl
+
+pub summed-single : (across step : ℕ) (cs : List Scaled) (f : ℕ → ℕ → Float) (j : ℕ) → 1 < step → summed 1 2 cs f j ≡ summed across step cs f j
+summed-single across zero cs f j l = absurd (omega arith)
+summed-single across (suc zero) cs f j l = absurd (omega arith)
+summed-single across (suc (suc s)) cs f j l = summed-later s 1 across cs f j
+
 fields-later : (s : ℕ) (cs : List Scaled) (src : List Float) (v : View) (rows cols : ℕ) (e : List Float) (n : ℕ)
     → fields_fill 2 cs src v rows cols e n ≡ fields_fill (suc (suc s)) cs src v rows cols e n
-unfolding fields_fill dist_at summed nearby
+unfolding fields_fill dist_at
 fields-later s cs src v rows cols e zero = refl
-fields-later s cs src v rows cols e (suc n) = rw (fields-later s cs src v rows cols e n) refl
+fields-later s cs src v rows cols e (suc n) = rw (fields-later s cs src v rows cols e n) (rows-cong _ _ 72 _ _ _ _ (λ r i p q. summed-later s v.stride v.stride cs _ _))
 
 pub fields-late : (step : ℕ) (cs : List Scaled) (src : List Float) (v : View) (rows cols : ℕ) (e : List Float) → 1 < step
     → fields_fill 2 cs src v rows cols e (half 2) ≡ fields_fill step cs src v rows cols e (half step)
@@ -117,6 +128,11 @@ scaled-cong f g ss m c (suc n) l h b =
     scaled-cong f g ss m (suc c) n (omega arith) h (b ⊕ get_or ss c nan ⊗ f c)
     ∙ ap (λ (x : Float). along (λ (s : Float) (a : Scaled). s ⊕ a.1 ⊗ g a.0) (b ⊕ get_or ss c nan ⊗ x) (scaled_from (suc c) n ss)) (h c (omega arith))
 
+summed-cong : (s t step : ℕ) (f g : ℕ → ℕ → Float) (ss : List Float) (n i j : ℕ) → ((c : ℕ) → c < n → nearby s step (f c) i ≡ nearby t step (g c) j) → summed s step (scaled n ss) f i ≡ summed t step (scaled n ss) g j
+unfolding summed scaled_from
+summed-cong s t step f g ss zero i j h = refl
+summed-cong s t step f g ss (suc n) i j h = rw (h 0 (omega arith)) (scaled-cong _ _ ss (suc n) 1 n (omega arith) h _)
+
 nearby-cong : (s t step : ℕ) (d e : ℕ → Float) (i j : ℕ) → d (i - s) ≡ e (j - t) → d (i + 1) ≡ e (j + 1) → d i ≡ e j → d (i - 1) ≡ e (j - 1) → d (i + s) ≡ e (j + t) → nearby s step d i ≡ nearby t step e j
 unfolding nearby
 nearby-cong s t zero d e i j a b c f g = rw (a, b, c, f, g) refl
@@ -135,17 +151,9 @@ module _ (step n : ℕ) (ss src : List Float) (v : View) (first apart vectors ro
 
   pub summed-stored : (r i : ℕ) → r < rows → i < 4 * vectors
       → summed 72 step (scaled n ss) (λ (c : ℕ) (p : ℕ). get_or now (c * 864 + p) nan) (72 + 1 + r * 72 + i) ≡ summed v.stride step (scaled n ss) (λ c. apart_by src (c * v.plane) apart) (first + r * v.stride + i)
-  unfolding summed
-  summed-stored r i l m = scaled-cong _ _ ss n 0 n (omega arith) (λ c q. nearby-cong 72 v.stride step _ _ (72 + 1 + r * 72 + i) (first + r * v.stride + i)
+  summed-stored r i l m = summed-cong 72 v.stride step _ _ ss n _ _ (λ c q. nearby-cong 72 v.stride step _ _ (72 + 1 + r * 72 + i) (first + r * v.stride + i)
       (stored c (i + 1) r _ _ q (omega arith) (omega arith) (omega arith) (omega arith))
       (stored c (i + 2) (r + 1) _ _ q (omega arith) (omega arith) (omega arith) (omega (arith, add-mul r 1 v.stride)))
       (stored c (i + 1) (r + 1) _ _ q (omega arith) (omega arith) (omega arith) (omega (arith, add-mul r 1 v.stride)))
       (stored c i (r + 1) _ _ q (omega arith) (omega arith) (omega arith) (omega (arith, add-mul r 1 v.stride)))
-      (stored c (i + 1) (r + 2) _ _ q (omega arith) (omega arith) (omega arith) (omega (arith, add-mul r 2 v.stride)))) b0
-
--- step 2 and later sum single differences
-pub summed-single : (across step : ℕ) (cs : List Scaled) (f : ℕ → ℕ → Float) (j : ℕ) → 1 < step → summed 1 2 cs f j ≡ summed across step cs f j
-unfolding summed nearby
-summed-single across zero cs f j l = absurd (omega arith)
-summed-single across (suc zero) cs f j l = absurd (omega arith)
-summed-single across (suc (suc s)) cs f j l = refl
+      (stored c (i + 1) (r + 2) _ _ q (omega arith) (omega arith) (omega arith) (omega (arith, add-mul r 2 v.stride))))

@@ -9,12 +9,13 @@ use borrow.Author.Tests.{le-ltb}
 use lib.ListN.{get_or}
 use lib.IntN.{pos, negsuc, ◌+ℤ◌, sub_ℕ, nat_abs}
 use lib.Ieee.{Float, nan, binary32}
+use lib.Ieee.Fits.{mul-fits}
 use Rattle.rounding.specs.Magnitude.{magnitude}
 use Rattle.rounding.specs.Zeros.{EqualOrZeros}
 use Rattle.rounding.proofs.MagnitudeLaws.{difference-swap}
-use Rattle.rounding.proofs.Zeros.{zeros-sym, zeros-trans, sums-alike, products-alike, parted-alike, zero-plus-magnitude}
+use Rattle.rounding.proofs.Zeros.{zeros-sym, zeros-trans, sums-alike, products-alike, parted-alike, zero-plus, zero-plus-magnitude}
 use Rattle.mirror.proofs.Offset.{offset-from, offset-sum}
-use Rattle.planes.specs.Samples.{◌⊕◌, ◌⊖◌, ◌⊗◌, b0}
+use Rattle.planes.specs.Samples.{◌⊕◌, ◌⊖◌, ◌⊗◌}
 use Rattle.planes.specs.Picture.{Around}
 use Rattle.epf_step.specs.Steps.{Offset, Scaled, dists, along, apart, distance}
 use Rattle.epf_distances.specs.declared.View.{View}
@@ -130,7 +131,7 @@ module _ (src : List Float) (v : View) (p c row col : ℕ) (high : 1 ≤ row) (r
       (backward src (c * v.plane) p _ by (row * v.stride + (col - 1)) (3 * v.stride + 3) (omega arith) (omega arith))
       (backward src (c * v.plane) p _ by ((row + 1) * v.stride + col) (4 * v.stride + 4) (omega (arith, more)) (omega (arith, more)))
 
--- ---- the distances of all channels
+-- ---- the distances of all channels: the definition's sum starts at 0, which the first channel's scaled sum is added to
 
 along-alike : (f g : Scaled → Float) → ((a : Scaled) → EqualOrZeros (f a) (g a)) → (l : List Scaled) (x y : Float) → EqualOrZeros x y
     → EqualOrZeros (along (λ (s : Float) (a : Scaled). s ⊕ a.1 ⊗ f a) x l) (along (λ (s : Float) (a : Scaled). s ⊕ a.1 ⊗ g a) y l)
@@ -141,5 +142,7 @@ along-alike f g h (a ∷ l) x y e = along-alike f g h l _ _ (sums-alike e (produ
 pub distance-alike : (src : List Float) (v : View) (step p j by : ℕ) (o : Offset) (cs : List Scaled)
     → ((c : ℕ) → EqualOrZeros (nearby v.stride step (apart_by src (c * v.plane) by) j) (apart (dists step) (seen src v p) c o))
     → EqualOrZeros (summed v.stride step cs (λ c. apart_by src (c * v.plane) by) j) (distance cs (dists step) (seen src v p) o)
-unfolding summed distance
-distance-alike src v step p j by o cs h = along-alike _ _ (λ a. h a.0) cs b0 b0 (inl refl)
+unfolding summed distance along
+distance-alike src v step p j by o [] h = inl refl
+distance-alike src v step p j by o (a ∷ cs) h =
+    along-alike _ _ (λ k. h k.0) cs _ _ (zeros-trans (products-alike a.1 (h a.0)) (zeros-sym (zero-plus _ (mul-fits binary32 a.1 _))))

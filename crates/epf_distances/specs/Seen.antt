@@ -1,6 +1,6 @@
 -- The differences that a distance sums, by indices of the samples. They are |differences| but for the sign of zeros (`spread`), and sums
 -- start at their first term, so a distance may be -0 where the definition of a step has 0; weights are the same. Definitions only.
-use Rattle.std.specs.Prelude.{List, ℕ, zero, suc, ◌+◌, ◌-◌, get_or, Float}
+use Rattle.std.specs.Prelude.{List, [], ◌∷◌, ℕ, zero, suc, ◌+◌, ◌-◌, get_or, Float}
 use Rattle.std.specs.Float.{nan}
 use Rattle.planes.specs.Samples.{◌⊕◌, ◌⊗◌, b0}
 use Rattle.epf_step.specs.Steps.{Scaled, along}
@@ -17,6 +17,7 @@ nearby across zero d j = d (j - across) ⊕ d (j + 1) ⊕ d j ⊕ d (j - 1) ⊕ 
 nearby across (suc zero) d j = d (j - across) ⊕ d j ⊕ d (j + across) ⊕ d (j - 1) ⊕ d (j + 1)
 nearby across (suc (suc s)) d j = d j
 
--- the distance at an index: f has the differences of each channel
+-- the distance at an index: f has the differences of each channel; the sum starts at the first channel's scaled sum
 unfoldable pub summed : ℕ → ℕ → List Scaled → (ℕ → ℕ → Float) → ℕ → Float
-summed across step cs f j = along (λ (s : Float) (c : Scaled). s ⊕ c.1 ⊗ nearby across step (f c.0) j) b0 cs
+summed across step [] f j = b0
+summed across step (c ∷ cs) f j = along (λ (s : Float) (k : Scaled). s ⊕ k.1 ⊗ nearby across step (f k.0) j) (c.1 ⊗ nearby across step (f c.0) j) cs

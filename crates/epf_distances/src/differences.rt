@@ -4,6 +4,7 @@ ghost use Rattle.std.specs.Prelude.{◌≡◌, ℕ, ◌+◌, ◌-◌, ◌*◌, �
 ghost use Rattle.planes.specs.Fill.{fill};
 ghost use Rattle.planes.specs.Rect.{rows_fill, planes_fill};
 ghost use Rattle.epf_sizes.specs.Sizes.{stride, difference_rows, difference_plane, differences_length};
+ghost use Rattle.epf_vectors.specs.Lanes.{lanes_of};
 ghost use Rattle.epf_distances.specs.Seen.{apart_by};
 
 use crate::View;
@@ -11,8 +12,20 @@ use epf_sizes::{DIFFERENCE_PLANE, DIFFERENCES, STRIDE};
 use epf_vectors::differences;
 use std::simd::prelude::*;
 
-// Differences between the samples from index p on and those `apart` after them.
+// Differences between the four samples from index p on and those `apart` after them.
 // Form: two runs of samples that overlap, at indices that differ by `apart`; a slice of each would hide that.
+pub(crate) fn four_apart(src: &[f32], p: usize, apart: usize) -> f32x4
+    requires { p + apart + 4 ≤ length src.now }
+    ensures { result ≡ lanes_of (λ (k : ℕ). apart_by src.now 0 apart (p + k)) }
+{
+    let to = p + apart;
+    let x = f32x4::from_slice(&src[to..to + 4]);
+    let y = f32x4::from_slice(&src[p..p + 4]);
+    differences(x, y)
+}
+
+// The same for a row of samples.
+// Form: as `four_apart`.
 #[tactic(auto, unfolding(planes::specs::Fill::fill))]
 fn difference_row(
     d: &mut [f32; DIFFERENCES],
@@ -27,16 +40,12 @@ fn difference_row(
 {
     for v in 0..vectors {
         let i = 4 * v;
-        let from = p + i;
-        let to = from + apart;
-        let x = f32x4::from_slice(&src[to..to + 4]);
-        let y = f32x4::from_slice(&src[from..from + 4]);
-        differences(x, y).copy_to_slice(&mut d[at + i..at + i + 4]);
+        four_apart(src, p + i, apart).copy_to_slice(&mut d[at + i..at + i + 4]);
     }
 }
 
 // The same for rows that start at index p of a plane and lie `across` apart.
-// Form: as `difference_row`.
+// Form: as `four_apart`.
 #[tactic(auto, unfolding(planes::specs::Rect::rows_fill))]
 fn difference_rows(
     d: &mut [f32; DIFFERENCES],
@@ -59,7 +68,7 @@ fn difference_rows(
 }
 
 // The same in each of N planes of a view; p counts from the plane's start.
-// Form: as `difference_row`.
+// Form: as `four_apart`.
 #[tactic(auto, unfolding(planes::specs::Rect::planes_fill))]
 pub(crate) fn difference_planes<const N: usize>(
     d: &mut [f32; DIFFERENCES],

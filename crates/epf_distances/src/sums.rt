@@ -11,8 +11,8 @@ ghost use Rattle.epf_vectors.specs.Lanes.{lanes_of};
 ghost use Rattle.epf_distances.specs.Seen.{apart_by, nearby, summed};
 
 use crate::View;
+use crate::differences::four_apart;
 use epf_sizes::{DIFFERENCE_PLANE, DIFFERENCES, FIELDS, STRIDE};
-use epf_vectors::differences;
 use planes::PLANES;
 use std::simd::prelude::*;
 
@@ -41,19 +41,20 @@ fn nearby<const STEP: usize>(d: &[f32; DIFFERENCES], j: usize) -> f32x4
     above + here + below + before + after
 }
 
-// The distances at indices j to j + 3 of the first plane of differences, over N planes.
-#[tactic(auto, unfolding(crate::specs::Seen::summed))]
+// The distances at indices j to j + 3 of the first plane of differences, over N planes. The sum starts at the first plane's
+// scaled sum, not at 0, which spares an addition.
 fn distance<const STEP: usize, const N: usize>(
     d: &[f32; DIFFERENCES],
     scales: &[f32; PLANES],
     j: usize,
 ) -> f32x4
-    requires { (STEP < 2) × (N ≤ 3) × (stride ≤ j) × (j + stride + 4 ≤ difference_plane) }
+    requires { (STEP < 2) × (1 ≤ N) × (N ≤ 3) × (stride ≤ j) × (j + stride + 4 ≤ difference_plane) }
     ensures { result ≡ lanes_of (λ (k : ℕ). summed stride STEP (scaled N scales.now)
         (λ (c : ℕ) (p : ℕ). get_or d.now (c * difference_plane + p) nan) (j + k)) }
 {
-    let mut sum = f32x4::splat(0.0);
-    for c in 0..N {
+    let first = nearby::<STEP>(d, j);
+    let mut sum = f32x4::splat(scales[0]) * first;
+    for c in 1..N {
         let scale = f32x4::splat(scales[c]);
         sum = sum + scale * nearby::<STEP>(d, c * DIFFERENCE_PLANE + j);
     }
@@ -70,7 +71,7 @@ fn sum_row<const STEP: usize, const N: usize>(
     j: usize,
     vectors: usize,
 )
-    requires { (STEP < 2) × (N ≤ 3) × (stride ≤ j) × (j + stride + 4 * vectors ≤ difference_plane)
+    requires { (STEP < 2) × (1 ≤ N) × (N ≤ 3) × (stride ≤ j) × (j + stride + 4 * vectors ≤ difference_plane)
         × (at + 4 * vectors ≤ fields_length) }
     ensures { fields.new ≡ fill fields.old at (4 * vectors) (λ (i : ℕ). summed stride STEP (scaled N scales.now)
         (λ (c : ℕ) (p : ℕ). get_or d.now (c * difference_plane + p) nan) (j + i)) }
@@ -92,7 +93,7 @@ pub(crate) fn sum_rows<const STEP: usize, const N: usize>(
     rows: usize,
     vectors: usize,
 )
-    requires { (STEP < 2) × (N ≤ 3) × (rows ≤ 10) × (4 * vectors + 4 ≤ stride)
+    requires { (STEP < 2) × (1 ≤ N) × (N ≤ 3) × (rows ≤ 10) × (4 * vectors + 4 ≤ stride)
         × (at + (rows - 1) * stride + 4 * vectors ≤ fields_length) }
     ensures { fields.new ≡ rows_fill fields.old at stride (4 * vectors) rows
         (λ (r : ℕ) (i : ℕ). summed stride STEP (scaled N scales.now)
@@ -104,8 +105,8 @@ pub(crate) fn sum_rows<const STEP: usize, const N: usize>(
     }
 }
 
-// The distances of step 2 at indices p to p + 3, which compare single samples, over N planes that lie `plane` apart.
-#[tactic(auto, unfolding(crate::specs::Seen::summed))]
+// The distances of step 2 at indices p to p + 3, which compare single samples, over N planes that lie `plane` apart. The sum
+// starts as in `distance`.
 fn single<const N: usize>(
     src: &[f32],
     plane: usize,
@@ -113,17 +114,15 @@ fn single<const N: usize>(
     p: usize,
     apart: usize,
 ) -> f32x4
-    requires { (N ≤ 3) × ((N - 1) * plane + p + apart + 4 ≤ length src.now) }
+    requires { (1 ≤ N) × (N ≤ 3) × ((N - 1) * plane + p + apart + 4 ≤ length src.now) }
     ensures { result ≡ lanes_of (λ (k : ℕ). summed 1 2 (scaled N scales.now)
         (λ (c : ℕ). apart_by src.now (c * plane) apart) (p + k)) }
 {
-    let mut sum = f32x4::splat(0.0);
-    for c in 0..N {
-        let from = c * plane + p;
-        let to = from + apart;
-        let x = f32x4::from_slice(&src[to..to + 4]);
-        let y = f32x4::from_slice(&src[from..from + 4]);
-        sum = sum + f32x4::splat(scales[c]) * differences(x, y);
+    let first = four_apart(src, p, apart);
+    let mut sum = f32x4::splat(scales[0]) * first;
+    for c in 1..N {
+        let scale = f32x4::splat(scales[c]);
+        sum = sum + scale * four_apart(src, c * plane + p, apart);
     }
     sum
 }
@@ -141,7 +140,7 @@ fn single_row<const N: usize>(
     apart: usize,
     vectors: usize,
 )
-    requires { (N ≤ 3) × ((N - 1) * plane + p + apart + 4 * vectors ≤ length src.now)
+    requires { (1 ≤ N) × (N ≤ 3) × ((N - 1) * plane + p + apart + 4 * vectors ≤ length src.now)
         × (at + 4 * vectors ≤ fields_length) }
     ensures { fields.new ≡ fill fields.old at (4 * vectors) (λ (i : ℕ). summed 1 2 (scaled N scales.now)
         (λ (c : ℕ). apart_by src.now (c * plane) apart) (p + i)) }
@@ -167,7 +166,7 @@ pub(crate) fn single_rows<const N: usize>(
     rows: usize,
     vectors: usize,
 )
-    requires { (N ≤ 3) × ((N - 1) * v.plane + p + (rows - 1) * v.stride + apart + 4 * vectors ≤ length src.now)
+    requires { (1 ≤ N) × (N ≤ 3) × ((N - 1) * v.plane + p + (rows - 1) * v.stride + apart + 4 * vectors ≤ length src.now)
         × (at + (rows - 1) * stride + 4 * vectors ≤ fields_length) }
     ensures { fields.new ≡ rows_fill fields.old at stride (4 * vectors) rows
         (λ (r : ℕ) (i : ℕ). summed 1 2 (scaled N scales.now)

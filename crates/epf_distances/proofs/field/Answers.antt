@@ -16,7 +16,8 @@ single_rows-requires g c =
     let f = c.requires.0 in
     let near : Near c.pair-k.result = rw c.pair-k.ensures (pair-near g.row.STEP c.args.h) in
     let vectors : c.div_ceil-vectors.result ≡ field_vectors c.args.cols c.pair-k.result = vectors-is c.pair-k.result c.args.cols _ _ c.abs_diff.ensures c.div_ceil-vectors.ensures in (
-      omega (arith, f.planes-le),
+      f.planes-pos,
+      f.planes-le,
       rw (c.apart_in-apart.ensures, vectors) (room-single c.args.v g.row.N c.args.rows c.args.cols (length c.args.src.now) f c.pair-k.result near),
       rw vectors (room-field c.args.v g.row.N c.args.rows c.args.cols (length c.args.src.now) f c.pair-k.result near c.args.h (omega (arith, c.requires.1, half_le g.row.STEP))),
     )

@@ -1,23 +1,27 @@
-use mathlib.Core.Path.{refl, ◌∙◌}
-use Prim.Native.Nat.{ℕ, ◌+◌, ◌-◌, ◌*◌, ◌≤◌}
+use Prim.Native.Nat.{◌+◌, ◌-◌, ◌*◌, ◌≤◌}
 use native.Mathlib.Nat.{mul-le-mul_right}
 use native.Mathlib.Omega.{arith}
-use Rattle.epf_distances.specs.Seen.{apart_by, nearby}
-use Rattle.epf_distances.proofs.Lanes.{lanes-none, lanes-more, lanes-differences, lanes-all, summed-more}
+use Rattle.epf_distances.specs.Seen.{nearby}
+use Rattle.epf_distances.proofs.Lanes.{lanes-first, lanes-more, lanes-all, apart-from}
 use Rattle.epf_distances.proofs.sums.single.Goals as goal
 
 pub loop-c-init : goal.loop-c-init
-loop-c-init g c = (omega arith, lanes-none 1 2 c.args.scales.now _ c.args.p)
+unfolding nearby
+loop-c-init g c = (omega arith, c.requires.0, lanes-first 1 2 c.args.scales.now _ _ _ c.args.p c.four_apart-first.ensures (λ k. apart-from c.args.src.now (0 * c.args.plane) c.args.apart (c.args.p + k) (c.args.p + k) (omega arith)))
+
+pub four_apart-requires : goal.four_apart-requires
+four_apart-requires g c =
+    let before : c.loop-c.c ≤ g.row.N - 1 = omega (arith, c.loop-c-test.true) in
+    omega (arith, c.requires, mul-le-mul_right c.args.plane before)
 
 pub loop-c-preserved : goal.loop-c-preserved
 unfolding nearby
 loop-c-preserved g c =
-    let before : c.loop-c.c ≤ g.row.N - 1 = omega (arith, c.loop-c-test.true) in (
+    let i = c.loop-c.invariant in (
       omega arith,
-      lanes-more c.loop-c.sum _ _ _ _ _ c.loop-c.invariant.1
-          (c.differences.ensures ∙ lanes-differences c.args.src.now _ _ (c.loop-c.c * c.args.plane) c.args.p c.args.apart _ refl refl (omega (arith, c.requires.1, c.loop-c-test.true, mul-le-mul_right c.args.plane before)) (λ k. refl))
-          (λ k. summed-more 1 2 c.args.scales.now (λ (c' : ℕ). apart_by c.args.src.now (c' * c.args.plane) c.args.apart) c.loop-c.c (c.args.p + k)),
+      omega arith,
+      lanes-more 1 2 c.args.scales.now _ c.loop-c.c _ _ _ c.args.p i.0 i.2 c.four_apart.ensures (λ k. apart-from c.args.src.now (c.loop-c.c * c.args.plane) c.args.apart (c.args.p + k) (c.loop-c.c * c.args.plane + c.args.p + k) (omega arith)),
     )
 
 pub returns : goal.returns
-returns g c = lanes-all 1 2 c.args.scales.now _ _ _ c.args.p _ c.loop-c.invariant.1 c.loop-c.invariant.0 (omega (arith, c.loop-c-test.false))
+returns g c = lanes-all 1 2 c.args.scales.now _ _ _ c.args.p _ c.loop-c.invariant.2 c.loop-c.invariant.1 (omega (arith, c.loop-c-test.false))
