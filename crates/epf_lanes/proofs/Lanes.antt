@@ -10,9 +10,7 @@ use lib.ListN.{length, get_or}
 use lib.Ieee.{Float, nan}
 use Rattle.planes.specs.declared.Layout.{Layout}
 use Rattle.planes.specs.Samples.{◌⊕◌, ◌⊗◌, ◌⊘◌, b1}
-use Rattle.planes.specs.Picture.{Picture}
-use Rattle.planes.specs.Fill.{fill}
-use Rattle.planes.specs.Rect.{rows_fill, planes_fill}
+use Rattle.planes.specs.Rect.{planes_fill}
 use Rattle.planes.proofs.Join.{rect-below, rect-beside}
 use Rattle.epf_rects.specs.declared.Rect.{Rect}
 use Rattle.epf_rects.specs.Rects.{rect_filled, RectFits}

@@ -1,5 +1,5 @@
 -- What the loops over a tile's lanes compute from fields, slopes and samples, one neighbour at a time. Definitions only.
-use Rattle.std.specs.Prelude.{◌≡◌, Bool, cond, not, ◌&&◌, ◌||◌, List, ℕ, zero, suc, ◌+◌, ◌*◌, ◌<◌, ◌≤◌, eqb, length, get_or, Float}
+use Rattle.std.specs.Prelude.{◌≡◌, Bool, cond, not, ◌&&◌, ◌||◌, List, ℕ, zero, suc, ◌+◌, ◌*◌, eqb, length, get_or, Float}
 use Rattle.std.specs.Float.{nan}
 use Rattle.std.specs.Simd.Lanes.{zip2}
 use Rattle.planes.specs.declared.Layout.{Layout}
@@ -8,12 +8,12 @@ use Rattle.planes.specs.Picture.{Picture}
 use Rattle.epf_rects.specs.declared.Rect.{Rect}
 use Rattle.epf_rects.specs.Rects.{rect_filled, rect_fits, RectFits}
 use Rattle.epf_step.specs.Steps.{kernel, weight_by}
-use Rattle.epf_slopes.specs.Slopes.{slope_columns, first_slope}
+use Rattle.epf_slopes.specs.Slopes.{first_slope}
 use Rattle.epf_distances.specs.declared.View.{View}
 use Rattle.epf_distances.specs.Taps.{tap_of}
 use Rattle.epf_distances.specs.Fields.{view_fits, ViewFits}
 use Rattle.epf_vectors.specs.Lanes.{lanes_of}
-use Rattle.epf_sizes.specs.Sizes.{lanes, tile_rows, stride, window_plane, margin_rows, margin_columns}
+use Rattle.epf_sizes.specs.Sizes.{stride, window_plane, margin_rows, margin_columns}
 use Rattle.epf_lanes.specs.declared.Four.{Four}
 use Rattle.epf_lanes.specs.declared.LaneWeights.{LaneWeights}
 

@@ -1,15 +1,14 @@
 -- Strips make rows of the filter region. Assumes nothing.
 use mathlib.Core.Path.{◌≡◌, refl, ◌∙◌}
 use mathlib.Core.List.{List}
-use Prim.Native.Nat.{ℕ, zero, suc, ◌+◌, ◌-◌, ◌*◌, ◌≤◌}
+use Prim.Native.Nat.{ℕ, ◌+◌, ◌-◌, ◌*◌, ◌≤◌}
 use native.Mathlib.Omega.{arith}
 use borrow.Author.Tests.{le-leb, lt-ltb, eq-eqb}
 use lib.ListN.{length}
 use lib.Ieee.{Float}
 use Rattle.planes.specs.declared.Layout.{Layout}
 use Rattle.planes.specs.Picture.{Picture}
-use Rattle.planes.specs.Fill.{fill}
-use Rattle.planes.specs.Rect.{rows_fill, planes_fill}
+use Rattle.planes.specs.Rect.{planes_fill}
 use Rattle.planes.proofs.Rect.{rows-none}
 use Rattle.planes.proofs.Join.{rect-below}
 use Rattle.planes.specs.Fits.{LayoutFits}
