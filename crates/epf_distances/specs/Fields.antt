@@ -38,11 +38,11 @@ differences_fill step n src v rows cols d (suc h) = field_differences n src v ro
 
 -- ---- what `distances` leaves
 
--- no index is as large as this
+-- a view with a larger distance of planes or rows, or a larger corner, is refused, so that positions do not overflow
 abbrev pub max_index : ℕ
 max_index = 4294967296
 
--- past every sample that is read: 3 rows below the tile and 12 columns right of it, from the last plane's corner on
+-- past every sample that is read, in the last plane: 3 rows below the tile's last one, 8 columns right of it
 abbrev pub view_end : View → ℕ → ℕ → ℕ → ℕ
 view_end v n rows cols = (n - 1) * v.plane + v.corner + (rows + 5) * v.stride + cols + 12
 

@@ -22,12 +22,12 @@ use crate::taps::{half, pair};
 use epf_sizes::{DIFFERENCES, FIELD_PLANE, FIELDS, LANES, MARGIN_ROWS, STRIDE, TILE_ROWS};
 use planes::PLANES;
 
-// No index is as large as this, so positions do not overflow.
+// Larger distances of planes or rows, and larger corners, are refused, so that positions do not overflow.
 const MAX_INDEX: usize = 4_294_967_296;
 
 // Where a tile's samples are read: planes that lie `plane` apart and rows that lie `stride` apart. `corner` is the index
 // of the sample 3 rows above the tile's first one and 4 columns left of it.
-// Form: `InnerRow` of `gabor_plane`, `Pair` and `Tap` have three numbers by chance; so has each of them.
+// Form: other structs of three numbers (`InnerRow` of `gabor_plane`, `Pair`, `Tap`) are like it by chance.
 #[derive(Clone, Copy, Debug, PartialEq, Eq)]
 pub struct View {
     pub plane: usize,
@@ -56,7 +56,7 @@ pub struct Tap {
 }
 
 impl View {
-    // Whether all samples that a tile of so many rows and columns in n planes needs lie below `len`.
+    // Whether a tile may have so many rows and columns in n planes, and all samples that it needs lie below `len`.
     // Form: no sample is read, so the test takes a length alone, as `set_fits` does.
     pub fn fits(self, n: usize, rows: usize, cols: usize, len: usize) -> bool
         ensures { result ≡ view_fits self n rows cols len }

@@ -18,7 +18,7 @@ use Rattle.epf_distances.specs.Taps.{tap_of}
 use Rattle.epf_distances.proofs.TapLaws.{row-le}
 use Rattle.epf_distances.specs.Fields.{view_fits, ViewFits}
 use Rattle.epf_distances.proofs.Fields.{view-fits}
-use Rattle.epf_lanes.specs.Lanes.{reads_windows, TileFits}
+use Rattle.epf_lanes.specs.Lanes.{reads_windows, LanesFit}
 
 -- the rows from a corner down to a neighbour's sample
 pub rows-across : (step q across : ℕ) → q < length (kernel step) → (tap_of step q).row * across ≤ 5 * across
@@ -41,12 +41,12 @@ served step v n rows cols len e =
     (view-fits v n rows cols len (and_first view windows e), windows-facts step v (and_second view windows e))
 
 -- `filter_tile` has the number of planes as k
-pub tile-fits : (step : ℕ) (l : Layout) (n k : ℕ) (q : Rect) (v : View) (dst src : ℕ) → rect_fits l n q dst ≡ true → ViewFits v n q.rows q.cols src × (step ≡ 0 → (v.plane ≡ 1008) × (v.stride ≡ 72)) → n ≡ k
-    → TileFits step l k q v dst src
-tile-fits step l n k q v dst src e f z = rw (← z) (record { room = rect-facts l n q dst e; view = f.0; windows = f.1 })
+pub lanes-fit : (step : ℕ) (l : Layout) (n k : ℕ) (q : Rect) (v : View) (dst src : ℕ) → rect_fits l n q dst ≡ true → ViewFits v n q.rows q.cols src × (step ≡ 0 → (v.plane ≡ 1008) × (v.stride ≡ 72)) → n ≡ k
+    → LanesFit step l k q v dst src
+lanes-fit step l n k q v dst src e f z = rw (← z) (record { room = rect-facts l n q dst e; view = f.0; windows = f.1 })
 
 -- ---- a vector: it ends in its plane of the set
-pub vector-end : (step : ℕ) (l : Layout) (n : ℕ) (q : Rect) (v : View) (r i c dst src : ℕ) → TileFits step l n q v dst src → r < q.rows → i < q.cols → c < n
+pub vector-end : (step : ℕ) (l : Layout) (n : ℕ) (q : Rect) (v : View) (r i c dst src : ℕ) → LanesFit step l n q v dst src → r < q.rows → i < q.cols → c < n
     → c * (l.image.height * l.image.width) + ((l.top + q.y + r) * l.image.width + (l.left + q.x + i)) + min (q.cols - i) 4 ≤ dst
 vector-end step l n q v r i c dst src f R I C =
     let t = l.top + q.y + r in

@@ -113,7 +113,7 @@ mix_of step src across p w =
 
 -- ---- rows and tiles
 
--- the lanes of row r, whose slopes start at index `first`: sample i of plane c
+-- the lanes of row r, whose slopes start at index `first`: sample i of plane c, as a picture of which each row is that one
 abbrev pub row_of : ℕ → List Float → List Float → List Float → View → ℕ → ℕ → Picture
 row_of step e slopes src v first r = λ c i y. lane_of step e slopes src v first c i r
 
@@ -121,7 +121,7 @@ row_of step e slopes src v first r = λ c i y. lane_of step e slopes src v first
 abbrev pub tile_of : ℕ → List Float → List Float → List Float → View → ℕ → Picture
 tile_of step e slopes src v top = λ c i r. lane_of step e slopes src v (first_slope (top + r)) c i r
 
--- step 0 reads windows alone
+-- planes and rows lie as far apart as in windows; step 0 takes no other view
 abbrev pub reads_windows : View → Bool
 reads_windows v = eqb v.plane window_plane && eqb v.stride stride
 
@@ -137,7 +137,7 @@ abbrev pub past_lanes : ℕ
 past_lanes = 568
 
 -- a rectangle of n planes, and the view that it is read by
-pub record TileFits (step : ℕ) (l : Layout) (n : ℕ) (q : Rect) (v : View) (dst src : ℕ) : Type 0 where
+pub record LanesFit (step : ℕ) (l : Layout) (n : ℕ) (q : Rect) (v : View) (dst src : ℕ) : Type 0 where
   pub room : RectFits l n q dst
   pub view : ViewFits v n q.rows q.cols src
   pub windows : step ≡ 0 → (v.plane ≡ window_plane) × (v.stride ≡ stride)

@@ -1,13 +1,13 @@
 // The rows of a tile, stored in the target's planes, by vectors of four lanes; of a row's last vector, the lanes inside the
-// row are stored. All planes of a vector go together, since they share its weights. Each loop has one call, so that it is
-// inlined where its step and number of planes are literals.
+// row are stored. All planes of a vector go together, since they share its weights. A function with a loop is called once for
+// each step and number of planes, so it is inlined with these as literals.
 // Form: the tile's arrays stay side by side in this file: with a struct of them each clause would name `tile.entry.fields.now` for
 // `fields.now`.
 ghost use Rattle.std.specs.Prelude.{◌≡◌, ℕ, ◌+◌, ◌-◌, ◌*◌, ◌%◌, ◌<◌, ◌≤◌, length, take, min};
 ghost use Rattle.planes.specs.Rect.{planes_fill};
 ghost use Rattle.epf_rects.specs.Rects.{rect_filled};
 ghost use Rattle.epf_slopes.specs.Slopes.{slope_columns};
-ghost use Rattle.epf_lanes.specs.Lanes.{row_of, tile_of, TileFits};
+ghost use Rattle.epf_lanes.specs.Lanes.{row_of, tile_of, LanesFit};
 
 use crate::weights::{mix, weights};
 use epf_distances::View;
@@ -45,7 +45,7 @@ fn vector<const STEP: usize, const N: usize>(
     r: usize,
     i: usize,
 )
-    requires { TileFits STEP l N rect v (length dst.old) (length src.now) × (first ≤ slope_columns)
+    requires { LanesFit STEP l N rect v (length dst.old) (length src.now) × (first ≤ slope_columns)
         × (r < rect.rows) × (i < rect.cols) × (i % 4 ≡ 0) }
     ensures { dst.new ≡ planes_fill l.image.width l.image.height (l.left + rect.x + i) (min (rect.cols - i) 4)
         (l.top + rect.y + r) 1
@@ -76,7 +76,7 @@ fn row<const STEP: usize, const N: usize>(
     first: usize,
     r: usize,
 )
-    requires { TileFits STEP l N rect v (length dst.old) (length src.now) × (first ≤ slope_columns)
+    requires { LanesFit STEP l N rect v (length dst.old) (length src.now) × (first ≤ slope_columns)
         × (r < rect.rows) }
     ensures { dst.new ≡ planes_fill l.image.width l.image.height (l.left + rect.x) rect.cols (l.top + rect.y + r) 1
         (row_of STEP fields.now slopes.now src.now v first r) dst.old N }
@@ -97,7 +97,7 @@ fn rows<const STEP: usize, const N: usize>(
     v: View,
     top: usize,
 )
-    requires { TileFits STEP l N rect v (length dst.old) (length src.now) }
+    requires { LanesFit STEP l N rect v (length dst.old) (length src.now) }
     ensures { dst.new ≡ rect_filled l N rect (tile_of STEP fields.now slopes.now src.now v top) dst.old }
 {
     let offset = top % BLOCK;
@@ -120,7 +120,7 @@ pub(crate) fn filter_planes<const N: usize>(
     step: usize,
     top: usize,
 )
-    requires { TileFits step l N rect v (length dst.old) (length src.now) }
+    requires { LanesFit step l N rect v (length dst.old) (length src.now) }
     ensures { dst.new ≡ rect_filled l N rect (tile_of step fields.now slopes.now src.now v top) dst.old }
 {
     if step == 0 {

@@ -40,7 +40,7 @@ field_plane = 720
 abbrev pub fields_length : ℕ
 fields_length = 4320
 
--- the rows of a plane of differences, its length, and that of three planes
+-- the rows of a plane of differences (those of a field, one above and one below), its length, and that of three planes
 abbrev pub difference_rows : ℕ
 difference_rows = 12
 

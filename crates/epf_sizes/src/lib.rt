@@ -1,9 +1,9 @@
 // Sizes of a tile and of the arrays computed for it: windows and fields of distances. specs/Sizes.antt has the same
 // numbers for contracts.
 
-// The largest number of columns of a tile, and of rows.
 #![tactic(auto)]
 
+// The largest number of columns of a tile, and of rows.
 pub const LANES: usize = 64;
 
 pub const TILE_ROWS: usize = 8;
@@ -28,9 +28,7 @@ pub const FIELD_PLANE: usize = 720;
 
 pub const FIELDS: usize = 4320;
 
-// Differences have 12 rows: two above the rows of a field's tile, or one above and one below. There are three planes of them.
-pub const DIFFERENCE_ROWS: usize = 12;
-
+// A plane of differences has 12 rows: those of a field, one above and one below. There are three planes.
 pub const DIFFERENCE_PLANE: usize = 864;
 
 pub const DIFFERENCES: usize = 2592;

@@ -71,10 +71,3 @@ slope-of sigmas slopes first blocks scale edge row i s h = go (border row) refl
 pub first-same : (k top r : ℕ) → k ≡ first_slope (top % 8 + r) → k ≡ first_slope (top + r)
 unfolding border
 first-same k top r e = let z : (top % 8 + r) % 8 ≡ (top + r) % 8 = omega arith in e ∙ rw z
-
-pub first_small : (k row : ℕ) → k ≡ first_slope row → k ≤ 64
-first_small k row e = rw e (go (border row))
-  where
-    go : (b : Bool) → cond b 64 0 ≤ 64
-    go true = omega arith
-    go false = omega arith

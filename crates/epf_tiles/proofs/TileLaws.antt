@@ -33,7 +33,7 @@ use Rattle.epf_lanes.proofs.Meaning.{lane-means}
 use Rattle.epf_tiles.specs.declared.Pass.{Pass}
 use Rattle.epf_tiles.specs.declared.Step.{Step}
 use Rattle.epf_tiles.specs.Blocks.{block_columns, sigma_of}
-use Rattle.epf_tiles.specs.Tile.{step_over, TileFits, TileInPass, sigma_start, sigma_first, sigma_in, NoneCopied, tile_stepped, FilteredBy}
+use Rattle.epf_tiles.specs.Tile.{step_over, TileFits, TileInPass, sigma_start, sigma_first, sigma_in, NoneCopied, tile_stepped}
 use Rattle.epf_tiles.specs.Views.{lies_inside, window_view, planes_view}
 use Rattle.epf_tiles.proofs.ViewLaws.{windows-alike, planes-alike, inside-facts, planes-fit, window-fits}
 
@@ -91,6 +91,11 @@ module _ (l : Layout) (n : ℕ) (s : Step) (top : ℕ) (sigmas src : List Float)
         ∙ reader-is (seen samples v (v.corner + r * v.stride + i)) c r i low C R I uncopied (alike r i R I)
 
 -- ---- how a tile is computed
+
+-- a tile computed with these slopes holds the step's samples, for any sigmas that have these slopes and copy no block of it
+abbrev pub FilteredBy : Pass → List Float → List Float → Rect → List Float → List Float → Type 0
+FilteredBy p slopes src q d a = (sigmas : List Float) → Sloped sigmas (sigma_first p.layout q) (blocks_along q.cols) p.settings.scale p.settings.edge slopes → NoneCopied p sigmas q → a ≡ tile_stepped p q sigmas src d
+
 module _ (p : Pass) (src : List Float) (q : Rect) (d : List Float) (fit : TileInPass p q (length src) (length d)) where
   abbrev l : Layout
   l = p.layout

@@ -44,11 +44,11 @@ rows_stepped p y rows sigmas src d =
 abbrev pub block_copied : Pass → List Float → ℕ → ℕ → Bool
 block_copied p sigmas y b = copied (get_or sigmas (y / block_side * block_columns p.layout + b) nan) p.settings.limit
 
--- blocks from up to to are all copied, or all filtered
+-- blocks `from` up to `to` are all copied, or all filtered
 abbrev pub AllOfKind : Pass → List Float → ℕ → Bool → ℕ → ℕ → Type 0
 AllOfKind p sigmas y kind from to = (b : ℕ) → from ≤ b → b < to → block_copied p sigmas y b ≡ kind
 
--- the longest run of such blocks that starts at block from ends at to
+-- the longest run of such blocks that starts at block `from` ends at `to`
 pub record RunEnd (p : Pass) (sigmas : List Float) (y : ℕ) (kind : Bool) (from to : ℕ) : Type 0 where
   pub order : from ≤ to
   pub within : to ≤ block_columns p.layout
@@ -68,7 +68,7 @@ abbrev pub columns_stepped : Pass → ℕ → ℕ → ℕ → ℕ → List Float
 columns_stepped p y rows u v sigmas src d =
     rect_filled p.layout p.planes (record { x = u; y = y; rows = rows; cols = v - u }) (λ c i r. pass_over p sigmas src c (u + i) (y + r)) d
 
--- the same of blocks from up to to
+-- the same of blocks `from` up to `to`
 abbrev pub blocks_stepped : Pass → ℕ → ℕ → ℕ → ℕ → List Float → List Float → List Float → List Float
 blocks_stepped p y rows from to = columns_stepped p y rows (block_start p.layout from) (block_start p.layout to)
 

@@ -7,7 +7,6 @@ use Rattle.planes.specs.Band.{inner}
 use Rattle.frame.specs.Sizes.{blocks_along}
 use Rattle.epf_rects.specs.declared.Rect.{Rect}
 use Rattle.epf_rects.specs.Rects.{rect_filled, RectFits}
-use Rattle.epf_slopes.specs.Slopes.{Sloped}
 use Rattle.epf_step.specs.Steps.{scaled, copied, EpfPass, epf_pass}
 use Rattle.epf_tiles.specs.declared.Pass.{Pass}
 use Rattle.epf_tiles.specs.declared.Step.{Step}
@@ -72,7 +71,3 @@ NoneCopied p sigmas q = (b : ℕ) → b < blocks_along q.cols → copied (get_or
 -- the set with a rectangle's samples of the step
 abbrev pub tile_stepped : Pass → Rect → List Float → List Float → List Float → List Float
 tile_stepped p q sigmas src d = rect_filled p.layout p.planes q (λ c i r. pass_over p sigmas src c (q.x + i) (q.y + r)) d
-
--- a tile computed with these slopes holds the step's samples, for any sigmas that have these slopes and copy no block of it
-abbrev pub FilteredBy : Pass → List Float → List Float → Rect → List Float → List Float → Type 0
-FilteredBy p slopes src q d a = (sigmas : List Float) → Sloped sigmas (sigma_first p.layout q) (blocks_along q.cols) p.settings.scale p.settings.edge slopes → NoneCopied p sigmas q → a ≡ tile_stepped p q sigmas src d

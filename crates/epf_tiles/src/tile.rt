@@ -35,8 +35,7 @@ fn first_sigma(l: Layout, rect: Rect) -> usize
     row * across + rect.x / BLOCK
 }
 
-// Loads the windows of a tile: the rows and columns that its step reads.
-// Form: `TileInPass` is about a pass, a rectangle and the lengths of two borrowed sets, so no one parameter can hold it.
+// Loads the windows of a tile: the rows that its step reads, and four columns on both sides.
 fn load_windows(win: &mut [f32; WINDOWS], src: &[f32], pass: Pass, rect: Rect)
     requires { (rect.rows ≤ tile_rows) × (rect.cols ≤ lanes) × (pass.settings.step < 3) }
     ensures { win.new ≡ loaded pass.layout pass.planes src.now rect.x rect.y pass.settings.step
@@ -114,7 +113,7 @@ pub(crate) fn tile(
     let first = first_sigma(l, rect);
     let blocks = blocks_of(rect.cols);
     tile_slopes(&mut arrays.slopes, sigmas, first, blocks, s.scale, s.edge);
-    // Step 0 reads 15 rows; in planes whose rows are a power of two apart, these share a few lines of the cache.
+    // Step 0 reads five rows of each plane for a row of lanes; where rows lie a power of two apart, these share a few sets of the cache.
     if s.step != 0 && lies_inside(l, rect) {
         let v = planes_view(l, rect);
         filter_view(

@@ -23,7 +23,8 @@ pub(crate) fn window_view() -> View
     }
 }
 
-// Whether a rectangle has samples of the filter region on every side, as many as a step reads.
+// Whether a rectangle has samples of the filter region on every side: as many as step 0 reads, and on its right what whole
+// vectors read past its last column.
 pub(crate) fn lies_inside(l: Layout, rect: Rect) -> bool
     ensures { result ≡ lies_inside l rect }
 {

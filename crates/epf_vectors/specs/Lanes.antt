@@ -5,6 +5,7 @@ use Rattle.rounding.specs.Zeros.{parted}
 use Rattle.planes.specs.Samples.{◌⊖◌}
 use Rattle.epf_step.specs.Steps.{weight_by}
 
+-- f 0 to f 3
 abbrev pub lanes_of : (ℕ → Float) → List Float
 lanes_of f = f 0 ∷ f 1 ∷ f 2 ∷ f 3 ∷ []
 
@@ -12,6 +13,7 @@ lanes_of f = f 0 ∷ f 1 ∷ f 2 ∷ f 3 ∷ []
 abbrev pub spread : Float → Float → Float
 spread x y = parted (x ⊖ y)
 
+-- the same of two vectors, lane by lane
 abbrev pub lanes_apart : List Float → List Float → List Float
 lanes_apart xs ys = zip2 (λ x y. spread x y) xs ys
 

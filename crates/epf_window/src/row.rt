@@ -1,5 +1,5 @@
 // Loads a row of a window from a row of a plane.
-ghost use Rattle.std.specs.Prelude.{◌≡◌, ℕ, ◌+◌, ◌<◌, ◌≤◌, length};
+ghost use Rattle.std.specs.Prelude.{◌≡◌, ◌+◌, ◌<◌, ◌≤◌, length};
 ghost use Rattle.planes.specs.Fill.{fill};
 ghost use Rattle.epf_sizes.specs.Sizes.{windows_length};
 ghost use Rattle.epf_window.specs.Window.{row_sample, RowFits};

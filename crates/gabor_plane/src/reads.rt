@@ -53,7 +53,7 @@ pub(crate) trait Row: Copy {
 }
 
 // An inner row. An end of it is computed like an inner column whose missing neighbour is the end sample.
-// Form: where three rows start; `View` of `epf_distances`, of planes, has three numbers by chance.
+// Form: where three rows start; `View` of `epf_distances` has three numbers by chance.
 #[derive(Clone, Copy)]
 pub(crate) struct InnerRow {
     pub above: usize,

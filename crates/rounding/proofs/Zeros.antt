@@ -17,9 +17,6 @@ use Rattle.rounding.specs.Zeros.{Zero, EqualOrZeros, parted}
 
 -- ---- an equivalence
 
-pub zeros-refl : (x : Float) → EqualOrZeros x x
-zeros-refl x = inl refl
-
 pub zeros-sym : {x y : Float} → EqualOrZeros x y → EqualOrZeros y x
 zeros-sym (inl p) = inl (sym p)
 zeros-sym (inr z) = inr (z.1, z.0)

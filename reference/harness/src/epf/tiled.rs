@@ -94,7 +94,7 @@ pub fn band_height(rows: u32, random: &mut Random) -> u32 {
 }
 
 /// One sigma per block, often that of the previous block, so that all, some or none of the blocks of a
-/// tile are copied.
+/// strip are copied, in runs of any length.
 fn sigmas(filter: oracle::Region, random: &mut Random) -> Vec<f32> {
     let apart = random.one_of(&[1, 2, 8]);
     let mut last = sigma(random);
