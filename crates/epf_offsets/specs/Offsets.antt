@@ -1,20 +1,20 @@
--- The lists of offsets as bytes, one for each pair (Specification 11.2, 11.3). The low half of a byte has the columns to the right plus 4, the high half the rows down plus 3.
--- They are the lists of a step's definition: proofs/Offsets.antt proves the statements.
+-- The lists of offsets with a byte for each offset (Specification 11.2, 11.3): the low half has the columns to the right plus 4, the high half the rows down plus 3.
+-- proofs/Offsets.antt proves the statements: they are the lists of a step's definition.
 use Rattle.std.specs.Prelude.{◌≡◌, List, [], ◌∷◌, map, ℕ, zero, suc, ◌/◌, ◌%◌, get_or, pos, ◌-ℤ◌}
 use Rattle.epf_step.specs.Steps.{Offset, kernel, dists}
 use Rattle.epf_offsets.specs.declared.Place.{Place}
 
 -- ---- a byte
 
--- the offset that a byte says
-abbrev pub unpacked : ℕ → Offset
-unpacked b = (pos (b % 16) -ℤ pos 4, pos (b / 16) -ℤ pos 3)
-
--- its halves: the row and the column of that sample, counted from 3 rows above the centre and 4 columns left of it
+-- its halves: the row and the column of a sample, counted from 3 rows above the filtered one and 4 columns left of it
 abbrev pub place_of : ℕ → Place
 place_of b = record { row = b / 16; col = b % 16 }
 
--- the centre
+-- the offset of that sample
+abbrev pub unpacked : ℕ → Offset
+unpacked b = (pos (place_of b).col -ℤ pos 4, pos (place_of b).row -ℤ pos 3)
+
+-- the filtered sample itself
 abbrev pub centre : ℕ
 centre = 0x34
 
