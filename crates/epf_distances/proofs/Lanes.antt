@@ -1,7 +1,7 @@
 -- Four lanes of differences, and of distances from the first channel to the last. Assumes nothing.
-use mathlib.Core.Path.{◌≡◌, refl}
+use mathlib.Core.Path.{◌≡◌, refl, ◌∙◌}
 use mathlib.Core.List.{List}
-use Prim.Native.Nat.{ℕ, zero, suc, ◌+◌, ◌-◌, ◌*◌, ◌≤◌}
+use Prim.Native.Nat.{ℕ, zero, suc, ◌+◌, ◌-◌, ◌*◌, ◌<◌, ◌≤◌}
 use native.Mathlib.Nat.{add_assoc}
 use native.Mathlib.Numerals.{add-one}
 use native.Mathlib.Omega.{arith}
@@ -12,7 +12,9 @@ use Rattle.planes.specs.Samples.{◌⊕◌, ◌⊗◌}
 use Rattle.epf_step.specs.Steps.{Scaled, along, scaled_from, scaled}
 use Rattle.epf_vectors.specs.Lanes.{lanes_of, lanes_apart, spread}
 use Rattle.epf_vectors.proofs.Rows.{loaded}
-use Rattle.epf_distances.specs.Seen.{apart_by, nearby, summed}
+use Rattle.epf_offsets.specs.declared.Place.{Place}
+use Rattle.epf_offsets.specs.Offsets.{compared_place}
+use Rattle.epf_distances.specs.Seen.{apart_by, place_index, nearby, summed}
 use Rattle.epf_distances.proofs.Fields.{along-channel}
 
 -- lanes of differences between the samples from index p on and those `apart` after them
@@ -64,6 +66,58 @@ module _ (across step : ℕ) (ss : List Float) (f : ℕ → ℕ → Float) where
   -- all channels
   pub lanes-all : (c n j : ℕ) (sum : List Float) → sum ≡ lanes_of (λ k. summed across step (scaled c ss) f (j + k)) → c ≤ n → n ≤ c → sum ≡ lanes_of (λ k. summed across step (scaled n ss) f (j + k))
   lanes-all c n j sum e p q = let z : c ≡ n = omega arith in rw (← z) e
+
+-- ---- the places where a step compares samples
+
+five : (d : ℕ → Float) (a b c e f i j k l m : ℕ) → a ≡ i → b ≡ j → c ≡ k → e ≡ l → f ≡ m → d a ⊕ d b ⊕ d c ⊕ d e ⊕ d f ≡ d i ⊕ d j ⊕ d k ⊕ d l ⊕ d m
+five d a b c e f i j k l m p q r s t = rw (p, q, r, s, t) refl
+
+-- the numbers at a step's places, in the order of its list
+listed : (step : ℕ) (d : ℕ → Float) (j k : ℕ) → step < 2 → 72 ≤ j
+    → let at = λ (i : ℕ). d (place_index (compared_place step i) j 72 + k) in
+    at 0 ⊕ at 1 ⊕ at 2 ⊕ at 3 ⊕ at 4 ≡ nearby 72 step d (j + k)
+unfolding nearby
+listed step d j k s l = go step s
+  where
+    above : j + 2 * 72 + 4 - (3 * 72 + 4) + k ≡ j + k - 72
+    above = omega arith
+
+    before : j + 3 * 72 + 3 - (3 * 72 + 4) + k ≡ j + k - 1
+    before = omega arith
+
+    here : j + 3 * 72 + 4 - (3 * 72 + 4) + k ≡ j + k
+    here = omega arith
+
+    after : j + 3 * 72 + 5 - (3 * 72 + 4) + k ≡ j + k + 1
+    after = omega arith
+
+    below : j + 4 * 72 + 4 - (3 * 72 + 4) + k ≡ j + k + 72
+    below = omega arith
+
+    go : (step : ℕ) → step < 2
+        → let at = λ (i : ℕ). d (place_index (compared_place step i) j 72 + k) in
+        at 0 ⊕ at 1 ⊕ at 2 ⊕ at 3 ⊕ at 4 ≡ nearby 72 step d (j + k)
+    go zero s = five d _ _ _ _ _ _ _ _ _ _ above after here before below
+    go (suc zero) s = five d _ _ _ _ _ _ _ _ _ _ above here below before after
+    go (suc (suc n)) s = absurd (omega arith)
+
+pub lanes-listed : (step : ℕ) (d : ℕ → Float) (j : ℕ) (a b c e f : List Float) → step < 2 → 72 ≤ j
+    → let at = λ (i : ℕ). lanes_of (λ (k : ℕ). d (place_index (compared_place step i) j 72 + k)) in
+    a ≡ at 0 → b ≡ at 1 → c ≡ at 2 → e ≡ at 3 → f ≡ at 4
+    → let plus = zip2 (add binary32) in
+    plus (plus (plus (plus a b) c) e) f ≡ lanes_of (λ (k : ℕ). nearby 72 step d (j + k))
+lanes-listed step d j a b c e f s l p q r t u =
+    let lane = λ (k : ℕ). listed step d j k s l in
+    rw (p, q, r, t, u) (rw (lane 0, lane 1, lane 2, lane 3) refl)
+
+-- the one place of step 2 is the sample itself
+alone : (p across : ℕ) → place_index (compared_place 2 0) p across ≡ p
+alone p across = omega arith
+
+pub index-alone : (across : ℕ) {r p : ℕ} {k : Place} → r ≡ place_index k p across → k ≡ compared_place 2 0 → r ≡ p
+index-alone across {r} {p} {k} e f = e ∙ rw f (alone p across)
+
+-- ---- planes of stored differences
 
 -- differences of which the first is at index o
 pub nearby-later : (across step : ℕ) (d : ℕ → Float) (o j : ℕ) → across ≤ j → 1 ≤ j → nearby across step d (o + j) ≡ nearby across step (λ p. d (o + p)) j

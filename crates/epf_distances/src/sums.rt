@@ -1,18 +1,22 @@
 // The distances of a field, four at a time: each channel's differences summed in the step's order and scaled.
 // Form: N and STEP are const parameters, so their bounds are clauses here and in `differences.rt`; an index bounded by a type would be
 // made for each vector.
-ghost use Rattle.std.specs.Prelude.{◌≡◌, ℕ, ◌+◌, ◌-◌, ◌*◌, ◌<◌, ◌≤◌, length, get_or};
+ghost use Rattle.std.specs.Prelude.{◌≡◌, ℕ, ◌+◌, ◌-◌, ◌*◌, ◌<◌, ◌≤◌, ◌^◌, length, get_or};
 ghost use Rattle.std.specs.Float.{nan};
 ghost use Rattle.planes.specs.Fill.{fill};
 ghost use Rattle.planes.specs.Rect.{rows_fill};
-ghost use Rattle.epf_sizes.specs.Sizes.{stride, difference_plane, differences_length, fields_length};
+ghost use Rattle.epf_sizes.specs.Sizes.{stride, margin_rows, margin_columns, difference_plane, differences_length, fields_length};
 ghost use Rattle.epf_step.specs.Steps.{scaled};
 ghost use Rattle.epf_vectors.specs.Lanes.{lanes_of};
-ghost use Rattle.epf_distances.specs.Seen.{apart_by, nearby, summed};
+ghost use Rattle.epf_distances.specs.Seen.{apart_by, place_index, nearby, summed};
+ghost use Rattle.epf_distances.specs.Fields.{max_index};
+ghost use Rattle.epf_offsets.specs.Offsets.{compared_place};
 
 use crate::View;
 use crate::differences::four_apart;
-use epf_sizes::{DIFFERENCE_PLANE, DIFFERENCES, FIELDS, STRIDE};
+use epf_offsets::{Place, compared_place};
+use epf_sizes::{DIFFERENCE_PLANE, DIFFERENCES, FIELDS, MARGIN_COLUMNS, MARGIN_ROWS, STRIDE};
+use epf_step::LAST_STEP;
 use planes::PLANES;
 use std::simd::prelude::*;
 
@@ -24,21 +28,31 @@ fn four(d: &[f32; DIFFERENCES], j: usize) -> f32x4
     f32x4::from_slice(&d[j..j + 4])
 }
 
+// The index of a place around index j, where rows lie `across` apart.
+fn index_of(place: Place, j: usize, across: usize) -> usize
+    requires { (margin_rows * across + margin_columns ≤ j + place.row * across + place.col)
+        × (j + place.row * across + place.col < 2 ^ 64) }
+    ensures { result ≡ place_index place j across }
+{
+    j + place.row * across + place.col - (MARGIN_ROWS * across + MARGIN_COLUMNS)
+}
+
+// The four numbers where step STEP compares its i-th samples, around index j.
+fn compared<const STEP: usize>(d: &[f32; DIFFERENCES], j: usize, i: usize) -> f32x4
+    requires { (stride ≤ j) × (j + stride + 4 ≤ differences_length) }
+    ensures { result ≡ lanes_of (λ (k : ℕ). get_or d.now (place_index (compared_place STEP i) j stride + k) nan) }
+{
+    four(d, index_of(compared_place(STEP, i), j, STRIDE))
+}
+
 // The sums of the differences around indices j to j + 3, in the order of step 0 or 1.
 #[tactic(auto, unfolding(crate::specs::Seen::nearby))]
 fn nearby<const STEP: usize>(d: &[f32; DIFFERENCES], j: usize) -> f32x4
     requires { (STEP < 2) × (stride ≤ j) × (j + stride + 4 ≤ differences_length) }
     ensures { result ≡ lanes_of (λ (k : ℕ). nearby stride STEP (λ (p : ℕ). get_or d.now p nan) (j + k)) }
 {
-    let above = four(d, j - STRIDE);
-    let below = four(d, j + STRIDE);
-    let before = four(d, j - 1);
-    let after = four(d, j + 1);
-    let here = four(d, j);
-    if STEP == 0 {
-        return above + after + here + before + below;
-    }
-    above + here + below + before + after
+    let sum = compared::<STEP>(d, j, 0) + compared::<STEP>(d, j, 1) + compared::<STEP>(d, j, 2);
+    sum + compared::<STEP>(d, j, 3) + compared::<STEP>(d, j, 4)
 }
 
 // The distances at indices j to j + 3 of the first plane of differences, over N planes. The sum starts at the first plane's
@@ -107,22 +121,25 @@ pub(crate) fn sum_rows<const STEP: usize, const N: usize>(
 
 // The distances of step 2 at indices p to p + 3, which compare single samples, over N planes that lie `plane` apart. The sum
 // starts as in `distance`.
+// Form: where the samples are and how far apart: as in `differences.rt`.
 fn single<const N: usize>(
     src: &[f32],
     plane: usize,
+    across: usize,
     scales: &[f32; PLANES],
     p: usize,
     apart: usize,
 ) -> f32x4
-    requires { (1 ≤ N) × (N ≤ 3) × ((N - 1) * plane + p + apart + 4 ≤ length src.now) }
+    requires { (1 ≤ N) × (N ≤ 3) × (across ≤ max_index) × ((N - 1) * plane + p + apart + 4 ≤ length src.now) }
     ensures { result ≡ lanes_of (λ (k : ℕ). summed 1 2 (scaled N scales.now)
         (λ (c : ℕ). apart_by src.now (c * plane) apart) (p + k)) }
 {
-    let first = four_apart(src, p, apart);
+    let here = index_of(compared_place(LAST_STEP, 0), p, across);
+    let first = four_apart(src, here, apart);
     let mut sum = f32x4::splat(scales[0]) * first;
     for c in 1..N {
         let scale = f32x4::splat(scales[c]);
-        sum = sum + scale * four_apart(src, c * plane + p, apart);
+        sum = sum + scale * four_apart(src, c * plane + here, apart);
     }
     sum
 }
@@ -135,19 +152,20 @@ fn single_row<const N: usize>(
     at: usize,
     src: &[f32],
     plane: usize,
+    across: usize,
     scales: &[f32; PLANES],
     p: usize,
     apart: usize,
     vectors: usize,
 )
-    requires { (1 ≤ N) × (N ≤ 3) × ((N - 1) * plane + p + apart + 4 * vectors ≤ length src.now)
+    requires { (1 ≤ N) × (N ≤ 3) × (across ≤ max_index) × ((N - 1) * plane + p + apart + 4 * vectors ≤ length src.now)
         × (at + 4 * vectors ≤ fields_length) }
     ensures { fields.new ≡ fill fields.old at (4 * vectors) (λ (i : ℕ). summed 1 2 (scaled N scales.now)
         (λ (c : ℕ). apart_by src.now (c * plane) apart) (p + i)) }
 {
     for v in 0..vectors {
         let i = 4 * v;
-        let sums = single::<N>(src, plane, scales, p + i, apart);
+        let sums = single::<N>(src, plane, across, scales, p + i, apart);
         sums.copy_to_slice(&mut fields[at + i..at + i + 4]);
     }
 }
@@ -166,7 +184,7 @@ pub(crate) fn single_rows<const N: usize>(
     rows: usize,
     vectors: usize,
 )
-    requires { (1 ≤ N) × (N ≤ 3) × ((N - 1) * v.plane + p + (rows - 1) * v.stride + apart + 4 * vectors ≤ length src.now)
+    requires { (1 ≤ N) × (N ≤ 3) × (v.stride ≤ max_index) × ((N - 1) * v.plane + p + (rows - 1) * v.stride + apart + 4 * vectors ≤ length src.now)
         × (at + (rows - 1) * stride + 4 * vectors ≤ fields_length) }
     ensures { fields.new ≡ rows_fill fields.old at stride (4 * vectors) rows
         (λ (r : ℕ) (i : ℕ). summed 1 2 (scaled N scales.now)
@@ -179,6 +197,7 @@ pub(crate) fn single_rows<const N: usize>(
             at + r * STRIDE,
             src,
             v.plane,
+            v.stride,
             scales,
             from,
             apart,

@@ -1,9 +1,10 @@
 // Which samples a field compares, and where a neighbour's samples and distances are.
-ghost use Rattle.std.specs.Prelude.{◌≡◌, ℕ, ◌+◌, ◌-◌, ◌*◌, ◌<◌, ◌≤◌};
-ghost use Rattle.epf_distances.specs.Taps.{pairs, half as half_of, pair_of, apart_in};
+ghost use Rattle.std.specs.Prelude.{◌≡◌, ◌<◌};
+ghost use Rattle.epf_distances.specs.Taps.{pairs, half as half_of, pair_of};
 ghost use Rattle.epf_distances.specs.Taps.{field_of, forward_of, backward_of, tap_of};
 
 use crate::{Pair, Tap};
+use epf_offsets::{Place, neighbour_place};
 use epf_sizes::{FIELD_PLANE, MARGIN_COLUMNS, MARGIN_ROWS, STRIDE};
 
 // The largest number of fields of a step, one per pair of opposite neighbours.
@@ -18,40 +19,40 @@ pub(crate) fn half(step: usize) -> usize
     if step == 0 { PAIRS } else { 2 }
 }
 
-// Form: a row of the table below takes one line by it; the definition has the same maker.
-fn pair_with(up: usize, first: usize, second: usize) -> Pair
-    ensures { result ≡ record { up = up; first = first; second = second } }
+// The place of the neighbour after the centre whose distances field h has; an h past the last field is like that field.
+// In step 0's list the places on both sides of the middle are opposite, in the other lists two that follow each other.
+// Form: a step stays a number, as in `half`.
+fn after_centre(step: usize, h: usize) -> Place
+    ensures { (result.row ≡ (forward_of h (pair_of step h)).row) × (result.col ≡ (forward_of h (pair_of step h)).col) }
 {
-    Pair { up, first, second }
-}
-
-// The pair that field h of step 0 compares.
-// Form: where `h` is a literal, as for each lane's taps, the compiler folds the match; a table would be a read.
-fn pair_of_first(h: usize) -> Pair
-    ensures { result ≡ pair_of 0 h }
-{
-    match h {
-        0 => pair_with(0, 3, 4),
-        1 => pair_with(0, 2, 4),
-        2 => pair_with(1, 4, 3),
-        3 => pair_with(1, 4, 4),
-        4 => pair_with(1, 3, 4),
-        _ => pair_with(2, 4, 4),
+    if step == 0 {
+        return neighbour_place(step, PAIRS + h.min(PAIRS - 1));
     }
+    neighbour_place(step, 3 - 2 * h.min(1))
 }
 
-// The same for every step.
-// Form: a step stays a number, as in `half`; the steps after 0 have two fields, for which one comparison is plainer than a match.
+// The place of the opposite neighbour, before the centre.
+// Form: as `after_centre`.
+fn before_centre(step: usize, h: usize) -> Place
+    ensures { (result.row ≡ (backward_of h (pair_of step h)).row) × (result.col ≡ (backward_of h (pair_of step h)).col) }
+{
+    if step == 0 {
+        return neighbour_place(step, PAIRS - 1 - h.min(PAIRS - 1));
+    }
+    neighbour_place(step, 2 - 2 * h.min(1))
+}
+
+// The pair that field h compares: the sample itself and the neighbour after it, moved left by the columns that the
+// neighbour lies to the right.
 pub(crate) fn pair(step: usize, h: usize) -> Pair
     ensures { result ≡ pair_of step h }
 {
-    if step == 0 {
-        return pair_of_first(h);
+    let place = after_centre(step, h);
+    Pair {
+        up: place.row - MARGIN_ROWS,
+        first: 2 * MARGIN_COLUMNS - place.col.max(MARGIN_COLUMNS),
+        second: place.col.min(MARGIN_COLUMNS),
     }
-    if h == 0 {
-        return pair_with(0, 3, 4);
-    }
-    pair_with(1, 4, 4)
 }
 
 // The tap of the neighbour after the centre that field h's pair names.
@@ -60,10 +61,10 @@ fn forward_tap(step: usize, h: usize) -> Tap
     requires { h < pairs }
     ensures { result ≡ forward_of h (pair_of step h) }
 {
-    let k = pair(step, h);
+    let Place { row, col } = after_centre(step, h);
     Tap {
-        row: MARGIN_ROWS + k.up,
-        col: MARGIN_COLUMNS + k.second - k.first,
+        row,
+        col,
         start: h * FIELD_PLANE + 2 * STRIDE + MARGIN_COLUMNS,
     }
 }
@@ -73,12 +74,11 @@ fn backward_tap(step: usize, h: usize) -> Tap
     requires { h < pairs }
     ensures { result ≡ backward_of h (pair_of step h) }
 {
-    let k = pair(step, h);
-    let col = MARGIN_COLUMNS + k.first - k.second;
+    let Place { row, col } = before_centre(step, h);
     Tap {
-        row: MARGIN_ROWS - k.up,
+        row,
         col,
-        start: h * FIELD_PLANE + (2 - k.up) * STRIDE + col,
+        start: h * FIELD_PLANE + (row - 1) * STRIDE + col,
     }
 }
 

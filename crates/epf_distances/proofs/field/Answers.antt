@@ -18,6 +18,7 @@ single_rows-requires g c =
     let vectors : c.div_ceil-vectors.result ≡ field_vectors c.args.cols c.pair-k.result = vectors-is c.pair-k.result c.args.cols _ _ c.abs_diff.ensures c.div_ceil-vectors.ensures in (
       f.planes-pos,
       f.planes-le,
+      f.stride-le,
       rw (c.apart_in-apart.ensures, vectors) (room-single c.args.v g.row.N c.args.rows c.args.cols (length c.args.src.now) f c.pair-k.result near),
       rw vectors (room-field c.args.v g.row.N c.args.rows c.args.cols (length c.args.src.now) f c.pair-k.result near c.args.h (omega (arith, c.requires.1, half_le g.row.STEP))),
     )
