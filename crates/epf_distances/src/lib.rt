@@ -75,6 +75,7 @@ impl View {
 }
 
 // How much later a pair's second sample comes, where rows lie `across` apart.
+// Form: the bound of `across` is one of `ViewFits`; a view's other numbers are not used here, nor in `sums.rt`.
 fn apart_in(across: usize, k: Pair) -> usize
     requires { (k.up ≤ 2) × (k.first ≤ k.up * across + k.second) × (k.second ≤ 4) × (across ≤ max_index) }
     ensures { result ≡ apart_in across k }

@@ -7,6 +7,7 @@ use Rattle.gabor_kernel.proofs.Mirrored.{fold-mirrors, kernel-mirrored, alone-co
 use Rattle.gabor_kernel.proofs.Exact.{expansion-sums, coefficients-weigh, formulas-mirrored, integers-exact}
 use Rattle.epf_step.proofs.Offsets.{kernel-offsets, distance-offsets}
 use Rattle.epf_step.proofs.Bounds.{distance-not-negative, slope-not-positive, weight-bounds, divisor-bounds, multiplier-not-negative, pass-bounds}
+use Rattle.epf_offsets.proofs.Offsets.{kernel-packed, distances-packed}
 use Rattle.epf_lanes.proofs.Divisors.{lane-divisor-bounds}
 use Rattle.run_passes.proofs.Bounds.{step-bounds, settings-bounds, bounds-reached}
 use Rattle.run_passes.proofs.Statements.{pass-near, cut-same, plan-reach}
@@ -74,6 +75,8 @@ promises = record {
   bounds-reached = bounds-reached;
   kernel-offsets = kernel-offsets;
   distance-offsets = distance-offsets;
+  kernel-packed = kernel-packed;
+  distances-packed = distances-packed;
   fold-mirrors = fold-mirrors;
   kernel-mirrored = kernel-mirrored;
   alone-copied = alone-copied;

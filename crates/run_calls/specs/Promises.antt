@@ -8,6 +8,7 @@ use Rattle.gabor_kernel.specs.Mirrored.{FoldMirrors, KernelMirrored, AloneCopied
 use Rattle.gabor_kernel.specs.Exact.{ExpansionSums, CoefficientsWeigh, FormulasMirrored, IntegersExact}
 use Rattle.epf_step.specs.Offsets.{KernelOffsets, DistanceOffsets}
 use Rattle.epf_step.specs.Bounds.{DistanceNotNegative, SlopeNotPositive, WeightBounds, DivisorBounds, MultiplierNotNegative, PassBounds}
+use Rattle.epf_offsets.specs.Offsets.{KernelPacked, DistancesPacked}
 use Rattle.epf_lanes.specs.Divisors.{LaneDivisorBounds}
 use Rattle.run_passes.specs.Statements.{PassNear, CutSame, PlanReach}
 use Rattle.run_passes.specs.Bounds.{StepBounds, SettingsBounds, BoundsReached}
@@ -82,6 +83,9 @@ pub record Promises : Type 1 where
   -- the EPF's offsets follow the standard's rule
   pub kernel-offsets : KernelOffsets
   pub distance-offsets : DistanceOffsets
+  -- the bytes from which code takes them are these lists
+  pub kernel-packed : KernelPacked
+  pub distances-packed : DistancesPacked
   -- the Gabor-like filter's formulas have the coefficients of the standard's mirrored kernel, which copies a single sample
   pub fold-mirrors : FoldMirrors
   pub kernel-mirrored : KernelMirrored
