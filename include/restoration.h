@@ -226,11 +226,12 @@ typedef struct RestorationSetup {
     uint32_t band_height;
 } RestorationSetup;
 
-// The record of a run. `pass` counts the completed passes. `done` has one flag per band of the next pass: 1 if the
-// band is done.
+// The record of a run. `pass` counts the completed passes. `bands_left` is the number of bands of the next pass that are
+// not done, 0 if the run is finished. `done` has one flag per band of the next pass: 1 if the band is done.
 typedef struct RestorationRun {
     RestorationSetup setup;
     uint32_t pass;
+    uint32_t bands_left;
     uint8_t done[256];
 } RestorationRun;
 
@@ -504,7 +505,7 @@ RestorationRunAnswer restoration_start(
     const float *second, size_t second_len,
     float *sigmas, size_t sigmas_len);
 
-// Runs the next pass over the rows of band `k` and returns the record with that band marked done.
+// Runs the next pass over the rows of band `k` and returns the record with that band marked done and one band fewer left.
 // The first pass reads the set `first` and writes `second`; each advance exchanges the sets. In the band's rows of
 // the result region, the written set gets filtered samples inside the filter region and copies outside it.
 // Numbers: 0; 7 if the length of a set or of `sigmas` is wrong for the record's setup, unless that length depends on
@@ -512,8 +513,9 @@ RestorationRunAnswer restoration_start(
 // not below the number of bands, the band is done already or the run is finished. If several apply, the lowest is
 // returned.
 // A record is not valid if `restoration_start` would refuse its setup with 4, 5, 6 or 9, or if no accepted calls lead
-// to its `pass` and `done`: the pass is past the last, a flag is over 1, or a flag is not 0 at or past the number of
-// bands or in a finished run.
+// to its `pass`, `bands_left` and `done`: the pass is past the last, a flag is over 1, a flag is not 0 at or past the
+// number of bands or in a finished run, or `bands_left` is not the number of bands less those done (0 in a finished
+// run).
 // An accepted call leaves the set that is read, `sigmas` and the rest of the written set unchanged. A refused call
 // returns the record that it was given and leaves every slice unchanged.
 RestorationRunAnswer restoration_band(
@@ -524,7 +526,7 @@ RestorationRunAnswer restoration_band(
     uint32_t k);
 
 // Advances a run to its next pass when every band of the current pass is done. The two sets exchange their roles and
-// no band is done. After the last pass the run is finished.
+// no band is done. After the last pass the run is finished and no band is left.
 // Numbers: 0; 9 if the record is not valid (see `restoration_band`); 11 if a band is not done or the run is finished.
 // If several apply, the lowest is returned. A refused call returns the record that it was given.
 RestorationRunAnswer restoration_advance(RestorationRun run);
@@ -719,11 +721,12 @@ static_assert(offsetof(RestorationSetup, filter) == 16, "filter");
 static_assert(offsetof(RestorationSetup, preserve_outside) == 32, "preserve_outside");
 static_assert(offsetof(RestorationSetup, settings) == 36, "settings");
 static_assert(offsetof(RestorationSetup, band_height) == 100, "band_height");
-static_assert(sizeof(RestorationRun) == 364, "RestorationRun");
+static_assert(sizeof(RestorationRun) == 368, "RestorationRun");
 static_assert(offsetof(RestorationRun, setup) == 0, "setup");
 static_assert(offsetof(RestorationRun, pass) == 104, "pass");
-static_assert(offsetof(RestorationRun, done) == 108, "done");
-static_assert(sizeof(RestorationRunAnswer) == 368, "RestorationRunAnswer");
+static_assert(offsetof(RestorationRun, bands_left) == 108, "bands_left");
+static_assert(offsetof(RestorationRun, done) == 112, "done");
+static_assert(sizeof(RestorationRunAnswer) == 372, "RestorationRunAnswer");
 static_assert(offsetof(RestorationRunAnswer, number) == 0, "number");
 static_assert(offsetof(RestorationRunAnswer, run) == 4, "run");
 static_assert(sizeof(RestorationLoupeSetup) == 96, "RestorationLoupeSetup");

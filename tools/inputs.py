@@ -41,12 +41,14 @@ fn setup_of(image: region::Region, filter: region::Region, full: u32, settings: 
 """,
     "run_record": """
 fn run_at(setup: run_setup::Setup, pass: u32) -> run_record::Run {
-    run_record::Run { setup, pass, done: [0; run_setup::MAX_BANDS] }
+    let bands_left = if pass == setup.settings.pass_count() { 0 } else { setup.band_count() };
+    run_record::Run { setup, pass, bands_left, done: [0; run_setup::MAX_BANDS] }
 }
 
 fn with_done(run: run_record::Run, k: usize) -> run_record::Run {
     let mut r = run;
     r.done[k] = 1;
+    r.bands_left -= 1;
     r
 }
 """,

@@ -187,12 +187,14 @@ static void run_calls(RestorationSettings settings, size_t sigmas_len, float mid
     was.sigmas[0] = sigmas_len == 1 ? grid[0] : was.sigmas[0];
     COMPARE(same_buffers(b, was));
     RestorationRun run = answer.run;
+    COMPARE(run.bands_left == SIDE);
     REFUSED(RestorationRunAnswer, restoration_advance(run), RESTORATION_PASS_NOT_DONE, memcmp(&a.run, &run, sizeof run) == 0);
     REFUSED_NUMBER(restoration_result(run, b.first, SAMPLES, b.second, SAMPLES, b.out, SAMPLES), RESTORATION_PASS_NOT_DONE, b.out);
     for (uint32_t band = 0; band < SIDE; band++) {
         answer = restoration_band(run, b.sigmas, sigmas_len, b.first, SAMPLES, b.second, SAMPLES, band);
         COMPARE(answer.number == RESTORATION_ACCEPTED);
         run = answer.run;
+        COMPARE(run.bands_left == SIDE - 1 - band);
     }
     memcpy(was.second, b.second, sizeof b.second);
     COMPARE(same_buffers(b, was));
@@ -202,8 +204,12 @@ static void run_calls(RestorationSettings settings, size_t sigmas_len, float mid
     RestorationRun odd = run;
     odd.done[0] = 2;
     REFUSED(RestorationRunAnswer, restoration_advance(odd), RESTORATION_OUT_OF_RANGE, memcmp(&a.run, &odd, sizeof odd) == 0);
+    // All bands are done, so none is left.
+    odd = run;
+    odd.bands_left = 1;
+    REFUSED(RestorationRunAnswer, restoration_advance(odd), RESTORATION_OUT_OF_RANGE, memcmp(&a.run, &odd, sizeof odd) == 0);
     answer = restoration_advance(run);
-    COMPARE(answer.number == RESTORATION_ACCEPTED);
+    COMPARE(answer.number == RESTORATION_ACCEPTED && answer.run.bands_left == 0);
     COMPARE(restoration_result(answer.run, b.first, SAMPLES, b.second, SAMPLES, b.out, SAMPLES) == RESTORATION_ACCEPTED);
     for (int sample = 0; sample < SAMPLES; sample++)
         COMPARE(b.out[sample] == expected[sample % (SIDE * SIDE)]);
@@ -258,7 +264,7 @@ static void epf_run(void)
     loupe_calls(settings, 1, 40, means);
     // No frame holds a block at column 16,384, but the record is valid: 8 is not among its checks (Specification 12.8).
     RestorationRegion far = {.left = 16384, .width = SIDE, .height = SIDE};
-    RestorationRun run = {.setup = {.image = far, .filter = far, .settings = settings, .band_height = SIDE}, .done = {1}};
+    RestorationRun run = {.setup = {.image = far, .filter = far, .settings = settings, .band_height = SIDE}, .bands_left = 0, .done = {1}};
     COMPARE(restoration_advance(run).number == RESTORATION_ACCEPTED);
 }
 

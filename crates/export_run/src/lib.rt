@@ -76,7 +76,7 @@ pub extern "C" fn restoration_start(
     RunAnswer::from(started)
 }
 
-// Runs the next pass over the rows of band `k` and returns the record with that band marked done.
+// Runs the next pass over the rows of band `k` and returns the record with that band marked done and one band fewer left.
 // The first pass reads the set `first` and writes `second`; each advance exchanges the sets. In the band's rows of
 // the result region, the written set gets filtered samples inside the filter region and copies outside it.
 // Numbers: 0; 7 if the length of a set or of `sigmas` is wrong for the record's setup, unless that length depends on
@@ -84,8 +84,9 @@ pub extern "C" fn restoration_start(
 // not below the number of bands, the band is done already or the run is finished. If several apply, the lowest is
 // returned.
 // A record is not valid if `restoration_start` would refuse its setup with 4, 5, 6 or 9, or if no accepted calls lead
-// to its `pass` and `done`: the pass is past the last, a flag is over 1, or a flag is not 0 at or past the number of
-// bands or in a finished run.
+// to its `pass`, `bands_left` and `done`: the pass is past the last, a flag is over 1, a flag is not 0 at or past the
+// number of bands or in a finished run, or `bands_left` is not the number of bands less those done (0 in a finished
+// run).
 // An accepted call leaves the set that is read, `sigmas` and the rest of the written set unchanged. A refused call
 // returns the record that it was given and leaves every slice unchanged.
 #[unsafe(no_mangle)]
@@ -114,7 +115,7 @@ pub extern "C" fn restoration_band(
 }
 
 // Advances a run to its next pass when every band of the current pass is done. The two sets exchange their roles and
-// no band is done. After the last pass the run is finished.
+// no band is done. After the last pass the run is finished and no band is left.
 // Numbers: 0; 9 if the record is not valid (see `restoration_band`); 11 if a band is not done or the run is finished.
 // If several apply, the lowest is returned. A refused call returns the record that it was given.
 #[unsafe(no_mangle)]

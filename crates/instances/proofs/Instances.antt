@@ -29,13 +29,13 @@ use Rattle.planes_layout.specs.Outcome.{layout_of}
 use Rattle.run_passes.specs.Pass.{pass}
 use Rattle.run_passes.specs.Plan.{scale_of, step_of, steps, plan}
 use Rattle.run_setup.specs.Setup.{band_count, size_fits, numbers_fit, setup_fits}
-use Rattle.run_record.specs.Record.{is_done, started, marked, band_missing, bad_done, run_fits}
+use Rattle.run_record.specs.Record.{is_done, started, marked, band_missing, bad_done, bands_left_in, count_below, run_fits}
 use Rattle.run_outcomes.specs.Band.{reads_first, band_checks, banded, band_outcome, advance_outcome}
 use Rattle.instances.specs.Instances.{bytes_of, Table}
 use Rattle.instances.proofs.Any.{copied-below, nan-sigma}
 
 pub table : Table
-unfolding of_bits lt add sub mul div mirror power_below corner_fits side_fits region_of shrunk_by aligned_to inside bounds_fit picture_fits region_answer u field value_of half_of f16 nested read near_zero channel_fields channels_fields weight_fields gabor_fields bytes_of around of set_of tab in_rect in_filter written inner passed stands evaluate formula alone gabor_by gabor_pass magnitude kernel dists along scaled_from apart distance positive weight_by copied weight_at blend divisor epf border multiplier epf_pass sizes_of cells grid_start some_below sigma_in frame_sigma above_at block_sigma block_sigmas layout_of pass scale_of step_of steps plan band_count size_fits numbers_fit setup_fits is_done started marked band_missing bad_done run_fits reads_first band_checks banded band_outcome advance_outcome
+unfolding of_bits lt add sub mul div mirror power_below corner_fits side_fits region_of shrunk_by aligned_to inside bounds_fit picture_fits region_answer u field value_of half_of f16 nested read near_zero channel_fields channels_fields weight_fields gabor_fields bytes_of around of set_of tab in_rect in_filter written inner passed stands evaluate formula alone gabor_by gabor_pass magnitude kernel dists along scaled_from apart distance positive weight_by copied weight_at blend divisor epf border multiplier epf_pass sizes_of cells grid_start some_below sigma_in frame_sigma above_at block_sigma block_sigmas layout_of pass scale_of step_of steps plan band_count size_fits numbers_fit setup_fits is_done started marked band_missing bad_done bands_left_in count_below run_fits reads_first band_checks banded band_outcome advance_outcome
 table = record {
   mirror_of_one = refl;
   mirror_of_two = refl;

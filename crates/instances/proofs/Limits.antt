@@ -19,7 +19,7 @@ use Rattle.planes_layout.specs.Outcome.{layout_of, pass_checks, pass_outcome}
 use Rattle.epf.specs.Outcome.{step_checks, epf_checks, epf_outcome}
 use Rattle.run_passes.specs.Plan.{steps, plan, step_margin, margin_checks, margin_outcome}
 use Rattle.run_setup.specs.Setup.{band_count, size_fits, numbers_fit, setup_fits}
-use Rattle.run_record.specs.Record.{is_done, started, band_missing, bad_done, run_fits}
+use Rattle.run_record.specs.Record.{is_done, started, band_missing, bad_done, bands_left_in, count_below, run_fits}
 use Rattle.run_outcomes.specs.Start.{picture_checks, start_checks, start_outcome}
 use Rattle.run_outcomes.specs.Band.{band_checks, band_outcome, advance_outcome}
 use Rattle.run_outcomes.specs.Result.{result_checks, result_outcome}
@@ -34,7 +34,7 @@ use Rattle.cut_write.specs.Outcome.{length_outcome}
 use Rattle.instances.specs.Limits.{Limits, numbers_of}
 
 pub limits : Limits
-unfolding u mirror power_below corner_fits side_fits region_of inside bounds_fit picture_fits rectangle_fits shrunk_by aligned_to region_answer sizes_of bad_sides bad_settings bad_blocks bad_grid cells grid_start grid_lacks_block some_below no_entries not_held some_not_held table_fits grids_fit layout_of pass_outcome step_checks epf_checks epf_outcome steps plan step_margin margin_checks margin_outcome band_count size_fits numbers_fit setup_fits is_done started band_missing bad_done run_fits picture_checks start_checks start_outcome band_checks band_outcome advance_outcome result_checks result_outcome pass_checks numbers_of widened widened_checks widened_outcome loupe_checks loupe_outcome body_at entry_checks file_checks region_checks read_checks rectangles_fit table_checks write_checks count_outcome length_outcome
+unfolding u mirror power_below corner_fits side_fits region_of inside bounds_fit picture_fits rectangle_fits shrunk_by aligned_to region_answer sizes_of bad_sides bad_settings bad_blocks bad_grid cells grid_start grid_lacks_block some_below no_entries not_held some_not_held table_fits grids_fit layout_of pass_outcome step_checks epf_checks epf_outcome steps plan step_margin margin_checks margin_outcome band_count size_fits numbers_fit setup_fits is_done started band_missing bad_done bands_left_in count_below run_fits picture_checks start_checks start_outcome band_checks band_outcome advance_outcome result_checks result_outcome pass_checks numbers_of widened widened_checks widened_outcome loupe_checks loupe_outcome body_at entry_checks file_checks region_checks read_checks rectangles_fit table_checks write_checks count_outcome length_outcome
 limits = record {
   region_side = (refl, refl);
   region_right = (refl, refl);

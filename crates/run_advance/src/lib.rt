@@ -8,16 +8,14 @@ ghost use Rattle.run_outcomes.specs.Band.{advance_outcome};
 
 use refusals::Refusal;
 use run_record::Run;
-use run_setup::MAX_BANDS;
 
 // Advances to the next pass, or finishes the run.
-#[tactic(auto, using(crate::proofs::Accepted::advance_rules), unfolding(run_record::specs::Record::advanced))]
+#[tactic(auto, using(crate::proofs::Accepted::advance_rules))]
 pub fn advance(run: &mut Run) -> Result<(), Refusal>
     ensures { ◌≡◌ {A = RunAnswer} (record { number = number_of result; run = run.new })
         (advance_outcome run.old) }
 {
     run.check_advance()?;
-    run.pass += 1;
-    run.done = [0; MAX_BANDS];
+    *run = Run::before(run.setup, run.pass + 1);
     Ok(())
 }

@@ -19,6 +19,7 @@ use Rattle.refusals.proofs.Tables.{of-true, met-given}
 use Rattle.run_setup.specs.SetupFits.{SetupFits}
 use Rattle.run_setup.proofs.Laws.{setup-fits, image-size, filter-size}
 use Rattle.run_record.proofs.Laws.{pass-left}
+use Rattle.run_record.proofs.Counts.{marked-left}
 use Rattle.run_outcomes.specs.Band.{State, BandOutcome, set_check, sigma_check, reads_first, band_checks, band_number, banded, band_outcome}
 use Rattle.refusals.proofs.Rows.{here, below, row-passed}
 use Rattle.run_outcomes.proofs.Laws.{BandFits, band-fits}
@@ -81,6 +82,10 @@ module _ (t : State) (k : ℕ) (e : band_number 3 t k ≡ 0) where
       let b : k < max_bands = omega (arith, fits.band.below, setup.count) in
       let c : k ≤ max_bands = omega arith in
       record { band = b; height = setup.height-most; from = mul-le-mul c setup.height-most; rows = rows-most }
+
+  -- one band fewer is left after it
+  pub fewer-left : length t.run.done ≡ max_bands → t.run.bands_left ≡ suc (marked t.run k).bands_left
+  fewer-left l = marked-left t.run k l fits.run fits.band
 
   -- it ends with the rows of the definition
   pub band-end : (rows to : ℕ) → rows ≡ row_count s → to ≡ min (k * s.band_height + s.band_height) rows → to ≡ band_to s k

@@ -108,5 +108,6 @@ pub fn band(
     filter_band(run, sigmas, first, second, k);
     // Form: 1 is done: C's record has the flags as bytes.
     run.done[k as usize] = 1;
+    run.bands_left -= 1;
     Ok(())
 }

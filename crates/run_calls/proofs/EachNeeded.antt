@@ -35,7 +35,7 @@ use Rattle.run_passes.specs.declared.Settings.{Settings}
 use Rattle.run_passes.specs.Pass.{pass, passes}
 use Rattle.run_passes.specs.Plan.{plan, steps, step_of, scale_of, step_margin}
 use Rattle.run_setup.specs.Setup.{band_count, numbers_fit, setup_fits, size_fits}
-use Rattle.run_record.specs.Record.{is_done, started, bad_done, run_fits}
+use Rattle.run_record.specs.Record.{is_done, started, bad_done, bands_left_in, count_below, run_fits}
 use Rattle.run_setup.specs.Makers.{no_setup}
 use Rattle.run_outcomes.specs.Start.{Handed, picture_checks, start_checks, start_leaves, sigmas_filled, start_outcome}
 use Rattle.run_outcomes.specs.Result.{result_checks, result_outcome}
@@ -120,7 +120,7 @@ finish-others run-finished n = absurd (n refl)
 finish-others slice_fits n = refl
 
 unfinished : (result_after 3 (library_calls 3) blurred [] zeros).number ≡ 11
-unfolding start_outcome start_checks start_leaves picture_checks picture_fits bounds_fit corner_fits side_fits inside bad_sides bad_settings sizes_of table_fits grids_fit grid_start cells some_below bad_grid band_count layout_of set_of tab started end plan steps result_outcome result_checks run_fits bad_done is_done numbers_fit setup_fits size_fits
+unfolding start_outcome start_checks start_leaves picture_checks picture_fits bounds_fit corner_fits side_fits inside bad_sides bad_settings sizes_of table_fits grids_fit grid_start cells some_below bad_grid band_count layout_of set_of tab started end plan steps result_outcome result_checks run_fits bad_done bands_left_in count_below is_done numbers_fit setup_fits size_fits
 unfinished = refl
 
 -- ---- an empty slice: the result is refused (7)

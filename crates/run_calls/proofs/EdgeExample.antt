@@ -23,7 +23,7 @@ use Rattle.planes.proofs.SetLaws.{of-set_of}
 use Rattle.planes.specs.Band.{inner}
 use Rattle.run_passes.specs.Plan.{plan, steps, step_of, scale_of, step_margin}
 use Rattle.run_setup.specs.Setup.{band_count, numbers_fit, setup_fits, size_fits}
-use Rattle.run_record.specs.Record.{is_done, started, marked, advanced, band_missing, finished, bad_done, run_fits}
+use Rattle.run_record.specs.Record.{is_done, started, marked, advanced, band_missing, finished, bad_done, bands_left_in, count_below, run_fits}
 use Rattle.run_outcomes.specs.Start.{picture_checks, start_checks, start_leaves, sigmas_filled, start_outcome}
 use Rattle.run_outcomes.specs.Band.{State, band_checks, band_outcome, advance_outcome}
 use Rattle.run_calls.specs.Calls.{StartAccepted, LibraryCall, band, advance, library_calls, state_after, end, Unaltered}
@@ -75,7 +75,7 @@ module _ (p : Picture) (scales : List Float) (border sigma : Float) where
   after t = band t 0 ∷ advance (marked (started (smaller p scales border sigma).setup) 0) ∷ []
 
   premises : Premises 3 (library_calls 3) (smaller p scales border sigma) (larger p scales border sigma) (calls p scales border sigma) (slice p scales border sigma)
-  unfolding start_leaves band_outcome advance_outcome sigmas_filled block_sigmas tab state_after end started marked advanced band_checks run_fits bad_done band_missing is_done numbers_fit setup_fits band_count size_fits some_below picture_fits bounds_fit corner_fits side_fits inside layout_of plan steps set_of
+  unfolding start_leaves band_outcome advance_outcome sigmas_filled block_sigmas tab state_after end started marked advanced band_checks run_fits bad_done bands_left_in count_below band_missing is_done numbers_fit setup_fits band_count size_fits some_below picture_fits bounds_fit corner_fits side_fits inside layout_of plan steps set_of
   premises =
       let begins = sym (start-state 3 (smaller p scales border sigma) accepted) in
       record {

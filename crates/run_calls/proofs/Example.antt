@@ -20,7 +20,7 @@ use Rattle.planes.proofs.SetLaws.{of-set_of}
 use Rattle.planes.specs.Band.{inner}
 use Rattle.run_passes.specs.Plan.{plan, steps, step_margin}
 use Rattle.run_setup.specs.Setup.{band_count, numbers_fit, setup_fits, size_fits}
-use Rattle.run_record.specs.Record.{is_done, started, marked, advanced, band_missing, bad_done, run_fits}
+use Rattle.run_record.specs.Record.{is_done, started, marked, advanced, band_missing, bad_done, bands_left_in, count_below, run_fits}
 use Rattle.run_outcomes.specs.Start.{picture_checks, start_checks, start_leaves, sigmas_filled, start_outcome}
 use Rattle.run_outcomes.specs.Band.{band_checks, band_outcome, advance_outcome}
 use Rattle.run_calls.specs.Calls.{StartAccepted, library_calls, state_after, end}
@@ -52,7 +52,7 @@ module _ (p : Picture) (weights : List (List Float)) where
   from = record { unrefused = unrefused; contained = tt; same-passes = refl; inputs-agree = inputs; sigmas-agree = λ on. absurd on }
 
   premises : Premises 3 (library_calls 3) (smaller p weights) (larger p weights) (calls p weights) (slice p weights)
-  unfolding start_outcome start_leaves band_outcome advance_outcome start_checks picture_checks bad_sides bad_settings sizes_of table_fits grids_fit grid_start cells bad_grid sigmas_filled state_after end started marked advanced band_checks run_fits bad_done band_missing is_done numbers_fit setup_fits band_count size_fits some_below picture_fits bounds_fit corner_fits side_fits inside layout_of plan steps set_of tab
+  unfolding start_outcome start_leaves band_outcome advance_outcome start_checks picture_checks bad_sides bad_settings sizes_of table_fits grids_fit grid_start cells bad_grid sigmas_filled state_after end started marked advanced band_checks run_fits bad_done bands_left_in count_below band_missing is_done numbers_fit setup_fits band_count size_fits some_below picture_fits bounds_fit corner_fits side_fits inside layout_of plan steps set_of tab
   premises = record {
     start-accepted = accepted;
     cut-from-larger = from;

@@ -21,7 +21,7 @@ use Rattle.run_calls.proofs.Needed.{premises-say, gabor-margin-needed, step-marg
 use Rattle.run_calls.proofs.EachNeeded.{each_needed}
 use Rattle.run_calls.proofs.Corollaries.{whole-picture, two-cuts-agree, outside_kept, bands-alike}
 use Rattle.run_calls.proofs.Refused.{start-tied, calls-tied, refused-untouched}
-use Rattle.run_calls.proofs.Count.{library-count-rule, count-rule}
+use Rattle.run_calls.proofs.Count.{library-count-rule, count-rule, left-counts}
 use Rattle.run_calls.proofs.Lists.{end-reached, end_fits}
 use Rattle.run_calls.proofs.Reached.{can-finish, reached-fits, fits-reached, each-reached}
 
@@ -56,6 +56,7 @@ promises = record {
   library-count-rule = library-count-rule;
   count-rule = count-rule;
   can-finish = can-finish;
+  left-counts = left-counts;
   end_fits = end_fits;
   reached-fits = reached-fits;
   fits-reached = fits-reached;

@@ -119,10 +119,14 @@ module _ (s : Setup) (fits : SetupFits s) where
 
 pub fits-reached : FitsReached
 unfolding is_done
-fits-reached r e t = go (finished r) refl
+fits-reached r e t = subst (λ (q : Run). Reached r.setup q) same (go (finished r) refl)
   where
     f : RunFits r
     f = run_fits_lem r t
+
+    -- its number of bands left is the one that its flags give
+    same : at r.setup r.pass r.done ≡ r
+    same = rw (← f.left) refl
 
     fresh : Reached r.setup (at r.setup r.pass none_done)
     fresh = passes-before r.setup (setup-fits r.setup f.setup) r.pass f.pass
@@ -130,7 +134,7 @@ fits-reached r e t = go (finished r) refl
     zero-at : finished r ≡ true → (k : ℕ) → k < 256 → get_or r.done k 0 ≡ 0
     zero-at z k l = flag-none (get_or r.done k 0) (f.flag k l) (f.none-past-count k l (rw z (omega arith)))
 
-    go : (b : Bool) → finished r ≡ b → Reached r.setup r
+    go : (b : Bool) → finished r ≡ b → Reached r.setup (at r.setup r.pass r.done)
     go true z =
         let none : none_done ≡ r.done = ext_get_or 0 none_done r.done (length-replicate {A = ℕ} 256 0 ∙ sym e) (λ k l. none_done_lem k ∙ sym (zero-at z k (omega (arith, length-replicate {A = ℕ} 256 0)))) in
         subst (λ (l : List ℕ). Reached r.setup (at r.setup r.pass l)) none fresh
@@ -209,6 +213,6 @@ unfolding is_done
 can-finish n h start =
     let s : Setup = h.setup in
     let r : Run = at s (pass_count s) none_done in
-    let fits : RunFits r = record { setup = (picture-accepted n h start).setup; pass = omega arith; flag = λ k l. rw (none_done_lem k) (omega arith); none-past-count = λ k l o. rw (none_done_lem k) } in
+    let fits : RunFits r = record { setup = (picture-accepted n h start).setup; pass = omega arith; flag = λ k l. rw (none_done_lem k) (omega arith); none-past-count = λ k l o. rw (none_done_lem k); left = refl } in
     let w = each-reached n h start r refl (fits-run r fits) (length-replicate {A = ℕ} 256 0) in
     (w.0, w.1.unaltered, rw w.1.ends (eqb_refl (pass_count s)))

@@ -15,7 +15,7 @@ use Rattle.run_passes.specs.Bounds.{StepBounds, SettingsBounds, BoundsReached}
 use Rattle.run_calls.specs.Calls.{Calls, Effects}
 use Rattle.run_calls.specs.Theorem.{RectangleTheorem, LibraryTheorem}
 use Rattle.run_calls.specs.States.{EndReached, ResultAt, RectangleTheoremAt}
-use Rattle.run_calls.specs.Rules.{StartTied, CallsTied, RefusedUntouched, CanFinish, CountRule, LibraryCountRule, EndFits, ReachedFits, FitsReached, EachReached}
+use Rattle.run_calls.specs.Rules.{StartTied, CallsTied, RefusedUntouched, CanFinish, CountRule, LibraryCountRule, LeftCounts, EndFits, ReachedFits, FitsReached, EachReached}
 use Rattle.run_calls.specs.Corollaries.{WholePicture, TwoCutsAgree, OutsideKept, BandsAlike}
 use Rattle.run_calls.specs.Example.{PremisesMet, PlaceClear}
 use Rattle.run_calls.specs.EdgeExample.{EdgePremisesMet, EdgePlaceClear}
@@ -59,6 +59,8 @@ pub record Promises : Type 1 where
   pub library-count-rule : LibraryCountRule
   pub count-rule : (n : ℕ) (K : Calls n) → Effects n K → CountRule n K
   pub can-finish : CanFinish
+  -- how many bands are left
+  pub left-counts : (n : ℕ) (K : Calls n) → Effects n K → LeftCounts n K
   -- the records of runs: which are valid, which are reached
   pub end_fits : (n : ℕ) (K : Calls n) → Effects n K → EndFits n K
   pub reached-fits : ReachedFits

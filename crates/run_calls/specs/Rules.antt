@@ -1,10 +1,10 @@
--- How many calls finish a run, which records accepted calls lead to, and that refused calls change nothing (Specification 3.3, 12.8,
--- 12.13). Statements only.
-use Rattle.std.specs.Prelude.{◌≡◌, ◌↔◌, List, ℕ, ◌*◌, T, length}
+-- How many calls finish a run, how many bands are left, which records accepted calls lead to, and that refused calls change nothing
+-- (Specification 3.3, 12.5, 12.8, 12.13). Statements only.
+use Rattle.std.specs.Prelude.{◌≡◌, ◌↔◌, cond, List, ℕ, ◌-◌, ◌*◌, T, length}
 use Rattle.run_setup.specs.declared.Setup.{Setup}
 use Rattle.run_record.specs.declared.Run.{Run}
 use Rattle.run_setup.specs.Setup.{max_bands, band_count, setup_fits}
-use Rattle.run_record.specs.Record.{pass_count, finished, run_fits, Reached}
+use Rattle.run_record.specs.Record.{pass_count, is_done, count_below, finished, run_fits, Reached}
 use Rattle.run_outcomes.specs.Start.{Handed, start_outcome}
 use Rattle.run_outcomes.specs.Band.{State, band_outcome, advance_outcome}
 use Rattle.run_outcomes.specs.Result.{result_outcome}
@@ -47,6 +47,12 @@ module _ (n : ℕ) (K : Calls n) where
   CountRule = (h : Handed) → StartAccepted n h → (cs : List K.Call) → Unaltered n K (start_state n h) cs
       → T (finished (end n K (start_state n h) cs).run)
       ↔ ((bands_in n K cs ≡ pass_count h.setup * band_count h.setup) × (advances_in n K cs ≡ pass_count h.setup))
+
+  -- The record after any unaltered list of calls has as its number of bands left the band count less the bands done, and 0 if the run is
+  -- finished.
+  abbrev pub LeftCounts : Type 0
+  LeftCounts = (h : Handed) → StartAccepted n h → (cs : List K.Call) → Unaltered n K (start_state n h) cs
+      → let r = (end n K (start_state n h) cs).run in r.bands_left ≡ cond (finished r) 0 (band_count h.setup - count_below max_bands (is_done r))
 
   -- the record after any unaltered list of calls is valid
   abbrev pub EndFits : Type 0

@@ -1,18 +1,15 @@
 -- What a valid record has, and that accepted calls keep it valid. Assumes nothing.
-use mathlib.Core.Path.{◌≡◌, refl, ap, ◌∙◌}
+use mathlib.Core.Path.{◌≡◌, refl}
 use mathlib.Core.Bool.{Bool, true, false, not, ◌&&◌, ◌||◌}
 use mathlib.Core.List.{List, [], ◌∷◌}
-use Prim.Native.Nat.{ℕ, zero, suc, ◌+◌, ◌<◌, ◌≤◌}
+use Prim.Native.Nat.{ℕ, zero, suc, ◌<◌, ◌≤◌}
 use native.Mathlib.Omega.{arith}
-use borrow.Author.Tests.{lt-leb, leb-false, eqb-false, ltb-false, le-ltb, not-true, not-false}
-use lib.Dec.{T, eqb, leb, ltb, leb→le, le→leb}
-use lib.ListN.{length, get_or, set, take, replicate}
+use borrow.Author.Tests.{lt-leb, leb-false, eqb-false, eq-eqb, ltb-false, le-ltb, not-true, not-false}
+use lib.Dec.{T, eqb, leb, ltb, eqb→eq, leb→le, le→leb}
+use lib.ListN.{get_or, set, replicate}
 use lib.Seq.{get_or-set_other}
 use lib.Ieee.Fits.{and_l, and_r, and_i}
-use Rattle.std.specs.List.{list_any}
-use Rattle.std.proofs.lemmas.List.Folds.{list_any_more}
-use Rattle.sigma_grids.specs.Table.{some_below}
-use Rattle.sigma_grids.proofs.Laws.{neither, none_below}
+use Rattle.sigma_grids.proofs.Laws.{neither, none_below, none-found}
 use Rattle.run_passes.specs.Plan.{one_if}
 use Rattle.run_setup.specs.declared.Setup.{Setup}
 use Rattle.run_record.specs.declared.Run.{Run}
@@ -20,27 +17,11 @@ use Rattle.refusals.proofs.Tables.{is_true, of-true}
 use Rattle.run_setup.specs.Setup.{max_bands, band_count, setup_fits}
 use Rattle.run_setup.specs.SetupFits.{SetupFits}
 use Rattle.run_setup.proofs.Laws.{setup-fits}
-use Rattle.run_record.specs.Record.{pass_count, is_done, none_done, started, marked, advanced, finished, band_missing, not_open, not_over, open_bands, bad_flag, bad_done, run_fits}
+use Rattle.run_record.specs.Record.{pass_count, is_done, none_done, started, marked, advanced, finished, band_missing, not_open, not_over, open_bands, left_by_flags, bad_flag, bad_done, run_fits}
 use Rattle.run_record.specs.RunFits.{RunFits}
 
-pub none_has : (n : ℕ) (has : ℕ → Bool) → ((k : ℕ) → k < n → has k ≡ false) → some_below n has ≡ false
-unfolding some_below
-none_has zero has f = refl
-none_has (suc n) has f = rw (none_has n has (λ k l. f k (omega arith)), f n (omega arith))
-
--- some of the first n elements passes a test
-pub some_of : {X : Type 0} (test : X → Bool) (xs : List X) (d : X) (has : ℕ → Bool) (n : ℕ) → n ≤ length xs → ((k : ℕ) → k < n → test (get_or xs k d) ≡ has k)
-    → list_any test (take n xs) ≡ some_below n has
-unfolding some_below
-some_of test xs d has zero h same = refl
-some_of test xs d has (suc n) h same =
-    let next : suc n ≡ n + 1 = omega arith in
-    ap (λ (k : ℕ). list_any test (take k xs)) next
-    ∙ list_any_more test xs n d h
-    ∙ rw (some_of test xs d has n (omega arith) (λ k l. same k (omega arith)), same n (omega arith))
-
 -- a flag of a valid record is 0 or 1, and 0 from the open bands on
-flag-most : (bands k f : ℕ) → bad_flag bands k f ≡ false → f ≤ 1
+pub flag-most : (bands k f : ℕ) → bad_flag bands k f ≡ false → f ≤ 1
 flag-most bands k f e = go (ltb k bands) (ltb-false _ f e)
   where
     go : (b : Bool) → f ≤ one_if b → f ≤ 1
@@ -60,13 +41,18 @@ not-bad-flag bands k f h n = go (ltb k bands) refl
 pub run_fits_lem : (r : Run) → T (run_fits r) → RunFits r
 unfolding run_fits bad_done is_done
 run_fits_lem r t =
-    let q = and_r (setup_fits r.setup) (leb r.pass (pass_count r.setup) && not (bad_done r)) t in
-    let none : bad_done r ≡ false = not-true (bad_done r) (is_true (not (bad_done r)) (and_r (leb r.pass (pass_count r.setup)) (not (bad_done r)) q)) in
+    let passes = leb r.pass (pass_count r.setup) in
+    let flags = not (bad_done r) in
+    let counted = eqb r.bands_left (left_by_flags r) in
+    let p = and_r (setup_fits r.setup) (passes && (flags && counted)) t in
+    let q = and_r passes (flags && counted) p in
+    let none : bad_done r ≡ false = not-true (bad_done r) (is_true flags (and_l flags counted q)) in
     record {
-      setup = and_l (setup_fits r.setup) (leb r.pass (pass_count r.setup) && not (bad_done r)) t;
-      pass = leb→le r.pass (pass_count r.setup) (and_l (leb r.pass (pass_count r.setup)) (not (bad_done r)) q);
+      setup = and_l (setup_fits r.setup) (passes && (flags && counted)) t;
+      pass = leb→le r.pass (pass_count r.setup) (and_l passes (flags && counted) p);
       flag = λ k l. flag-most (open_bands r) k (get_or r.done k 0) (fair none k l);
       none-past-count = λ k l o. let z : get_or r.done k 0 ≡ 0 = flag-none (open_bands r) k (get_or r.done k 0) (fair none k l) o in rw z;
+      left = eqb→eq r.bands_left (left_by_flags r) (and_r flags counted q);
     }
   where
     fair : bad_done r ≡ false → (k : ℕ) → k < max_bands → bad_flag (open_bands r) k (get_or r.done k 0) ≡ false
@@ -79,9 +65,13 @@ fits-setup-of r e = setup-fits r.setup (run_fits_lem r (of-true (run_fits r) e))
 pub fits-run : (r : Run) → RunFits r → T (run_fits r)
 unfolding run_fits bad_done is_done
 fits-run r f =
-    let none : bad_done r ≡ false = none_has max_bands (λ k. bad_flag (open_bands r) k (get_or r.done k 0)) (λ k l. not-bad-flag (open_bands r) k (get_or r.done k 0) (f.flag k l) (f.none-past-count k l)) in
-    and_i (setup_fits r.setup) (leb r.pass (pass_count r.setup) && not (bad_done r)) f.setup
-    (and_i (leb r.pass (pass_count r.setup)) (not (bad_done r)) (le→leb r.pass (pass_count r.setup) f.pass) (rw none tt))
+    let passes = leb r.pass (pass_count r.setup) in
+    let flags = not (bad_done r) in
+    let counted = eqb r.bands_left (left_by_flags r) in
+    let none : bad_done r ≡ false = none-found max_bands (λ k. bad_flag (open_bands r) k (get_or r.done k 0)) (λ k l. not-bad-flag (open_bands r) k (get_or r.done k 0) (f.flag k l) (f.none-past-count k l)) in
+    and_i (setup_fits r.setup) (passes && (flags && counted)) f.setup
+    (and_i passes (flags && counted) (le→leb r.pass (pass_count r.setup) f.pass)
+    (and_i flags counted (rw none tt) (rw (eq-eqb r.bands_left (left_by_flags r) f.left) tt)))
 
 -- a band that may run
 pub record Open (r : Run) (k : ℕ) : Type 0 where
@@ -112,7 +102,7 @@ pass-over r e =
 pub over-pass : (r : Run) → Over r → not_over r ≡ false
 unfolding band_missing
 over-pass r o =
-    let none : band_missing r ≡ false = none_has (band_count r.setup) (λ k. not (is_done r k)) (λ k l. rw (o.done k l)) in
+    let none : band_missing r ≡ false = none-found (band_count r.setup) (λ k. not (is_done r k)) (λ k l. rw (o.done k l)) in
     rw (o.unfinished, none)
 
 -- ---- how calls change it
@@ -132,7 +122,7 @@ pass-left r f e = let n = eqb-false r.pass (pass_count r.setup) e in omega (arit
 
 pub started-fits : (s : Setup) → T (setup_fits s) → RunFits (started s)
 unfolding started is_done
-started-fits s t = record { setup = t; pass = omega arith; flag = λ k l. rw (none_done_lem k) (omega arith); none-past-count = λ k l o. rw (none_done_lem k) }
+started-fits s t = record { setup = t; pass = omega arith; flag = λ k l. rw (none_done_lem k) (omega arith); none-past-count = λ k l o. rw (none_done_lem k); left = refl }
 
 set-most : (l : List ℕ) (k j : ℕ) → get_or l j 0 ≤ 1 → get_or (set l k 1) j 0 ≤ 1
 set-most [] k j h = h
@@ -149,8 +139,9 @@ marked-fits r k f o =
       pass = f.pass;
       flag = λ j l. set-most r.done k j (f.flag j l);
       none-past-count = λ j l p. rw (get_or-set_other r.done k j 1 0 (λ (e : j ≡ k). omega (arith, e, o.below, rw o.unfinished at p))) (f.none-past-count j l p);
+      left = refl;
     }
 
 pub advanced-fits : (r : Run) → RunFits r → Over r → RunFits (advanced r)
 unfolding advanced is_done
-advanced-fits r f o = record { setup = f.setup; pass = pass-left r f o.unfinished; flag = λ k l. rw (none_done_lem k) (omega arith); none-past-count = λ k l p. rw (none_done_lem k) }
+advanced-fits r f o = record { setup = f.setup; pass = pass-left r f o.unfinished; flag = λ k l. rw (none_done_lem k) (omega arith); none-past-count = λ k l p. rw (none_done_lem k); left = refl }

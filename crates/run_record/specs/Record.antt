@@ -1,5 +1,5 @@
 -- The record of a run (Specification 12.5, 12.8): what start returns, how calls change it, and when it is valid. Definitions only.
-use Rattle.std.specs.Prelude.{◌≡◌, Bool, false, cond, not, ◌&&◌, ◌||◌, List, [], ◌∷◌, ℕ, suc, eqb, leb, ltb, length, get_or, set, replicate}
+use Rattle.std.specs.Prelude.{◌≡◌, Bool, false, cond, not, ◌&&◌, ◌||◌, List, [], ◌∷◌, ℕ, zero, suc, ◌+◌, ◌-◌, eqb, leb, ltb, length, get_or, set, replicate}
 use Rattle.refusals.specs.Numbers.{out_of_range, band_not_open, pass_not_done}
 use Rattle.refusals.specs.Checks.{Check, always}
 use Rattle.refusals.specs.Flags.{flag_set}
@@ -20,11 +20,30 @@ is_done r k = flag_set (get_or r.done k 0)
 abbrev pub none_done : List ℕ
 none_done = replicate max_bands 0
 
+-- ---- the number of bands left in a pass (Specification 12.5): those that may be done less those that are
+
+-- how many of the first n numbers have a property
+unfoldable pub count_below : ℕ → (ℕ → Bool) → ℕ
+count_below zero has = 0
+count_below (suc n) has = count_below n has + one_if (has n)
+
+-- the number of bands that may be done in pass p: 0 if all passes are completed
+abbrev pub open_in : Setup → ℕ → ℕ
+open_in s p = cond (eqb p (pass_count s)) 0 (band_count s)
+
+-- the bands left in pass p with these flags
+unfoldable pub bands_left_in : Setup → ℕ → List ℕ → ℕ
+bands_left_in s p d = open_in s p - count_below max_bands (λ k. flag_set (get_or d k 0))
+
+-- by a record's setup, pass and flags
+abbrev pub left_by_flags : Run → ℕ
+left_by_flags r = bands_left_in r.setup r.pass r.done
+
 -- ---- what calls return
 
 -- the only place where a record is made; a new field gets its value here
 abbrev pub run_of : Setup → ℕ → List ℕ → Run
-run_of s p d = record { setup = s; pass = p; done = d }
+run_of s p d = record { setup = s; pass = p; bands_left = bands_left_in s p d; done = d }
 
 -- after an accepted start
 unfoldable pub started : Setup → Run
@@ -58,9 +77,8 @@ not_over r = finished r || band_missing r
 
 -- ---- valid records
 
--- the number of bands that may be done: 0 in a finished run
 abbrev pub open_bands : Run → ℕ
-open_bands r = cond (finished r) 0 (band_count r.setup)
+open_bands r = open_in r.setup r.pass
 
 -- no accepted calls give band k this flag: it is over 1 below the open bands, or not 0 from there on
 abbrev pub bad_flag : ℕ → ℕ → ℕ → Bool
@@ -69,9 +87,9 @@ bad_flag bands k flag = ltb (one_if (ltb k bands)) flag
 unfoldable pub bad_done : Run → Bool
 bad_done r = some_below max_bands (λ k. bad_flag (open_bands r) k (get_or r.done k 0))
 
--- valid (Specification 12.8): the setup is in range, and accepted calls lead to `pass` and `done` (`Reached` and its two laws)
+-- valid (Specification 12.8): the setup is in range, and accepted calls lead to `pass`, `bands_left` and `done` (`Reached` and its two laws)
 unfoldable pub run_fits : Run → Bool
-run_fits r = setup_fits r.setup && (leb r.pass (pass_count r.setup) && not (bad_done r))
+run_fits r = setup_fits r.setup && (leb r.pass (pass_count r.setup) && (not (bad_done r) && eqb r.bands_left (left_by_flags r)))
 
 -- the records to which accepted bands and advances lead from the one that start returns
 pub data Reached (s : Setup) : Run → Type 0 where

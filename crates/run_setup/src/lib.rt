@@ -68,14 +68,13 @@ impl Setup {
 
     // The number of bands of a pass.
     #[tactic(auto, unfolding(crate::specs::Setup::band_count))]
-    pub fn band_count(&self) -> usize
+    pub fn band_count(&self) -> u32
         ensures { result ≡ band_count self.now }
     {
-        let height = self.band_height as usize;
-        if height == 0 {
+        if self.band_height == 0 {
             return 0;
         }
-        (self.row_count() as usize).div_ceil(height)
+        self.row_count().div_ceil(self.band_height)
     }
 
     fn blocks_fit(&self) -> bool
@@ -100,7 +99,7 @@ impl Setup {
             && flag_fits(self.preserve_outside)
             && flag_fits(self.settings.gabor.enabled)
             && self.height_fits()
-            && self.band_count() <= MAX_BANDS
+            && self.band_count() as usize <= MAX_BANDS
     }
 
     // Whether start would not refuse the setup under 4, 5, 6 or 9.

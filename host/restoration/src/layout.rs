@@ -108,11 +108,12 @@ const _: () = {
     assert!(offset_of!(Setup, preserve_outside) == 32);
     assert!(offset_of!(Setup, settings) == 36);
     assert!(offset_of!(Setup, band_height) == 100);
-    assert!(size_of::<Run>() == 364);
+    assert!(size_of::<Run>() == 368);
     assert!(offset_of!(Run, setup) == 0);
     assert!(offset_of!(Run, pass) == 104);
-    assert!(offset_of!(Run, done) == 108);
-    assert!(size_of::<RunAnswer>() == 368);
+    assert!(offset_of!(Run, bands_left) == 108);
+    assert!(offset_of!(Run, done) == 112);
+    assert!(size_of::<RunAnswer>() == 372);
     assert!(offset_of!(RunAnswer, number) == 0);
     assert!(offset_of!(RunAnswer, run) == 4);
     assert!(size_of::<LoupeSetup>() == 96);

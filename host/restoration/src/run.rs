@@ -173,13 +173,17 @@ impl Setup {
     }
 }
 
-/// The record of a run. The default is that of a run that has just started, with the default setup.
+/// The record of a run. The default is that of a run that has just started, with the default setup,
+/// whose image has no rows and so no bands.
 #[repr(C)]
 #[derive(Clone, Copy, PartialEq)]
 pub struct Run {
     pub setup: Setup,
     /// How many passes are finished.
     pub pass: u32,
+    /// How many bands of this pass are not done; 0 if the run is finished. A record in which it is any
+    /// other number is refused with 9.
+    pub bands_left: u32,
     /// 1 for each band of this pass that is done.
     pub done: [u8; 256],
 }
@@ -188,6 +192,7 @@ impl Run {
     pub const DEFAULT: Self = Self {
         setup: Setup::DEFAULT,
         pass: 0,
+        bands_left: 0,
         // This holds the length in the declaration, a number for tools/header, to the constant.
         done: [0; MAX_BANDS],
     };
@@ -202,6 +207,7 @@ impl fmt::Debug for Run {
         f.debug_struct("Run")
             .field("setup", &self.setup)
             .field("pass", &self.pass)
+            .field("bands_left", &self.bands_left)
             .field("done", &done)
             .finish()
     }

@@ -84,8 +84,8 @@ const SECTIONS: [Section; 8] = [
     (gabor::compare, 7),
     (sigma::compare, 5),
     (epf::compare, 26),
-    (runs::compare, 16),
-    (rectangles::compare, 2),
+    (runs::compare, 17),
+    (rectangles::compare, 3),
     (loupe::compare, 2),
 ];
 

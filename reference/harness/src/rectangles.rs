@@ -1,10 +1,11 @@
 //! Rectangles cut from larger pictures. Each is run by itself, with its own image region, band height,
 //! result, frame and grids. Its samples at least the margin away from each cut edge must be the larger
-//! picture's, bit for bit. With a margin of one sample less they differ.
+//! picture's, bit for bit. With a margin of one sample less they differ. After each call of a list the
+//! record's number of bands left is compared with a count of its flags.
 
 mod regroup;
 
-use restoration::{BLOCK, CHANNELS, MAX_ITERS, Region, Settings};
+use restoration::{BLOCK, CHANNELS, MAX_ITERS, Region, Run, Settings};
 
 use crate::{
     bits,
@@ -13,7 +14,7 @@ use crate::{
     picture::{self, agree, samples},
     random::Random,
     report::{Amount, Report, Row},
-    runs::{self, Input, Passes, State, place, setup_rule},
+    runs::{self, Input, Passes, State, counted, place, setup_rule},
     sigma::sigma,
 };
 
@@ -30,11 +31,12 @@ const EDGES: [&str; 4] = ["left", "top", "right", "bottom"];
 pub fn compare(amount: Amount, report: &mut Report) {
     let mut random = Random::for_name(NAME);
     let mut row = Row::new(NAME, "random");
+    let mut left = Row::new("bands left", "lists of calls");
     let mut compared = 0;
     while row.draws(RECTANGLES, amount) {
         let passes = runs::passes(&mut random);
         let pair = Pair::draw(passes, &mut random);
-        compared += pair.compare(&mut random, &mut row);
+        compared += pair.compare(&mut random, &mut row, &mut left);
     }
     report.add(row);
     println!("{NAME}: {compared} samples at and beyond the margin");
@@ -44,9 +46,10 @@ pub fn compare(amount: Amount, report: &mut Report) {
             gabor: combination % 2 == 1,
             iterations: combination / 2,
         };
-        tight(passes, &mut random, &mut row);
+        tight(passes, &mut random, &mut row, &mut left);
     }
     report.add(row);
+    report.add(left);
 }
 
 /// Two pictures that agree in the smaller filter region.
@@ -116,9 +119,9 @@ impl Pair {
     }
 
     /// Both results, each by its own list of calls.
-    fn results(&self, random: &mut Random) -> Result<[Vec<f32>; 2], Stopped> {
-        let smaller = finished(&self.smaller, random)?;
-        Ok([smaller, finished(&self.larger, random)?])
+    fn results(&self, random: &mut Random, left: &mut Row) -> Result<[Vec<f32>; 2], Stopped> {
+        let smaller = finished(&self.smaller, random, left)?;
+        Ok([smaller, finished(&self.larger, random, left)?])
     }
 
     /// The samples of both at a position, one pair per plane.
@@ -140,14 +143,14 @@ impl Pair {
     }
 
     /// Compares both results and answers how many samples were compared.
-    fn compare(&self, random: &mut Random, row: &mut Row) -> u64 {
+    fn compare(&self, random: &mut Random, row: &mut Row, left: &mut Row) -> u64 {
         row.count(0);
         let case = (&self.smaller, &self.larger);
         let answered = restoration::margin(self.smaller.setup.settings);
         if answered.value() != Ok(self.margin) {
             row.differs(&case, &answered, &self.margin);
         }
-        let results = match self.results(random) {
+        let results = match self.results(random, left) {
             Ok(results) => results,
             Err(stopped) => {
                 row.differs(&case, &stopped, &0);
@@ -167,8 +170,8 @@ impl Pair {
     }
 
     /// The edges at which some sample differs with a margin of one sample less.
-    fn wrong_edges(&self, random: &mut Random) -> Result<[bool; 4], Stopped> {
-        let results = self.results(random)?;
+    fn wrong_edges(&self, random: &mut Random, left: &mut Row) -> Result<[bool; 4], Stopped> {
+        let results = self.results(random, left)?;
         let differs = |at| {
             let samples = self.samples(&results, at);
             samples.into_iter().any(|[a, b]| !agree(a, b))
@@ -183,7 +186,7 @@ impl Pair {
 }
 
 /// Searches, for each edge, a picture in which a margin of one sample less is too small.
-fn tight(passes: Passes, random: &mut Random, row: &mut Row) {
+fn tight(passes: Passes, random: &mut Random, row: &mut Row, left: &mut Row) {
     let mut found = [false; 4];
     for _ in 0..TRIES {
         let mut larger = runs::with_passes(passes, SIDES, random);
@@ -191,7 +194,7 @@ fn tight(passes: Passes, random: &mut Random, row: &mut Row) {
         larger.setup.settings = runs::defaults(passes);
         larger.setup.settings.epf.sigma_for_modular = modular;
         let pair = Pair::cut(larger, random);
-        match pair.wrong_edges(random) {
+        match pair.wrong_edges(random, left) {
             Ok(wrong) => found = core::array::from_fn(|edge| found[edge] || wrong[edge]),
             Err(stopped) => row.differs(&(&pair.smaller, &pair.larger), &stopped, &0),
         }
@@ -304,14 +307,15 @@ fn agreeing(settings: Settings, random: &mut Random) -> Settings {
 type Stopped = (&'static str, u32);
 
 /// The result of a random list of calls. Refused ones are interleaved and must leave every bit.
-fn finished(input: &Input, random: &mut Random) -> Result<Vec<f32>, Stopped> {
+fn finished(input: &Input, random: &mut Random, left: &mut Row) -> Result<Vec<f32>, Stopped> {
     let mut copy = input.clone();
     let answer = copy.start();
     if answer.number != 0 {
         return Err(("start was refused", answer.number));
     }
+    compare_left(&answer.run, 0, left);
     let mut state = State::new(answer.run, &copy);
-    let mut left = state.clone();
+    let mut kept = state.clone();
     let rule = setup_rule(&copy.setup);
     let mut out = samples(count(rule.result()) as usize, random);
     bits::sprinkle(&mut out, random);
@@ -325,17 +329,27 @@ fn finished(input: &Input, random: &mut Random) -> Result<Vec<f32>, Stopped> {
             1 => restoration::result(state.run, &state.first, &state.second, &mut out),
             _ => any_band(&mut state, rule.bands(), random),
         };
+        compare_left(&state.run, number, left);
         if number != 0 {
-            if !state.same_bits(&left) || !bits::same(&out, &out_before) {
+            if !state.same_bits(&kept) || !bits::same(&out, &out_before) {
                 return Err(("a refused call changed something", number));
             }
         } else if call == 1 {
             return Ok(out);
         } else {
-            left.clone_from(&state);
+            kept.clone_from(&state);
         }
     }
     Err(("no result after many calls", number))
+}
+
+/// Compares the number of bands left after a call with a count of the flags.
+fn compare_left(run: &Run, number: u32, left: &mut Row) {
+    left.count(number);
+    let expected = counted(*run).bands_left;
+    if run.bands_left != expected {
+        left.differs(run, &run.bands_left, &expected);
+    }
 }
 
 fn advance(state: &mut State) -> u32 {

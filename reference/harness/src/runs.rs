@@ -1,6 +1,7 @@
 //! Whole runs against the original's `apply_gabor_like` (on one row the rule, `gabor::one_row`) and
 //! `apply_epf` on one picture: bands in random order, with refused calls of every number interleaved.
 
+mod bands_left;
 mod calls;
 mod damage;
 mod draw;
@@ -17,7 +18,7 @@ use damage::MOST_SAMPLES;
 pub use draw::{
     Passes, around, band_height, defaults, part, passes, settings, with_passes, with_sides,
 };
-pub use input::{Input, State, place, setup_rule};
+pub use input::{Input, State, counted, place, setup_rule};
 
 use crate::{
     bits,
@@ -40,6 +41,7 @@ const BANDS: u32 = MAX_BANDS as u32;
 
 pub fn compare(amount: Amount, report: &mut Report) {
     instances::compare(report);
+    bands_left::compare(amount, report);
     let mut random = Random::for_name("whole runs");
     let mut tally = Tally::new("in runs");
     let mut row = Row::new("whole runs", "small");

@@ -91,7 +91,7 @@ impl Setup {
     }
 
     /// Start would not refuse it with 4, 5, 6 or 9.
-    fn fits(&self) -> bool {
+    pub fn fits(&self) -> bool {
         in_range(self.image)
             && in_range(self.filter)
             && inside(self.filter, self.image)
@@ -183,6 +183,7 @@ pub fn start(input: Start) -> u32 {
 pub struct Record<'a> {
     pub setup: Setup,
     pub pass: i128,
+    pub bands_left: i128,
     pub done: &'a [u8],
 }
 
@@ -191,8 +192,9 @@ impl Record<'_> {
         self.pass == self.setup.passes()
     }
 
-    /// The setup is in range, and accepted calls lead to this pass and these flags: a band's flag is 0 or
-    /// 1, a flag past the last band is 0, and all are 0 once the run is finished.
+    /// The setup is in range, and accepted calls lead to this pass, these flags and this number of bands
+    /// left: a band's flag is 0 or 1, a flag past the last band is 0, and all are 0 once the run is
+    /// finished.
     fn fits(&self) -> bool {
         if !self.setup.fits() || self.pass > self.setup.passes() {
             return false;
@@ -202,9 +204,20 @@ impl Record<'_> {
         } else {
             self.setup.bands()
         };
-        (0..)
+        let flags_fit = (0..)
             .zip(self.done)
-            .all(|(k, &flag)| flag <= u8::from(k < open))
+            .all(|(k, &flag)| flag <= u8::from(k < open));
+        flags_fit && self.bands_left == self.left()
+    }
+
+    /// How many bands of the pass are left, counted one by one (12.5): none if the run is finished. The
+    /// setup must be in range.
+    pub fn left(&self) -> i128 {
+        if self.finished() {
+            return 0;
+        }
+        let open = (0..self.setup.bands()).filter(|&k| !self.is_done(k));
+        open.count() as i128
     }
 
     fn missing(&self) -> bool {

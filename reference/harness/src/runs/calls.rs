@@ -4,7 +4,7 @@ use core::{fmt::Debug, hint::black_box};
 
 use restoration::{Run, RunAnswer, Setup};
 
-use super::input::{Input, State, fields, place, record_rule, result_part, setup_rule};
+use super::input::{Input, State, counted, fields, place, record_rule, result_part, setup_rule};
 use crate::{
     bits,
     expected::runs as rule,
@@ -83,16 +83,17 @@ pub fn margin(setup: &Setup, tally: &mut Tally) -> u32 {
 }
 
 /// Answers the number and the record. An accepted start leaves the sets unchanged and fills in the
-/// sigmas; a refused one changes nothing and answers zeros.
+/// sigmas; a refused one changes nothing and answers zeros. Here and below, an accepted call's record has
+/// the number of bands left that its flags give.
 pub fn start(input: &mut Input, tally: &mut Tally) -> (u32, Run) {
     let before = input.clone();
     let expected = rule::start(before.rule());
     let answer = input.start();
     let (run, sigmas_as_expected) = if expected == 0 {
-        let run = Run {
+        let run = counted(Run {
             setup: before.setup,
             ..Run::DEFAULT
-        };
+        });
         (run, same_samples(&input.sigmas, &before.expected_sigmas()))
     } else {
         let refused = RunAnswer::refused(expected);
@@ -126,6 +127,7 @@ pub fn band(state: &mut State, k: u32, tally: &mut Tally) -> u32 {
     if expected == 0 {
         rewrite(&mut before, state, k);
         before.run.done[k as usize] = 1;
+        before.run = counted(before.run);
     }
     state.run = answer.run;
     let parts = [
@@ -157,11 +159,11 @@ pub fn advance(run: &mut Run, tally: &mut Tally) -> u32 {
     let expected = rule::advance(record_rule(&before));
     let answer = restoration::advance(before);
     *run = if expected == 0 {
-        Run {
+        counted(Run {
             pass: before.pass + 1,
             done: Run::DEFAULT.done,
             ..before
-        }
+        })
     } else {
         before
     };

@@ -6,7 +6,7 @@ use restoration::{
     TABLE_ENTRY,
 };
 
-use super::input::{Input, State, setup_rule};
+use super::input::{Input, State, counted, setup_rule};
 use crate::{
     picture::{any_len, special},
     random::Random,
@@ -70,6 +70,9 @@ pub fn state(t: &mut State, random: &mut Random) {
     if random.once_in(2) {
         let s = t.run.setup;
         refit(&s, [&mut t.first, &mut t.second, &mut t.sigmas]);
+    }
+    if random.once_in(2) {
+        recount(&mut t.run);
     }
 }
 
@@ -155,10 +158,16 @@ fn narrow(h: &mut Input, random: &mut Random) {
     h.grids.truncate(h.grids.len().saturating_sub(lost));
 }
 
-/// The pass and the flags of the bands: all fields of a record beside its setup.
+/// The pass, the number of bands left and the flags of the bands: all fields of a record beside its
+/// setup.
 fn progress(run: &mut Run, random: &mut Random) {
-    let Run { setup, pass, done } = run;
-    match random.within(0, 5) {
+    let Run {
+        setup,
+        pass,
+        bands_left,
+        done,
+    } = run;
+    match random.within(0, 7) {
         0 | 1 => *pass = random.one_of(&[0, 1, 2, 3, 4, 5, u32::MAX]),
         2 => done[random.within(0, MAX_BANDS as i128 - 1) as usize] = random.one_of(&BYTES),
         3 => *done = [random.one_of(&BYTES); MAX_BANDS],
@@ -169,11 +178,25 @@ fn progress(run: &mut Run, random: &mut Random) {
             let bands = bands.min(MAX_BANDS as i128 - 1) as usize + usize::from(random.once_in(2));
             *done = core::array::from_fn(|k| u8::from(k < bands));
         }
-        _ => {
+        5 => {
             let k = random.within(0, 7) as usize;
             done[k] ^= random.one_of(&[1, 1, 2, 255]);
         }
+        _ => *bands_left = another_number(*bands_left, random),
     }
+}
+
+/// One more or one fewer, a limit, or any number.
+fn another_number(n: u32, random: &mut Random) -> u32 {
+    let any = random.next() as u32;
+    random.one_of(&[
+        n.wrapping_add(1),
+        n.wrapping_sub(1),
+        0,
+        MAX_BANDS as u32,
+        u32::MAX,
+        any,
+    ])
 }
 
 fn lengths(slices: [&mut Vec<f32>; 3], random: &mut Random) {
@@ -193,5 +216,12 @@ fn refit(s: &Setup, slices: [&mut Vec<f32>; 3]) {
         if expected <= MOST_SAMPLES {
             slice.resize(expected as usize, 1.0);
         }
+    }
+}
+
+/// Makes the number of bands left fit the setup and the flags, for the same reason.
+fn recount(run: &mut Run) {
+    if setup_rule(&run.setup).fits() {
+        *run = counted(*run);
     }
 }

@@ -164,7 +164,16 @@ pub fn record_rule(run: &Run) -> rule::Record<'_> {
     rule::Record {
         setup: setup_rule(&run.setup),
         pass: run.pass.into(),
+        bands_left: run.bands_left.into(),
         done: &run.done,
+    }
+}
+
+/// The record with the number of bands left that its pass and flags give. Its setup must be in range.
+pub fn counted(run: Run) -> Run {
+    Run {
+        bands_left: record_rule(&run).left() as u32,
+        ..run
     }
 }
 
@@ -188,9 +197,14 @@ pub fn result_part(s: &Setup, set: &[f32]) -> Vec<f32> {
 /// Every field of a record, floats by their bits. The patterns name all fields, so that a new one is
 /// not forgotten.
 pub fn fields(run: &Run) -> Vec<u32> {
-    let &Run { setup, pass, done } = run;
+    let &Run {
+        setup,
+        pass,
+        bands_left,
+        done,
+    } = run;
     let mut all = setup_fields(&setup);
-    all.push(pass);
+    all.extend([pass, bands_left]);
     all.extend(done.map(u32::from));
     all
 }

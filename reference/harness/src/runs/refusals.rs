@@ -175,7 +175,23 @@ const RECORDS: &[Damage<State, [u32; 3]>] = &[
     ("band height 0", [9, 9, 9], |t| t.run.setup.band_height = 0),
     ("a done band too many", [9, 9, 9], |t| t.run.done[2] = 1),
     ("a flag of 2", [9, 9, 9], |t| t.run.done[0] = 2),
+    ("a flag of 2, one band left", [9, 9, 9], |t| {
+        t.run.done[0] = 2;
+        t.run.bands_left = 1;
+    }),
+    ("a flag of 2, no band left", [9, 9, 9], |t| {
+        t.run.done[0] = 2;
+        t.run.bands_left = 0;
+    }),
     ("both bands 2", [9, 9, 9], |t| t.run.done[..2].fill(2)),
+    ("both bands 2, no band left", [9, 9, 9], |t| {
+        t.run.done[..2].fill(2);
+        t.run.bands_left = 0;
+    }),
+    ("a done band too many, one band left", [9, 9, 9], |t| {
+        t.run.done[2] = 1;
+        t.run.bands_left = 1;
+    }),
     ("a flag of 2 past the count", [9, 9, 9], |t| {
         t.run.done[5] = 2
     }),
@@ -193,12 +209,72 @@ const RECORDS: &[Damage<State, [u32; 3]>] = &[
         t.run.done[MAX_BANDS - 1] = 1
     }),
     ("a pass past the last", [9, 9, 9], |t| t.run.pass = 5),
-    ("finished", [10, 11, 0], |t| t.run.pass = 4),
+    ("a pass past the last, no band left", [9, 9, 9], |t| {
+        t.run.pass = 5;
+        t.run.bands_left = 0;
+    }),
+    ("finished", [10, 11, 0], finish),
     ("finished with a done band", [9, 9, 9], |t| {
-        t.run.pass = 4;
+        finish(t);
         t.run.done[0] = 1;
     }),
-    ("all bands done", [10, 0, 11], |t| t.run.done[..2].fill(1)),
+    ("finished with its bands left", [9, 9, 9], |t| {
+        finish(t);
+        t.run.bands_left = 2;
+    }),
+    ("finished with one band left", [9, 9, 9], |t| {
+        finish(t);
+        t.run.bands_left = 1;
+    }),
+    ("band 0 done", [10, 11, 11], |t| {
+        t.run.done[0] = 1;
+        t.run.bands_left = 1;
+    }),
+    ("band 1 done", [0, 11, 11], |t| {
+        t.run.done[1] = 1;
+        t.run.bands_left = 1;
+    }),
+    ("all bands done", [10, 0, 11], |t| {
+        t.run.done[..2].fill(1);
+        t.run.bands_left = 0;
+    }),
+    ("one band left too many", [9, 9, 9], |t| {
+        t.run.bands_left = 3
+    }),
+    ("one band left too few", [9, 9, 9], |t| t.run.bands_left = 1),
+    ("no band left, but both open", [9, 9, 9], |t| {
+        t.run.bands_left = 0
+    }),
+    ("256 bands left", [9, 9, 9], |t| {
+        t.run.bands_left = MAX_BANDS as u32
+    }),
+    ("4,294,967,295 bands left", [9, 9, 9], |t| {
+        t.run.bands_left = u32::MAX
+    }),
+    ("all bands done, 4,294,967,295 left", [9, 9, 9], |t| {
+        t.run.done[..2].fill(1);
+        t.run.bands_left = u32::MAX;
+    }),
+    ("all bands done, one left", [9, 9, 9], |t| {
+        t.run.done[..2].fill(1);
+        t.run.bands_left = 1;
+    }),
+    ("a band left too many, a short set", [7, 9, 7], |t| {
+        t.run.bands_left = 3;
+        t.first.pop();
+    }),
+    ("a band left too few, a sigma too many", [7, 9, 9], |t| {
+        t.run.bands_left = 1;
+        t.sigmas.push(0.0);
+    }),
+    // Band 0 is not open (10); the pass is not done, nor the run finished (11).
+    ("band 0 done, two bands left", [9, 9, 9], |t| {
+        t.run.done[0] = 1
+    }),
+    ("band 0 done, no band left", [9, 9, 9], |t| {
+        t.run.done[0] = 1;
+        t.run.bands_left = 0;
+    }),
     ("an empty image region, a short set", [9, 9, 9], |t| {
         t.run.setup.image.width = 0;
         t.first.pop();
@@ -290,6 +366,12 @@ fn valid() -> Input {
         second: vec![0.25; SAMPLES],
         sigmas: vec![0.0; BLOCKS],
     }
+}
+
+/// All four passes are over.
+fn finish(t: &mut State) {
+    t.run.pass = 4;
+    t.run.bands_left = 0;
 }
 
 fn moved(setup: &mut Setup, right: i32) {
