@@ -20,6 +20,7 @@ mod original;
 mod pfm;
 mod picture;
 mod png;
+mod progress;
 mod rectangles;
 mod show;
 mod smooth;

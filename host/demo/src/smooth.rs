@@ -7,6 +7,7 @@ use restoration::{
 use crate::{
     options::{Chosen, GaborChoice},
     picture::{Picture, at_corner},
+    progress::Bar,
 };
 
 /// Rows of a band: 256 bands hold the tallest picture.
@@ -43,14 +44,15 @@ impl Filters {
         restoration::margin(self.settings).value()
     }
 
-    /// All passes over a picture or a part of it by itself.
+    /// All passes over a picture or a part of it by itself, with a progress bar if they take long.
     pub fn smooth(&self, picture: Picture) -> Result<Picture, Refusal> {
+        let mut bar = Bar::on_stderr();
         let setup = setup(picture.region, picture.region, self.settings);
         let (table, grids) = (&self.table, &self.grids);
         let smoothing = Smoothing::start(setup, self.frame, table, grids, picture.planes)?;
         Ok(Picture {
             region: picture.region,
-            planes: smoothing.finish()?,
+            planes: smoothing.finish_with(|progress| bar.show(progress))?,
         })
     }
 

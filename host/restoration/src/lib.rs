@@ -29,12 +29,13 @@ mod layout;
 mod limits;
 mod loupe;
 mod pass;
+mod progress;
 mod refusal;
 mod region;
 mod run;
 mod smoothing;
 
 pub use self::{
-    cut::*, frame::*, header::*, limits::*, loupe::*, pass::*, refusal::*, region::*, run::*,
-    smoothing::*,
+    cut::*, frame::*, header::*, limits::*, loupe::*, pass::*, progress::*, refusal::*, region::*,
+    run::*, smoothing::*,
 };

@@ -1,6 +1,8 @@
 //! A run together with the buffers of its calls.
 
-use crate::{BLOCK, Frame, Refusal, Region, Run, Setup, accepted, advance, band, result, start};
+use crate::{
+    BLOCK, Frame, Progress, Refusal, Region, Run, Setup, accepted, advance, band, result, start,
+};
 
 /// A run that owns its record, both sets of planes and the block sigmas.
 ///
@@ -13,6 +15,7 @@ use crate::{BLOCK, Frame, Refusal, Region, Run, Setup, accepted, advance, band, 
 /// let whole = smoothing.clone().finish()?;
 /// smoothing.band(0)?;
 /// assert_eq!(smoothing.run().done[..2], [1, 0]);
+/// assert_eq!(smoothing.run().bands_left, 1);
 /// assert_eq!(smoothing.band(0), Err(restoration::Refusal::BandNotOpen));
 /// assert_eq!(smoothing.advance(), Err(restoration::Refusal::PassNotDone));
 /// // What is left.
@@ -50,9 +53,43 @@ impl Smoothing {
         })
     }
 
-    /// The setup, how many passes are finished, and which bands of this pass are done.
+    /// The setup, how many passes are finished, and how many bands of this pass are left and which are
+    /// done.
     pub fn run(&self) -> &Run {
         &self.run
+    }
+
+    /// How far the run is.
+    ///
+    /// ```
+    /// # use restoration::{Frame, Progress, Region, Settings, Setup, Smoothing};
+    /// // Three passes of four bands: the last one has a single row.
+    /// let setup = Setup { band_height: 3, ..Setup::whole(Region::with_size(2, 10)) };
+    /// let (frame, planes) = (Frame::with_size(2, 10), vec![0.5; 3 * 2 * 10]);
+    /// let mut smoothing = Smoothing::start(setup, frame, &[0; 3], &[], planes.clone())?;
+    /// let started = Progress { passes_over: 0, passes: 3, bands_left: 4, bands: 4 };
+    /// assert_eq!(smoothing.progress(), started);
+    /// for k in [3, 0] {
+    ///     smoothing.band(k)?;
+    /// }
+    /// assert_eq!(smoothing.progress(), Progress { bands_left: 2, ..started });
+    /// assert_eq!(smoothing.progress().bands_over(), 2);
+    /// // Without passes a run is finished at once.
+    /// let setup = Setup { settings: Settings::OFF, ..setup };
+    /// let copied = Smoothing::start(setup, frame, &[0; 3], &[], planes)?.progress();
+    /// assert_eq!(copied, Progress { passes: 0, bands_left: 0, ..started });
+    /// assert!(copied.finished());
+    /// # Ok::<(), restoration::Refusal>(())
+    /// ```
+    pub fn progress(&self) -> Progress {
+        let setup = &self.run.setup;
+        let settings = &setup.settings;
+        Progress {
+            passes_over: self.run.pass,
+            passes: settings.gabor.enabled + settings.epf.iters,
+            bands_left: self.run.bands_left,
+            bands: result_region(setup).height.div_ceil(setup.band_height),
+        }
     }
 
     pub fn band(&mut self, k: u32) -> Result<(), Refusal> {
@@ -76,26 +113,52 @@ impl Smoothing {
         Ok(out)
     }
 
-    /// Runs all bands and passes that are left and answers the result. The library says when there is
-    /// none left: with no band open it refuses an advance, with 11, only if the run is finished.
-    pub fn finish(mut self) -> Result<Vec<f32>, Refusal> {
+    /// Runs all bands and passes that are left and answers the result.
+    pub fn finish(self) -> Result<Vec<f32>, Refusal> {
+        self.finish_with(|_| {})
+    }
+
+    /// The same, and tells `watch` after each band and each advance how far the run is. The library says
+    /// when no pass is left: with no band left it refuses an advance, with 11, only if the run is
+    /// finished.
+    ///
+    /// ```
+    /// # use restoration::{Frame, Region, Setup, Smoothing};
+    /// // Three passes of two bands, one of which is done already.
+    /// let setup = Setup { band_height: 1, ..Setup::whole(Region::with_size(2, 2)) };
+    /// let planes = (0..12u8).map(f32::from).collect();
+    /// let mut smoothing = Smoothing::start(setup, Frame::with_size(2, 2), &[0; 3], &[], planes)?;
+    /// smoothing.band(1)?;
+    /// let mut percent = Vec::new();
+    /// let watched = smoothing.clone().finish_with(|progress| {
+    ///     percent.push(100 * progress.bands_over() / progress.bands_in_all());
+    /// })?;
+    /// // Band 0, an advance, and twice two bands and an advance.
+    /// assert_eq!(percent, [33, 33, 50, 66, 66, 83, 100, 100]);
+    /// assert_eq!(watched, smoothing.finish()?);
+    /// # Ok::<(), restoration::Refusal>(())
+    /// ```
+    pub fn finish_with(mut self, mut watch: impl FnMut(Progress)) -> Result<Vec<f32>, Refusal> {
         loop {
-            self.open_bands()?;
+            self.finish_bands(&mut watch)?;
             match self.advance() {
                 Err(Refusal::PassNotDone) => return self.result(),
                 advanced => advanced?,
             }
+            watch(self.progress());
         }
     }
 
-    /// Runs the bands of this pass that are not done. The first that is refused with 10 is past the last.
-    fn open_bands(&mut self) -> Result<(), Refusal> {
-        let done = self.run.done;
-        for k in (0..).filter(|&k| done.get(k as usize) != Some(&1)) {
-            match self.band(k) {
-                Err(Refusal::BandNotOpen) => break,
-                answer => answer?,
-            }
+    /// Runs the bands of this pass that are left, whichever they are: as many as the record says, of
+    /// those that it does not mark done.
+    fn finish_bands(&mut self, watch: &mut impl FnMut(Progress)) -> Result<(), Refusal> {
+        let Run {
+            bands_left, done, ..
+        } = self.run;
+        let open = (0..).zip(done).filter(|&(_, flag)| flag == 0);
+        for (k, _) in open.take(bands_left as usize) {
+            self.band(k)?;
+            watch(self.progress());
         }
         Ok(())
     }
