@@ -3,7 +3,7 @@
 //! Each function has the parameters and the answer of an entry point. The library checks its inputs
 //! itself and answers a number for what it refuses, so nothing is checked here; `value` turns an
 //! answer into a `Result`, whose error is a [`Refusal`]. [`Loupe`] filters rectangles of a picture, and
-//! [`Smoothing`] is a run with its buffers:
+//! [`Smoothing`] is a run with its buffers, which tells how far it is ([`Progress`]):
 //!
 //! ```
 //! use restoration::{Frame, GaborSettings, Region, Settings, Setup, Smoothing};

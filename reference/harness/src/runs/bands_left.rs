@@ -12,9 +12,6 @@ use crate::{
     report::{Amount, Report, Row},
 };
 
-/// All numbers to 65,535, then each power of two and each power of two minus one.
-const FIRST: u32 = 1 << 16;
-
 const NONE: Passes = Passes {
     gabor: false,
     iterations: 0,
@@ -62,7 +59,8 @@ const fn valid(
     }
 }
 
-/// What calls answer at the start of a pass, with band 0 done, with all done, and after the last pass.
+/// What the calls answer with band 0 open, with it done and others open, with all done, and after the last
+/// pass.
 const OPEN: [u32; 3] = [0, 11, 11];
 const BAND_DONE: [u32; 3] = [10, 11, 11];
 const ALL_DONE: [u32; 3] = [10, 0, 11];
@@ -115,12 +113,10 @@ fn every_number(valid: &Valid, amount: Amount, row: &mut Row) {
     }
 }
 
+/// All numbers to 65,535, then each power of two and each power of two minus one.
 fn numbers() -> impl Iterator<Item = u32> {
-    let powers = (16..32).flat_map(|power| {
-        let half = 1 << power;
-        [half, half - 1 + half]
-    });
-    (0..FIRST).chain(powers)
+    let larger = (16..32).flat_map(|power| [1 << power, u32::MAX >> (31 - power)]);
+    (0..1 << 16).chain(larger)
 }
 
 /// Band 0, an advance and the result; refused ones answer the record that they are given.
