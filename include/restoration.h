@@ -341,8 +341,8 @@ RestorationSplitAnswer restoration_split_block(uint32_t block, uint32_t group_si
 
 // Fills `sigmas` with one sigma per block (8 x 8 samples) of a filter region, row of blocks by row of blocks, if the
 // edge-preserving filter is on (`on` is 1).
-// A block's sigma is its cell in its group's grid. If that grid is missing, it is the sigma of the block above, and
-// in the top row of blocks it is `sigma_for_modular`. If the filter is off (`on` is 0), `sigmas` must have length 0.
+// A block's sigma is its cell in its group's grid. If that grid is missing, it is `sigma_for_modular`. If the filter
+// is off (`on` is 0), `sigmas` must have length 0.
 // `blocks` is the filter region, its left and top in blocks, its width and height in samples. `table` has three
 // numbers per group of the frame: presence (1 if the group has a grid, else 0), grid width and grid height. `grids`
 // has the cells of the present grids, one grid after another.
@@ -555,8 +555,9 @@ uint32_t restoration_result(
 // over 3; 0. A refused call returns 0 in every other field.
 RestorationRegionAnswer restoration_loupe_widened(RestorationLoupeSetup setup);
 
-// Filters the wanted rectangle of a picture: writes to `out` what a run over the whole gives there, if the samples and
-// block sigmas of the widened rectangle (`restoration_loupe_widened`) are the whole picture's (Specification 17.6).
+// Filters the wanted rectangle of a picture: writes to `out` what a run over the whole gives there, if the samples of
+// the widened rectangle (`restoration_loupe_widened`) are the whole picture's and, with the edge-preserving filter on,
+// so are the frame, the grids and `sigma_for_modular` (Specification 17.6).
 // `first` has three planes of the widened rectangle, and `second` has the same length. `sigmas` has one sigma per
 // block (8 x 8 samples) of the widened rectangle, or length 0 if `epf.iters` is 0. `table` and `grids` are as for
 // `restoration_start`. `out` has three planes of the wanted rectangle, one after another, each row by row.

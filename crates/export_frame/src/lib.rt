@@ -34,8 +34,8 @@ pub extern "C" fn restoration_split_block(block: u32, group_size_shift: u32) -> 
 
 // Fills `sigmas` with one sigma per block (8 x 8 samples) of a filter region, row of blocks by row of blocks, if the
 // edge-preserving filter is on (`on` is 1).
-// A block's sigma is its cell in its group's grid. If that grid is missing, it is the sigma of the block above, and
-// in the top row of blocks it is `sigma_for_modular`. If the filter is off (`on` is 0), `sigmas` must have length 0.
+// A block's sigma is its cell in its group's grid. If that grid is missing, it is `sigma_for_modular`. If the filter
+// is off (`on` is 0), `sigmas` must have length 0.
 // `blocks` is the filter region, its left and top in blocks, its width and height in samples. `table` has three
 // numbers per group of the frame: presence (1 if the group has a grid, else 0), grid width and grid height. `grids`
 // has the cells of the present grids, one grid after another.

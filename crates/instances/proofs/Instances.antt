@@ -24,7 +24,7 @@ use Rattle.rounding.specs.Magnitude.{magnitude}
 use Rattle.epf_step.specs.Steps.{kernel, dists, along, scaled_from, apart, distance, positive, weight_by, copied, weight_at, blend, divisor, epf, border, multiplier, epf_pass}
 use Rattle.frame.specs.Sizes.{sizes_of}
 use Rattle.sigma_grids.specs.Table.{cells, grid_start, some_below}
-use Rattle.sigma.specs.Sigma.{sigma_in, frame_sigma, above_at, block_sigma, block_sigmas}
+use Rattle.sigma.specs.Sigma.{sigma_in, frame_sigma, block_sigma, block_sigmas}
 use Rattle.planes_layout.specs.Outcome.{layout_of}
 use Rattle.run_passes.specs.Pass.{pass}
 use Rattle.run_passes.specs.Plan.{scale_of, step_of, steps, plan}
@@ -35,7 +35,7 @@ use Rattle.instances.specs.Instances.{bytes_of, Table}
 use Rattle.instances.proofs.Any.{copied-below, nan-sigma}
 
 pub table : Table
-unfolding of_bits lt add sub mul div mirror power_below corner_fits side_fits region_of shrunk_by aligned_to inside bounds_fit picture_fits region_answer u field value_of half_of f16 nested read near_zero channel_fields channels_fields weight_fields gabor_fields bytes_of around of set_of tab in_rect in_filter written inner passed stands evaluate formula alone gabor_by gabor_pass magnitude kernel dists along scaled_from apart distance positive weight_by copied weight_at blend divisor epf border multiplier epf_pass sizes_of cells grid_start some_below sigma_in frame_sigma above_at block_sigma block_sigmas layout_of pass scale_of step_of steps plan band_count size_fits numbers_fit setup_fits is_done started marked band_missing bad_done bands_left_in count_below run_fits reads_first band_checks banded band_outcome advance_outcome
+unfolding of_bits lt add sub mul div mirror power_below corner_fits side_fits region_of shrunk_by aligned_to inside bounds_fit picture_fits region_answer u field value_of half_of f16 nested read near_zero channel_fields channels_fields weight_fields gabor_fields bytes_of around of set_of tab in_rect in_filter written inner passed stands evaluate formula alone gabor_by gabor_pass magnitude kernel dists along scaled_from apart distance positive weight_by copied weight_at blend divisor epf border multiplier epf_pass sizes_of cells grid_start some_below sigma_in frame_sigma block_sigma block_sigmas layout_of pass scale_of step_of steps plan band_count size_fits numbers_fit setup_fits is_done started marked band_missing bad_done bands_left_in count_below run_fits reads_first band_checks banded band_outcome advance_outcome
 table = record {
   mirror_of_one = refl;
   mirror_of_two = refl;
@@ -61,7 +61,7 @@ table = record {
   single_row_rounded = refl;
   copied_below = copied-below;
   nan_sigma = nan-sigma;
-  repeated = λ grids modular. (refl, refl);
+  missing_grid = λ grids modular. (refl, refl);
   band_once = refl;
   band_twice = refl;
   band_missing = refl;

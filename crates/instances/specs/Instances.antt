@@ -238,8 +238,8 @@ pub record Table : Type 0 where
   -- ★ step 2, one block sigma 0.25: copied; sigma NaN, finite samples, centre 5: 5
   pub copied_below : CopiedBelow
   pub nan_sigma : NanSigma
-  -- group row 0 has grids, row 1 has none: block row 128 repeats row 127
-  pub repeated : (grids : List Float) (modular : Float) → (block_row grids modular 127 ≡ get_or grids 127 nan) × (block_row grids modular 128 ≡ get_or grids 127 nan)
+  -- group row 0 has grids, row 1 has none: block row 127 has its cell, block row 128 has `sigma_for_modular`
+  pub missing_grid : (grids : List Float) (modular : Float) → (block_row grids modular 127 ≡ get_or grids 127 nan) × (block_row grids modular 128 ≡ modular)
   -- band 0 twice: 10; advance with band 1 missing: 11
   pub band_once : (band_outcome 3 begun 0).number ≡ 0
   pub band_twice : (band_outcome 3 band_zero 0).number ≡ 10

@@ -1,6 +1,6 @@
 -- The call of specs/Example.antt is accepted, and its arguments show a part of the whole picture. Assumes nothing.
 use mathlib.Core.Path.{◌≡◌, refl, sym, ◌∙◌}
-use Prim.Native.Nat.{ℕ, ◌+◌, ◌/◌, ◌<◌}
+use Prim.Native.Nat.{ℕ, ◌+◌, ◌<◌}
 use native.Mathlib.Omega.{arith}
 use lib.IntN.{ℤ, pos, nat_abs, ◌-ℤ◌}
 use Rattle.region_interval.proofs.Positions.{offset-below, offsets-add}
@@ -12,15 +12,14 @@ use Rattle.frame.specs.Outcome.{bad_sides, bad_settings}
 use Rattle.sigma_grids.specs.Table.{bad_grid, cells, grid_start, grid_lacks_block, some_below}
 use Rattle.sigma_groups.specs.Held.{not_held, some_not_held}
 use Rattle.sigma_groups.specs.Outcome.{table_fits, grids_fit}
-use Rattle.sigma.specs.Sigma.{sigma_in, frame_sigma, above_at, block_sigma, block_sigmas}
 use Rattle.planes_layout.specs.Outcome.{layout_of}
 use Rattle.planes.specs.Sets.{set_of, tab}
 use Rattle.planes.specs.Band.{inner}
 use Rattle.planes.proofs.SetLaws.{of-set_of}
 use Rattle.run_passes.specs.Plan.{step_margin}
-use Rattle.run_outcomes.specs.Start.{start_leaves, sigmas_filled}
+use Rattle.run_outcomes.specs.Start.{start_leaves}
 use Rattle.run_calls.specs.FourEdges.{Given, larger}
-use Rattle.run_calls.specs.Places.{input_at, sigma_at}
+use Rattle.run_calls.specs.Places.{input_at}
 use Rattle.run_calls.proofs.Promises.{promises}
 use Rattle.loupe_region.specs.Widened.{widened}
 use Rattle.loupe_region.specs.Outcome.{widened_region}
@@ -58,22 +57,13 @@ module _ (g : Given) where
         of-set_of 3 8 8 _ c (0 + nat_abs (x -ℤ pos 8)) (0 + nat_abs (y -ℤ pos 8)) h (omega (arith, column)) (omega (arith, row))
         ∙ rw (e, f) (sym (of-set_of 3 26 26 g.picture c (1 + nat_abs (x -ℤ pos 0)) (1 + nat_abs (y -ℤ pos 0)) h (omega (arith, column, further)) (omega (arith, row, lower))))
 
-    sigmas : sigma_at 3 (as_run (handed g)) x y ≡ sigma_at 3 (larger g) x y
-    unfolding widened region_of step_margin layout_of sigmas_filled block_sigmas tab block_sigma frame_sigma sigma_in above_at sizes_of grid_start cells
-    sigmas =
-        let a : nat_abs (x -ℤ pos 8) / 8 ≡ 0 = omega (arith, column) in
-        let b : nat_abs (x -ℤ pos 0) / 8 ≡ 1 = omega (arith, column, further) in
-        let c : nat_abs (y -ℤ pos 8) / 8 ≡ 0 = omega (arith, row) in
-        let d : nat_abs (y -ℤ pos 0) / 8 ≡ 1 = omega (arith, row, lower) in
-        rw (a, b, c, d)
-
   part : PartOf 3 (handed g) (larger g)
   part = record {
     unrefused = (promises.four-edges-met g).cut-from-larger.unrefused;
     same-region = refl;
     same-passes = refl;
     inputs-agree = λ c x y h held. inputs x y held c h;
-    sigmas-agree = λ on x y held. sigmas x y held;
+    same-sources = λ on. record { same-frame = refl; same-presence = λ k l. refl; same-sides = λ k l t. (refl, refl); same-grids = refl; same-modular = refl };
   }
 
 pub loupe-premises-met : LoupePremisesMet

@@ -83,7 +83,7 @@ module _ (n : ℕ) (h : LoupeHanded) (w : WantedFits h.setup.whole h.setup.wante
   delivers large from = promises.rectangle-theorem-at n (as_run h) large accepted from final after.reached done slice room
 
   itself : CutFrom n (as_run h) (as_run h)
-  itself = record { unrefused = unrefused n (as_run h) accepted; contained = inside-itself r; same-passes = refl; inputs-agree = λ c x y p q. refl; sigmas-agree = λ on x y q. refl }
+  itself = record { unrefused = unrefused n (as_run h) accepted; contained = inside-itself r; same-passes = refl; inputs-agree = λ c x y p q. refl; sigmas-alike = λ on x y q. refl }
 
   no_cut : (x y : ℤ) → Clear (margin h.setup.settings) r r x y
   no_cut x y = record { left = λ f. absurd (f refl); right = λ f. absurd (f refl); top = λ f. absurd (f refl); bottom = λ f. absurd (f refl) }
@@ -110,13 +110,13 @@ module _ (n : ℕ) (h : LoupeHanded) (w : WantedFits h.setup.whole h.setup.wante
 
   module _ (whole : Handed) (part : PartOf n h whole) where
     from : CutFrom n (as_run h) whole
-    from = record {
+    from = promises.sources-agree n (as_run h) whole (unrefused n (as_run h) accepted) (record {
       unrefused = part.unrefused;
       contained = rw part.same-region (widened-inside (margin h.setup.settings) h.setup.whole h.setup.wanted w);
       same-passes = part.same-passes;
       inputs-agree = part.inputs-agree;
-      sigmas-agree = part.sigmas-agree;
-    }
+      sigmas-alike = part.same-sources;
+    })
 
     clear : (x y : ℤ) → Holds h.setup.wanted x y → Clear (margin h.setup.settings) r whole.setup.filter x y
     clear x y held =

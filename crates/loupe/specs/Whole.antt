@@ -5,8 +5,8 @@ use Rattle.planes.specs.Sets.{of}
 use Rattle.run_passes.specs.Plan.{plan}
 use Rattle.run_setup.specs.Setup.{epf_on}
 use Rattle.run_outcomes.specs.Start.{Handed}
-use Rattle.run_calls.specs.Places.{at, input_at, sample_at, sigma_at}
-use Rattle.run_calls.specs.Theorem.{Unrefused}
+use Rattle.run_calls.specs.Places.{at, input_at, sample_at}
+use Rattle.run_calls.specs.Theorem.{Unrefused, SameSources}
 use Rattle.loupe_region.specs.Outcome.{widened_region}
 use Rattle.loupe.specs.Outcome.{LoupeHanded, run_setup_of, as_run, loupe_outcome}
 
@@ -19,8 +19,8 @@ pub record PartOf (n : ℕ) (h : LoupeHanded) (whole : Handed) : Type 0 where
   pub same-passes : plan n h.setup.settings ≡ plan n whole.setup.settings
   -- the samples agree at each position of the widened rectangle
   pub inputs-agree : (c : ℕ) (x y : ℤ) → c < n → Holds (widened_region h.setup) x y → input_at n (as_run h) c x y ≡ input_at n whole c x y
-  -- the block sigmas agree there too, if the EPF is on
-  pub sigmas-agree : T (epf_on (run_setup_of h.setup)) → (x y : ℤ) → Holds (widened_region h.setup) x y → sigma_at n (as_run h) x y ≡ sigma_at n whole x y
+  -- if the EPF is on, the whole has the sources of block sigmas that the call was handed
+  pub same-sources : T (epf_on (run_setup_of h.setup)) → SameSources (as_run h) whole
 
 -- an accepted call has the whole picture's smoothed sample at each wanted position
 abbrev pub WholeEqual : ℕ → LoupeHanded → ℕ → List Float → Type 0

@@ -39,7 +39,7 @@ use Rattle.run_calls.proofs.Theorem.{rectangle-theorem}
 -- ---- a picture is cut from itself, and has no cut edge
 
 from_itself : (n : ℕ) (h : Handed) → StartAccepted n h → CutFrom n h h
-from_itself n h e = record { unrefused = start-unrefused n h e; contained = inside-itself h.setup.filter; same-passes = refl; inputs-agree = λ c x y p q. refl; sigmas-agree = λ on x y q. refl }
+from_itself n h e = record { unrefused = start-unrefused n h e; contained = inside-itself h.setup.filter; same-passes = refl; inputs-agree = λ c x y p q. refl; sigmas-alike = λ on x y q. refl }
 
 no-cut-edge : (m : ℕ) (r : Region) (x y : ℤ) → Clear m r r x y
 no-cut-edge m r x y = record { left = λ f. absurd (f refl); right = λ f. absurd (f refl); top = λ f. absurd (f refl); bottom = λ f. absurd (f refl) }

@@ -30,7 +30,7 @@ use Rattle.frame.specs.Sizes.{sizes_of}
 use Rattle.frame.specs.Outcome.{bad_sides, bad_settings}
 use Rattle.sigma_grids.specs.Table.{bad_grid, cells, grid_start, some_below}
 use Rattle.sigma_groups.specs.Outcome.{table_fits, grids_fit}
-use Rattle.sigma.specs.Sigma.{sigma_in, frame_sigma, above_at, block_sigma, block_sigmas}
+use Rattle.sigma.specs.Sigma.{sigma_in, frame_sigma, block_sigma, block_sigmas}
 use Rattle.run_passes.specs.declared.Settings.{Settings}
 use Rattle.run_passes.specs.Pass.{pass, passes}
 use Rattle.run_passes.specs.Plan.{plan, steps, step_of, scale_of, step_margin}
@@ -43,7 +43,7 @@ use Rattle.run_calls.specs.Calls.{library_calls, end}
 use Rattle.run_calls.specs.Places.{Clear, input_at, sample_at, sigma_at}
 use Rattle.run_calls.specs.Theorem.{result_after}
 use Rattle.run_calls.specs.Corollaries.{FinishedRun}
-use Rattle.run_calls.specs.Needed.{Premise, start-accepted, unrefused, contained, same-passes, inputs-agree, sigmas-agree, buffers-unaltered, run-finished, slice_fits, Says, EachNeeded}
+use Rattle.run_calls.specs.Needed.{Premise, start-accepted, unrefused, contained, same-passes, inputs-agree, sigmas-alike, buffers-unaltered, run-finished, slice_fits, Says, EachNeeded}
 use Rattle.run_calls.specs.Example.{smaller, calls, slice}
 use Rattle.run_calls.specs.EdgeExample.{smaller as smaller_edge, larger as larger_edge, calls as calls_edge, slice as slice_edge}
 use Rattle.run_calls.proofs.Example.{premises-met}
@@ -96,7 +96,7 @@ start-others unrefused n = refl
 start-others contained n = tt
 start-others same-passes n = refl
 start-others inputs-agree n = λ c x y h held. refl
-start-others sigmas-agree n = λ on. absurd on
+start-others sigmas-alike n = λ on. absurd on
 start-others buffers-unaltered n = tt
 start-others run-finished n = tt
 start-others slice_fits n = refl
@@ -114,7 +114,7 @@ finish-others unrefused n = refl
 finish-others contained n = tt
 finish-others same-passes n = refl
 finish-others inputs-agree n = λ c x y h held. refl
-finish-others sigmas-agree n = λ on. absurd on
+finish-others sigmas-alike n = λ on. absurd on
 finish-others buffers-unaltered n = tt
 finish-others run-finished n = absurd (n refl)
 finish-others slice_fits n = refl
@@ -132,7 +132,7 @@ slice-others unrefused n = refl
 slice-others contained n = tt
 slice-others same-passes n = refl
 slice-others inputs-agree n = λ c x y h held. refl
-slice-others sigmas-agree n = λ on. absurd on
+slice-others sigmas-alike n = λ on. absurd on
 slice-others buffers-unaltered n = tt
 slice-others run-finished n = tt
 slice-others slice_fits n = absurd (n refl)
@@ -150,7 +150,7 @@ passes-others unrefused n = refl
 passes-others contained n = tt
 passes-others same-passes n = absurd (n refl)
 passes-others inputs-agree n = λ c x y h held. refl
-passes-others sigmas-agree n = λ on. absurd on
+passes-others sigmas-alike n = λ on. absurd on
 passes-others buffers-unaltered n = tt
 passes-others run-finished n = tt
 passes-others slice_fits n = refl
@@ -197,7 +197,7 @@ contained-others unrefused n = refl
 contained-others contained n = absurd (n refl)
 contained-others same-passes n = refl
 contained-others inputs-agree n = same-sides
-contained-others sigmas-agree n = λ on. absurd on
+contained-others sigmas-alike n = λ on. absurd on
 contained-others buffers-unaltered n = (premises-met sides weights).buffers-unaltered
 contained-others run-finished n = (premises-met sides weights).run-finished
 contained-others slice_fits n = (premises-met sides weights).slice_fits
@@ -254,7 +254,7 @@ module _ (x y : ℤ) (held : Holds small-edge.setup.filter x y) where
       ∙ rw e (sym (of-set_of 3 8 2 (λ c x y. dot c (4 + x) y) c (0 + nat_abs (x -ℤ pos 4)) (0 + nat_abs (y -ℤ pos 0)) h (omega (arith, column, further)) (omega (arith, line))))
 
   same-sigmas : sigma_at 3 small-edge x y ≡ sigma_at 3 off-blocks x y
-  unfolding layout_of sigmas_filled block_sigmas tab block_sigma frame_sigma sigma_in above_at sizes_of grid_start cells
+  unfolding layout_of sigmas_filled block_sigmas tab block_sigma frame_sigma sigma_in sizes_of grid_start cells
   same-sigmas =
       let a : nat_abs (x -ℤ pos 8) / 8 ≡ 0 = omega (arith, column) in
       let b : nat_abs (x -ℤ pos 4) / 8 ≡ 0 = omega (arith, column, further) in
@@ -268,7 +268,7 @@ blocks-others unrefused n = absurd (n refl)
 blocks-others contained n = tt
 blocks-others same-passes n = refl
 blocks-others inputs-agree n = λ c x y h held. same_inputs x y held c h
-blocks-others sigmas-agree n = λ on x y held. same-sigmas x y held
+blocks-others sigmas-alike n = λ on x y held. same-sigmas x y held
 blocks-others buffers-unaltered n = (edge-premises-met dot ones b0 sigma64).buffers-unaltered
 blocks-others run-finished n = (edge-premises-met dot ones b0 sigma64).run-finished
 blocks-others slice_fits n = (edge-premises-met dot ones b0 sigma64).slice_fits
@@ -280,11 +280,11 @@ dot-clear : Clear 2 small-edge.setup.filter off-blocks.setup.filter (pos 11) (po
 dot-clear = record { left = λ f. tt; right = λ f. absurd (f refl); top = λ f. absurd (f refl); bottom = λ f. absurd (f refl) }
 
 blocks-seen : lt (sample_at 3 off-blocks 0 (pos 11) (pos 1)) (sample_at 3 small-edge 0 (pos 11) (pos 1)) ≡ true
-unfolding start_leaves of_bits lt add sub mul div mirror around of set_of tab inner layout_of pass passes plan steps step_of scale_of sigmas_filled block_sigmas block_sigma frame_sigma sigma_in above_at sizes_of grid_start cells magnitude kernel dists along scaled_from apart distance positive weight_by copied weight_at blend divisor epf border multiplier epf_pass
+unfolding start_leaves of_bits lt add sub mul div mirror around of set_of tab inner layout_of pass passes plan steps step_of scale_of sigmas_filled block_sigmas block_sigma frame_sigma sigma_in sizes_of grid_start cells magnitude kernel dists along scaled_from apart distance positive weight_by copied weight_at blend divisor epf border multiplier epf_pass
 blocks-seen = refl
 
 blocks-itself : lt (sample_at 3 small-edge 0 (pos 11) (pos 1)) (sample_at 3 small-edge 0 (pos 11) (pos 1)) ≡ false
-unfolding start_leaves of_bits lt add sub mul div mirror around of set_of tab inner layout_of pass passes plan steps step_of scale_of sigmas_filled block_sigmas block_sigma frame_sigma sigma_in above_at sizes_of grid_start cells magnitude kernel dists along scaled_from apart distance positive weight_by copied weight_at blend divisor epf border multiplier epf_pass
+unfolding start_leaves of_bits lt add sub mul div mirror around of set_of tab inner layout_of pass passes plan steps step_of scale_of sigmas_filled block_sigmas block_sigma frame_sigma sigma_in sizes_of grid_start cells magnitude kernel dists along scaled_from apart distance positive weight_by copied weight_at blend divisor epf border multiplier epf_pass
 blocks-itself = refl
 
 -- ---- all premises
@@ -302,7 +302,7 @@ each_needed same-passes claim =
     let clear : Clear 0 (row 0 3) (row 0 3) (pos 1) (pos 0) = record { left = λ f. tt; right = λ f. tt; top = λ f. tt; bottom = λ f. tt } in
     not-delivered _ plain blurred plain-run (pos 1) (pos 0) middle-held clear (λ e. less-unlike _ _ passes-seen passes-itself (sym e)) (claim plain blurred [] zeros passes-others tt)
 each_needed inputs-agree claim = inputs-needed (λ small large cs out others unlike. claim small large cs out others tt)
-each_needed sigmas-agree claim = sigmas-needed (λ small large cs out others unlike. claim small large cs out others tt)
+each_needed sigmas-alike claim = sigmas-needed (λ small large cs out others unlike. claim small large cs out others tt)
 each_needed buffers-unaltered claim = unaltered-needed (λ small large cs out others unlike. claim small large cs out others tt)
 each_needed run-finished claim = omega (arith, sym unfinished ∙ (claim blurred blurred [] zeros finish-others tt).accepted)
 each_needed slice_fits claim = omega (arith, sym no_room ∙ (claim plain plain [] [] slice-others tt).accepted)

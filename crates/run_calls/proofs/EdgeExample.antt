@@ -15,7 +15,7 @@ use Rattle.sigma_grids.specs.Table.{bad_grid, cells, grid_start, grid_lacks_bloc
 use Rattle.sigma_groups.specs.Held.{not_held, some_not_held}
 use Rattle.frame.specs.Outcome.{bad_sides, bad_settings}
 use Rattle.sigma_groups.specs.Outcome.{table_fits, grids_fit}
-use Rattle.sigma.specs.Sigma.{sigma_in, frame_sigma, above_at, block_sigma, block_sigmas}
+use Rattle.sigma.specs.Sigma.{sigma_in, frame_sigma, block_sigma, block_sigmas}
 use Rattle.planes_layout.specs.Outcome.{layout_of}
 use Rattle.planes.specs.Picture.{Picture}
 use Rattle.planes.specs.Sets.{set_of, tab}
@@ -59,7 +59,7 @@ module _ (p : Picture) (scales : List Float) (border sigma : Float) where
         ∙ rw e (sym (of-set_of 3 12 2 p c (0 + nat_abs (x -ℤ pos 0)) (0 + nat_abs (y -ℤ pos 0)) h (omega (arith, column, further)) (omega (arith, row))))
 
     sigmas : sigma_at 3 (smaller p scales border sigma) x y ≡ sigma_at 3 (larger p scales border sigma) x y
-    unfolding layout_of sigmas_filled block_sigmas tab block_sigma frame_sigma sigma_in above_at sizes_of grid_start cells
+    unfolding layout_of sigmas_filled block_sigmas tab block_sigma frame_sigma sigma_in sizes_of grid_start cells
     sigmas =
         let a : nat_abs (x -ℤ pos 8) / 8 ≡ 0 = omega (arith, column) in
         let b : nat_abs (x -ℤ pos 0) / 8 ≡ 1 = omega (arith, column, further) in
@@ -68,7 +68,7 @@ module _ (p : Picture) (scales : List Float) (border sigma : Float) where
 
   from : CutFrom 3 (smaller p scales border sigma) (larger p scales border sigma)
   unfolding inside plan steps step_of scale_of
-  from = record { unrefused = unrefused; contained = tt; same-passes = refl; inputs-agree = λ c x y h held. inputs x y held c h; sigmas-agree = λ on x y held. sigmas x y held }
+  from = record { unrefused = unrefused; contained = tt; same-passes = refl; inputs-agree = λ c x y h held. inputs x y held c h; sigmas-alike = λ on x y held. sigmas x y held }
 
   -- the calls, from a state on
   abbrev after : State → List LibraryCall

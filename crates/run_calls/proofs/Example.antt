@@ -49,7 +49,7 @@ module _ (p : Picture) (weights : List (List Float)) where
 
   from : CutFrom 3 (smaller p weights) (larger p weights)
   unfolding inside
-  from = record { unrefused = unrefused; contained = tt; same-passes = refl; inputs-agree = inputs; sigmas-agree = λ on. absurd on }
+  from = record { unrefused = unrefused; contained = tt; same-passes = refl; inputs-agree = inputs; sigmas-alike = λ on. absurd on }
 
   premises : Premises 3 (library_calls 3) (smaller p weights) (larger p weights) (calls p weights) (slice p weights)
   unfolding start_outcome start_leaves band_outcome advance_outcome start_checks picture_checks bad_sides bad_settings sizes_of table_fits grids_fit grid_start cells bad_grid sigmas_filled state_after end started marked advanced band_checks run_fits bad_done bands_left_in count_below band_missing is_done numbers_fit setup_fits band_count size_fits some_below picture_fits bounds_fit corner_fits side_fits inside layout_of plan steps set_of tab

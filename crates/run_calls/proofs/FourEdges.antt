@@ -4,7 +4,7 @@ use mathlib.Core.Path.{◌≡◌, refl, sym, ap, subst, ◌∙◌}
 use mathlib.Core.Bool.{true, false}
 use mathlib.Core.Logic.{◌↔◌}
 use mathlib.Core.List.{List, ◌∷◌}
-use Prim.Native.Nat.{ℕ, ◌+◌, ◌/◌, ◌<◌}
+use Prim.Native.Nat.{ℕ, ◌+◌, ◌<◌}
 use native.Mathlib.Omega.{arith}
 use borrow.Author.Tests.{eq-eqb, ne_eqb}
 use lib.Dec.{T}
@@ -21,7 +21,6 @@ use Rattle.sigma_grids.specs.Table.{bad_grid, cells, grid_start, grid_lacks_bloc
 use Rattle.sigma_groups.specs.Held.{not_held, some_not_held}
 use Rattle.frame.specs.Outcome.{bad_sides, bad_settings}
 use Rattle.sigma_groups.specs.Outcome.{table_fits, grids_fit}
-use Rattle.sigma.specs.Sigma.{sigma_in, frame_sigma, above_at, block_sigma, block_sigmas}
 use Rattle.planes_layout.specs.Outcome.{layout_of}
 use Rattle.planes.specs.Sets.{set_of, tab}
 use Rattle.planes.proofs.SetLaws.{of-set_of}
@@ -31,17 +30,17 @@ use Rattle.run_setup.specs.Setup.{band_count}
 use Rattle.run_record.specs.declared.Run.{Run}
 use Rattle.run_record.specs.Record.{is_done, started, marked, advanced, finished, band_missing, not_open, not_over}
 use Rattle.run_record.proofs.Laws.{band-open, pass-over}
-use Rattle.run_outcomes.specs.Start.{picture_checks, start_checks, start_leaves, sigmas_filled, start_outcome}
+use Rattle.run_outcomes.specs.Start.{picture_checks, start_checks, start_leaves, start_outcome}
 use Rattle.run_outcomes.specs.Band.{State}
 use Rattle.run_outcomes.proofs.Laws.{band-number, band-leaves, band-accepted, advance-number, advance-leaves, advance-accepted}
 use Rattle.run_calls.specs.Calls.{StartAccepted, LibraryCall, band, advance, start, other, answer, number_in, left_by, library_calls, state_after, end, Unaltered}
 use Rattle.run_calls.proofs.Effects.{library_effect}
-use Rattle.run_calls.specs.Places.{input_at, sigma_at}
-use Rattle.run_calls.specs.Theorem.{CutFrom, Unrefused, Premises}
-use Rattle.run_calls.specs.FourEdges.{Given, larger, smaller, empty, begun, one, two, three, turned, four, five, six, accepted-calls, calls, slice, FourEdgesMet, FourEdgesClear, FourEdgesDelivered}
+use Rattle.run_calls.specs.Places.{input_at}
+use Rattle.run_calls.specs.Theorem.{Unrefused, SameSources, CutFromSources, PremisesWith}
+use Rattle.run_calls.specs.FourEdges.{Given, larger, smaller, empty, begun, one, two, three, turned, four, five, six, accepted-calls, calls, slice, FourEdgesMet, FourEdgesSources, FourEdgesClear, FourEdgesDelivered}
 use Rattle.run_calls.proofs.Sound.{Sound}
 use Rattle.run_calls.proofs.Lists.{after_kept, start-state, start-sound}
-use Rattle.run_calls.proofs.Theorem.{library-theorem}
+use Rattle.run_calls.proofs.Theorem.{library-theorem, sources-premises}
 
 -- ---- the calls
 
@@ -171,18 +170,16 @@ module _ (g : Given) where
         of-set_of 3 10 10 _ c (1 + nat_abs (x -ℤ pos 8)) (1 + nat_abs (y -ℤ pos 8)) h (omega (arith, column)) (omega (arith, row))
         ∙ rw (e, f) (sym (of-set_of 3 26 26 g.picture c (1 + nat_abs (x -ℤ pos 0)) (1 + nat_abs (y -ℤ pos 0)) h (omega (arith, column, further)) (omega (arith, row, lower))))
 
-    sigmas : sigma_at 3 (smaller g) x y ≡ sigma_at 3 (larger g) x y
-    unfolding layout_of sigmas_filled block_sigmas tab block_sigma frame_sigma sigma_in above_at sizes_of grid_start cells
-    sigmas =
-        let a : nat_abs (x -ℤ pos 8) / 8 ≡ 0 = omega (arith, column) in
-        let b : nat_abs (x -ℤ pos 0) / 8 ≡ 1 = omega (arith, column, further) in
-        let c : nat_abs (y -ℤ pos 8) / 8 ≡ 0 = omega (arith, row) in
-        let d : nat_abs (y -ℤ pos 0) / 8 ≡ 1 = omega (arith, row, lower) in
-        rw (a, b, c, d)
-
-  from : CutFrom 3 (smaller g) (larger g)
+  -- if the EPF is on, both have the same sources of block sigmas
+  from : CutFromSources 3 (smaller g) (larger g)
   unfolding inside
-  from = record { unrefused = unrefused; contained = tt; same-passes = refl; inputs-agree = λ c x y h held. inputs x y held c h; sigmas-agree = λ on x y held. sigmas x y held }
+  from = record {
+    unrefused = unrefused;
+    contained = tt;
+    same-passes = refl;
+    inputs-agree = λ c x y h held. inputs x y held c h;
+    sigmas-alike = λ on. record { same-frame = refl; same-presence = λ k l. refl; same-sides = λ k l t. (refl, refl); same-grids = refl; same-modular = refl };
+  }
 
   -- ---- all premises
 
@@ -195,7 +192,7 @@ module _ (g : Given) where
   unaltered : Unaltered 3 (library_calls 3) (begun g) (accepted-calls g)
   unaltered = (λ e. refl, (λ e. refl, (λ e. refl, (λ e. refl, (λ e. refl, (λ e. refl, (λ e. refl, (λ e. refl, tt))))))))
 
-  premises : Premises 3 (library_calls 3) (smaller g) (larger g) (calls g) (slice g)
+  premises : PremisesWith 3 (library_calls 3) SameSources (smaller g) (larger g) (calls g) (slice g)
   unfolding layout_of set_of tab
   premises =
       let same = end_after (begun g) (start (empty g)) (other 9 ∷ accepted-calls g) start-taken ∙ end_after (begun g) (other 9) (accepted-calls g) other-taken in
@@ -207,8 +204,11 @@ module _ (g : Given) where
         slice_fits = refl;
       }
 
+pub four-edges-sources : FourEdgesSources
+four-edges-sources g = premises g
+
 pub four-edges-met : FourEdgesMet
-four-edges-met g = premises g
+four-edges-met g = sources-premises 3 (library_calls 3) (smaller g) (larger g) (calls g) (slice g) (premises g)
 
 -- ---- the positions that are clear
 

@@ -7,6 +7,7 @@ pub mod Count
 pub mod Reached
 pub mod Places
 pub mod Finished
+pub mod Sources
 pub mod Theorem
 pub mod Corollaries
 pub mod Example
@@ -14,4 +15,5 @@ pub mod EdgeExample
 pub mod FourEdges
 pub mod Needed
 pub mod EachNeeded
+pub mod SourcesNeeded
 pub mod Promises

@@ -25,7 +25,7 @@ use Rattle.gabor_kernel.specs.Formula.{evaluate, formula}
 use Rattle.epf_step.specs.Steps.{kernel, dists, along, scaled_from, apart, distance, positive, weight_by, copied, weight_at, blend, divisor, epf, border, multiplier, epf_pass}
 use Rattle.frame.specs.Sizes.{sizes_of}
 use Rattle.sigma_grids.specs.Table.{cells, grid_start}
-use Rattle.sigma.specs.Sigma.{sigma_in, frame_sigma, above_at, block_sigma, block_sigmas}
+use Rattle.sigma.specs.Sigma.{sigma_in, frame_sigma, block_sigma, block_sigmas}
 use Rattle.run_passes.specs.Pass.{pass, passes}
 use Rattle.run_passes.specs.Plan.{plan, steps, step_of, scale_of, step_margin}
 use Rattle.run_setup.specs.Setup.{band_count}
@@ -39,7 +39,7 @@ use Rattle.run_calls.proofs.Effects.{library_effect}
 use Rattle.run_calls.specs.Places.{Clear, input_at, sample_at, sigma_at, result_at}
 use Rattle.run_calls.specs.Theorem.{DeliversBeyond, Premises, result_on}
 use Rattle.run_calls.specs.Corollaries.{FinishedRun, handed_over}
-use Rattle.run_calls.specs.Needed.{Premise, start-accepted, unrefused, contained, same-passes, inputs-agree, sigmas-agree, buffers-unaltered, run-finished, slice_fits, Says, PremisesSay, GaborMarginNeeded, StepMarginNeeded, InputsNeeded, block, SigmasNeeded, altered, UnalteredNeeded}
+use Rattle.run_calls.specs.Needed.{Premise, start-accepted, unrefused, contained, same-passes, inputs-agree, sigmas-alike, buffers-unaltered, run-finished, slice_fits, Says, PremisesSay, GaborMarginNeeded, StepMarginNeeded, InputsNeeded, block, SigmasNeeded, altered, UnalteredNeeded}
 use Rattle.run_calls.specs.Example.{smaller, larger, calls, slice}
 use Rattle.run_calls.specs.EdgeExample.{smaller as smaller_edge, larger as larger_edge, calls as calls_edge, slice as slice_edge}
 use Rattle.run_calls.proofs.Lists.{start-state, start-sound}
@@ -55,7 +55,7 @@ say premises unrefused = premises.cut-from-larger.unrefused
 say premises contained = premises.cut-from-larger.contained
 say premises same-passes = premises.cut-from-larger.same-passes
 say premises inputs-agree = premises.cut-from-larger.inputs-agree
-say premises sigmas-agree = premises.cut-from-larger.sigmas-agree
+say premises sigmas-alike = premises.cut-from-larger.sigmas-alike
 say premises buffers-unaltered = premises.buffers-unaltered
 say premises run-finished = premises.run-finished
 say premises slice_fits = premises.slice_fits
@@ -65,7 +65,7 @@ premises-say small large cs out = (
   λ premises. say premises,
   λ says. record {
     start-accepted = says start-accepted;
-    cut-from-larger = record { unrefused = says unrefused; contained = says contained; same-passes = says same-passes; inputs-agree = says inputs-agree; sigmas-agree = says sigmas-agree };
+    cut-from-larger = record { unrefused = says unrefused; contained = says contained; same-passes = says same-passes; inputs-agree = says inputs-agree; sigmas-alike = says sigmas-alike };
     buffers-unaltered = says buffers-unaltered;
     run-finished = says run-finished;
     slice_fits = says slice_fits;
@@ -137,11 +137,11 @@ abbrev first-column : Picture
 first-column = λ c x y. cond (eqb x 8) b1 b0
 
 edge-seen : lt (sample_at 3 (larger_edge first-column ones b1 sigma64) 0 (pos 9) (pos 0)) (sample_at 3 (smaller_edge first-column ones b1 sigma64) 0 (pos 9) (pos 0)) ≡ true
-unfolding start_leaves of_bits lt add sub mul div mirror around of set_of tab inner layout_of pass passes plan steps step_of scale_of sigmas_filled block_sigmas block_sigma frame_sigma sigma_in above_at sizes_of grid_start cells magnitude kernel dists along scaled_from apart distance positive weight_by copied weight_at blend divisor epf border multiplier epf_pass
+unfolding start_leaves of_bits lt add sub mul div mirror around of set_of tab inner layout_of pass passes plan steps step_of scale_of sigmas_filled block_sigmas block_sigma frame_sigma sigma_in sizes_of grid_start cells magnitude kernel dists along scaled_from apart distance positive weight_by copied weight_at blend divisor epf border multiplier epf_pass
 edge-seen = refl
 
 edge-seen-itself : lt (sample_at 3 (smaller_edge first-column ones b1 sigma64) 0 (pos 9) (pos 0)) (sample_at 3 (smaller_edge first-column ones b1 sigma64) 0 (pos 9) (pos 0)) ≡ false
-unfolding start_leaves of_bits lt add sub mul div mirror around of set_of tab inner layout_of pass passes plan steps step_of scale_of sigmas_filled block_sigmas block_sigma frame_sigma sigma_in above_at sizes_of grid_start cells magnitude kernel dists along scaled_from apart distance positive weight_by copied weight_at blend divisor epf border multiplier epf_pass
+unfolding start_leaves of_bits lt add sub mul div mirror around of set_of tab inner layout_of pass passes plan steps step_of scale_of sigmas_filled block_sigmas block_sigma frame_sigma sigma_in sizes_of grid_start cells magnitude kernel dists along scaled_from apart distance positive weight_by copied weight_at blend divisor epf border multiplier epf_pass
 edge-seen-itself = refl
 
 pub step-margin-needed : StepMarginNeeded
@@ -210,7 +210,7 @@ inputs-others unrefused n = (premises-met blank weights).cut-from-larger.unrefus
 inputs-others contained n = (premises-met blank weights).cut-from-larger.contained
 inputs-others same-passes n = refl
 inputs-others inputs-agree n = absurd (n refl)
-inputs-others sigmas-agree n = λ on. absurd on
+inputs-others sigmas-alike n = λ on. absurd on
 inputs-others buffers-unaltered n = (premises-met spot weights).buffers-unaltered
 inputs-others run-finished n = (premises-met spot weights).run-finished
 inputs-others slice_fits n = (premises-met spot weights).slice_fits
@@ -226,21 +226,21 @@ inputs-needed claim =
 -- ---- one different sigma
 
 -- a block with this sigma is copied
-abbrev quarter : Float
+abbrev pub quarter : Float
 quarter = bits 0x3e80_0000
 
 abbrev tenth-column : Picture
 tenth-column = λ c x y. cond (eqb x 10) b1 b0
 
 sigma-seen : lt (sample_at 3 (smaller_edge tenth-column ones b1 sigma64) 0 (pos 10) (pos 0)) (sample_at 3 (larger_edge tenth-column ones b1 quarter) 0 (pos 10) (pos 0)) ≡ true
-unfolding start_leaves of_bits lt add sub mul div mirror around of set_of tab inner layout_of pass passes plan steps step_of scale_of sigmas_filled block_sigmas block_sigma frame_sigma sigma_in above_at sizes_of grid_start cells magnitude kernel dists along scaled_from apart distance positive weight_by copied weight_at blend divisor epf border multiplier epf_pass
+unfolding start_leaves of_bits lt add sub mul div mirror around of set_of tab inner layout_of pass passes plan steps step_of scale_of sigmas_filled block_sigmas block_sigma frame_sigma sigma_in sizes_of grid_start cells magnitude kernel dists along scaled_from apart distance positive weight_by copied weight_at blend divisor epf border multiplier epf_pass
 sigma-seen = refl
 
 sigma-itself : lt (sample_at 3 (larger_edge tenth-column ones b1 quarter) 0 (pos 10) (pos 0)) (sample_at 3 (larger_edge tenth-column ones b1 quarter) 0 (pos 10) (pos 0)) ≡ false
-unfolding start_leaves of_bits lt add sub mul div mirror around of set_of tab inner layout_of pass passes plan steps step_of scale_of sigmas_filled block_sigmas block_sigma frame_sigma sigma_in above_at sizes_of grid_start cells magnitude kernel dists along scaled_from apart distance positive weight_by copied weight_at blend divisor epf border multiplier epf_pass
+unfolding start_leaves of_bits lt add sub mul div mirror around of set_of tab inner layout_of pass passes plan steps step_of scale_of sigmas_filled block_sigmas block_sigma frame_sigma sigma_in sizes_of grid_start cells magnitude kernel dists along scaled_from apart distance positive weight_by copied weight_at blend divisor epf border multiplier epf_pass
 sigma-itself = refl
 
-sigmas-others : (p : Premise) → (p ≡ sigmas-agree → ⊥)
+sigmas-others : (p : Premise) → (p ≡ sigmas-alike → ⊥)
     → Says p (smaller_edge tenth-column ones b1 sigma64) (larger_edge tenth-column ones b1 quarter) (calls_edge tenth-column ones b1 sigma64) (slice_edge tenth-column ones b1 sigma64)
 unfolding start_leaves plan steps step_of scale_of
 sigmas-others start-accepted n = (edge-premises-met tenth-column ones b1 sigma64).start-accepted
@@ -248,7 +248,7 @@ sigmas-others unrefused n = (edge-premises-met tenth-column ones b1 quarter).cut
 sigmas-others contained n = (edge-premises-met tenth-column ones b1 sigma64).cut-from-larger.contained
 sigmas-others same-passes n = refl
 sigmas-others inputs-agree n = (edge-premises-met tenth-column ones b1 sigma64).cut-from-larger.inputs-agree
-sigmas-others sigmas-agree n = absurd (n refl)
+sigmas-others sigmas-alike n = absurd (n refl)
 sigmas-others buffers-unaltered n = (edge-premises-met tenth-column ones b1 sigma64).buffers-unaltered
 sigmas-others run-finished n = (edge-premises-met tenth-column ones b1 sigma64).run-finished
 sigmas-others slice_fits n = (edge-premises-met tenth-column ones b1 sigma64).slice_fits
@@ -321,7 +321,7 @@ module _ (first : State) (same : first ≡ start_state 3 (smaller spot weights))
   altered-others contained n = (premises-met blank weights).cut-from-larger.contained
   altered-others same-passes n = (premises-met blank weights).cut-from-larger.same-passes
   altered-others inputs-agree n = (premises-met blank weights).cut-from-larger.inputs-agree
-  altered-others sigmas-agree n = (premises-met blank weights).cut-from-larger.sigmas-agree
+  altered-others sigmas-alike n = (premises-met blank weights).cut-from-larger.sigmas-alike
   altered-others buffers-unaltered n = absurd (n refl)
   altered-others run-finished n = subst (λ (s : State). T (finished s.run)) (sym ends-alike) (premises-met spot weights).run-finished
   altered-others slice_fits n = (premises-met blank weights).slice_fits

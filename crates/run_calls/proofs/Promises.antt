@@ -12,13 +12,15 @@ use Rattle.epf_lanes.proofs.Divisors.{lane-divisor-bounds}
 use Rattle.run_passes.proofs.Bounds.{step-bounds, settings-bounds, bounds-reached}
 use Rattle.run_passes.proofs.Statements.{pass-near, cut-same, plan-reach}
 use Rattle.run_calls.specs.Promises.{Promises}
-use Rattle.run_calls.proofs.Theorem.{library-theorem, rectangle-theorem, rectangle-theorem-at}
+use Rattle.run_calls.proofs.Theorem.{library-theorem, rectangle-theorem, rectangle-theorem-at, library-sources-theorem, sources-theorem}
+use Rattle.run_calls.proofs.Sources.{sources-agree}
 use Rattle.run_calls.proofs.Finished.{result-at-state}
 use Rattle.run_calls.proofs.Example.{premises-met, place-clear}
 use Rattle.run_calls.proofs.EdgeExample.{edge-premises-met, edge-place-clear}
-use Rattle.run_calls.proofs.FourEdges.{four-edges-met, four-edges-clear, four-edges-delivered}
+use Rattle.run_calls.proofs.FourEdges.{four-edges-met, four-edges-sources, four-edges-clear, four-edges-delivered}
 use Rattle.run_calls.proofs.Needed.{premises-say, gabor-margin-needed, step-margin-needed, inputs-needed, sigmas-needed, unaltered-needed}
 use Rattle.run_calls.proofs.EachNeeded.{each_needed}
+use Rattle.run_calls.proofs.SourcesNeeded.{sources-say, each-source-needed}
 use Rattle.run_calls.proofs.Corollaries.{whole-picture, two-cuts-agree, outside_kept, bands-alike}
 use Rattle.run_calls.proofs.Refused.{start-tied, calls-tied, refused-untouched}
 use Rattle.run_calls.proofs.Count.{library-count-rule, count-rule, left-counts}
@@ -29,6 +31,9 @@ pub promises : Promises
 promises = record {
   library-theorem = library-theorem;
   rectangle-theorem = rectangle-theorem;
+  library-sources-theorem = library-sources-theorem;
+  sources-theorem = sources-theorem;
+  sources-agree = sources-agree;
   rectangle-theorem-at = rectangle-theorem-at;
   result-at-state = result-at-state;
   end-reached = end-reached;
@@ -37,6 +42,7 @@ promises = record {
   edge-premises-met = edge-premises-met;
   edge-place-clear = edge-place-clear;
   four-edges-met = four-edges-met;
+  four-edges-sources = four-edges-sources;
   four-edges-clear = four-edges-clear;
   four-edges-delivered = four-edges-delivered;
   premises-say = premises-say;
@@ -46,6 +52,8 @@ promises = record {
   inputs-needed = inputs-needed;
   sigmas-needed = sigmas-needed;
   unaltered-needed = unaltered-needed;
+  sources-say = sources-say;
+  each-source-needed = each-source-needed;
   whole-picture = whole-picture;
   two-cuts-agree = two-cuts-agree;
   outside_kept = outside_kept;

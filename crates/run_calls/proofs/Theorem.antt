@@ -1,10 +1,12 @@
 -- The theorem on rectangles (Specification 13.6): beyond the margin, the result of a finished run has the larger picture's smoothed
 -- samples. Assumes nothing.
 use mathlib.Core.Path.{◌≡◌, ◌∙◌}
+use mathlib.Core.List.{List}
 use Prim.Native.Nat.{ℕ, ◌+◌, ◌*◌, ◌/◌, ◌<◌}
 use native.Mathlib.Omega.{arith}
 use lib.Dec.{T, lt→ltb}
 use lib.Ieee.Fits.{and_l, and_r}
+use lib.Ieee.{Float}
 use lib.IntN.{ℤ, pos, nat_abs, ◌+ℤ◌, ◌-ℤ◌}
 use Rattle.region_interval.proofs.Positions.{nth_in, nth-offset, offsets-add}
 use Rattle.mirror.specs.Cut.{Deep}
@@ -26,11 +28,12 @@ use Rattle.run_outcomes.proofs.Laws.{PictureFits, picture-fits}
 use Rattle.run_calls.specs.Calls.{Calls, Effects, library_calls}
 use Rattle.run_calls.proofs.Effects.{library_effect}
 use Rattle.run_calls.specs.Places.{input, Clear}
-use Rattle.run_calls.specs.Theorem.{CutFrom, RectangleTheorem, LibraryTheorem}
+use Rattle.run_calls.specs.Theorem.{CutFrom, SameSources, PremisesWith, Premises, RectangleTheorem, SourcesTheorem, LibraryTheorem, LibrarySourcesTheorem}
 use Rattle.run_calls.specs.States.{RectangleTheoremAt}
-use Rattle.run_calls.proofs.Lists.{picture-accepted, reached-kept, end-reached}
+use Rattle.run_calls.proofs.Lists.{start-unrefused, picture-accepted, reached-kept, end-reached}
 use Rattle.run_calls.proofs.Finished.{filter-sample, run-samples, handed-over}
 use Rattle.run_calls.proofs.Places.{deep, blocks-apart}
+use Rattle.run_calls.proofs.Sources.{sources-agree}
 
 -- ---- the smaller picture's filter region is a cut of the larger one's
 
@@ -89,7 +92,7 @@ module _ (n : ℕ) (small large : Handed) (fits : PictureFits n small) (from : C
             let r : nat_abs (f.top +ℤ pos (8 * y) -ℤ f.top) / 8 ≡ y = omega (arith, nth-offset f.top (8 * y)) in
             let cc : nat_abs (f.left +ℤ pos (8 * x) -ℤ g.left) / 8 ≡ lx / 8 + x = omega (arith, nth-column (8 * x) i, across.1) in
             let rr : nat_abs (f.top +ℤ pos (8 * y) -ℤ g.top) / 8 ≡ ly / 8 + y = omega (arith, nth-row (8 * y) j, down.1) in
-            rw (c, r, cc, rr) at (from.sigmas-agree on (f.left +ℤ pos (8 * x)) (f.top +ℤ pos (8 * y)) (nth-holds f (8 * x) (8 * y) i j));
+            rw (c, r, cc, rr) at (from.sigmas-alike on (f.left +ℤ pos (8 * x)) (f.top +ℤ pos (8 * y)) (nth-holds f (8 * x) (8 * y) i j));
       }
 
   -- all passes over both agree beyond the margin
@@ -132,3 +135,22 @@ rectangle-theorem n K E small large cs out p = rectangle-theorem-at n small larg
 -- three planes and the calls of Specification 13.7
 pub library-theorem : LibraryTheorem
 library-theorem = rectangle-theorem 3 (library_calls 3) (library_effect 3)
+
+-- ---- the same from equal sources of block sigmas
+
+-- the premises with equal sources give those with equal block sigmas
+pub sources-premises : (n : ℕ) (K : Calls n) (small large : Handed) (cs : List K.Call) (out : List Float)
+    → PremisesWith n K SameSources small large cs out → Premises n K small large cs out
+sources-premises n K small large cs out p = record {
+  start-accepted = p.start-accepted;
+  cut-from-larger = sources-agree n small large (start-unrefused n small p.start-accepted) p.cut-from-larger;
+  buffers-unaltered = p.buffers-unaltered;
+  run-finished = p.run-finished;
+  slice_fits = p.slice_fits;
+}
+
+pub sources-theorem : (n : ℕ) (K : Calls n) → Effects n K → SourcesTheorem n K
+sources-theorem n K E small large cs out p = rectangle-theorem n K E small large cs out (sources-premises n K small large cs out p)
+
+pub library-sources-theorem : LibrarySourcesTheorem
+library-sources-theorem = sources-theorem 3 (library_calls 3) (library_effect 3)

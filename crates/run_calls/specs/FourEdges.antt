@@ -16,7 +16,7 @@ use Rattle.run_outcomes.specs.Start.{Handed}
 use Rattle.run_outcomes.specs.Band.{State}
 use Rattle.run_calls.specs.Calls.{start_state, LibraryCall, band, advance, start, other, library_calls, state_after}
 use Rattle.run_calls.specs.Places.{Clear}
-use Rattle.run_calls.specs.Theorem.{Premises, Delivers, result_after}
+use Rattle.run_calls.specs.Theorem.{SameSources, PremisesWith, Premises, Delivers, result_after}
 
 -- any samples, any settings that are floats, any sigmas
 pub record Given : Type 0 where
@@ -103,6 +103,10 @@ module _ (g : Given) where
 
 abbrev pub FourEdgesMet : Type 0
 FourEdgesMet = (g : Given) → Premises 3 (library_calls 3) (smaller g) (larger g) (calls g) (slice g)
+
+-- and with equal sources of block sigmas
+abbrev pub FourEdgesSources : Type 0
+FourEdgesSources = (g : Given) → PremisesWith 3 (library_calls 3) SameSources (smaller g) (larger g) (calls g) (slice g)
 
 -- columns and rows 11 and 12: three samples lie between them and each of the four edges
 abbrev pub middle : Region

@@ -4,6 +4,8 @@
 use Rattle.std.specs.Prelude.{◌≡◌, ◌↔◌, List, ◌∷◌, ℕ, suc, ◌<◌, T, ℤ, pos, length, set, Float}
 use Rattle.region.specs.declared.Region.{Region}
 use Rattle.region.specs.Regions.{inside, Holds}
+use Rattle.frame.specs.Sizes.{sizes_of}
+use Rattle.sigma_grids.specs.Table.{present, grid_width, grid_height}
 use Rattle.run_passes.specs.Plan.{plan, margin}
 use Rattle.run_setup.specs.Setup.{epf_on, result_length}
 use Rattle.run_record.specs.Record.{finished}
@@ -11,13 +13,13 @@ use Rattle.run_outcomes.specs.Start.{Handed}
 use Rattle.run_outcomes.specs.Band.{State}
 use Rattle.run_calls.specs.Calls.{StartAccepted, start_state, LibraryCall, band, library_calls, state_after, end, Unaltered}
 use Rattle.run_calls.specs.Places.{input_at, sigma_at}
-use Rattle.run_calls.specs.Theorem.{Unrefused, Delivers, DeliversBeyond, Premises, result_after}
+use Rattle.run_calls.specs.Theorem.{Unrefused, SigmasAgree, SameSources, Delivers, DeliversBeyond, PremisesWith, Premises, result_after}
 
 -- ---- the premises one by one
 
 -- named after the fields of `Premises` and, for those about the larger picture, of `CutFrom`
 pub data Premise : Type 0 where
-  start-accepted unrefused contained same-passes inputs-agree sigmas-agree buffers-unaltered run-finished slice_fits : Premise
+  start-accepted unrefused contained same-passes inputs-agree sigmas-alike buffers-unaltered run-finished slice_fits : Premise
 
 -- each premise, of a smaller and a larger picture, a list of the library's calls and a slice
 abbrev pub Says : Premise → Handed → Handed → List LibraryCall → List Float → Type 0
@@ -26,7 +28,7 @@ Says unrefused small large cs out = Unrefused 3 large
 Says contained small large cs out = T (inside large.setup.filter small.setup.filter)
 Says same-passes small large cs out = plan 3 small.setup.settings ≡ plan 3 large.setup.settings
 Says inputs-agree small large cs out = (c : ℕ) (x y : ℤ) → c < 3 → Holds small.setup.filter x y → input_at 3 small c x y ≡ input_at 3 large c x y
-Says sigmas-agree small large cs out = T (epf_on small.setup) → (x y : ℤ) → Holds small.setup.filter x y → sigma_at 3 small x y ≡ sigma_at 3 large x y
+Says sigmas-alike small large cs out = T (epf_on small.setup) → SigmasAgree 3 small large
 Says buffers-unaltered small large cs out = Unaltered 3 (library_calls 3) (start_state 3 small) cs
 Says run-finished small large cs out = T (finished (end 3 (library_calls 3) (start_state 3 small) cs).run)
 Says slice_fits small large cs out = length out ≡ result_length 3 small.setup
@@ -79,7 +81,34 @@ abbrev pub OneSigmaUnlike : Handed → Handed → List LibraryCall → List Floa
 OneSigmaUnlike small large cs out = (x y : ℤ) → Holds small.setup.filter x y → (Holds block x y → ⊥) → sigma_at 3 small x y ≡ sigma_at 3 large x y
 
 abbrev pub SigmasNeeded : Type 0
-SigmasNeeded = TheoremBut sigmas-agree OneSigmaUnlike → ⊥
+SigmasNeeded = TheoremBut sigmas-alike OneSigmaUnlike → ⊥
+
+-- ---- the sources of block sigmas
+
+-- each of them, named after the fields of `SameSources`
+pub data Source : Type 0 where
+  same-frame same-presence same-sides same-grids same-modular : Source
+
+abbrev pub SourceSays : Source → Handed → Handed → Type 0
+SourceSays same-frame small large = small.frame ≡ large.frame
+SourceSays same-presence small large = (g : ℕ) → g < (sizes_of small.frame).num_groups → present small.table g ≡ present large.table g
+SourceSays same-sides small large = (g : ℕ) → g < (sizes_of small.frame).num_groups → T (present small.table g)
+    → (grid_width small.table g ≡ grid_width large.table g) × (grid_height small.table g ≡ grid_height large.table g)
+SourceSays same-grids small large = small.grids ≡ large.grids
+SourceSays same-modular small large = small.setup.settings.epf.sigma_for_modular ≡ large.setup.settings.epf.sigma_for_modular
+
+-- together they are what the theorem from equal sources asks of these
+abbrev pub SourcesSay : Type 0
+SourcesSay = (small large : Handed) → SameSources small large ↔ ((s : Source) → SourceSays s small large)
+
+-- all sources but one are equal
+abbrev pub SourcesBut : Source → Handed → Handed → Type 0
+SourcesBut q small large = (s : Source) → (s ≡ q → ⊥) → SourceSays s small large
+
+-- with any one of them unlike, the theorem is false
+abbrev pub EachSourceNeeded : Type 0
+EachSourceNeeded = (q : Source) → ((small large : Handed) (cs : List LibraryCall) (out : List Float)
+    → PremisesWith 3 (library_calls 3) (SourcesBut q) small large cs out → Delivers 3 small large (result_after 3 (library_calls 3) small cs out)) → ⊥
 
 -- the state with another sample at index 1 of the first set: the first channel, column 1 of the image region
 abbrev pub altered : Float → State → State

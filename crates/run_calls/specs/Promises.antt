@@ -13,20 +13,24 @@ use Rattle.epf_lanes.specs.Divisors.{LaneDivisorBounds}
 use Rattle.run_passes.specs.Statements.{PassNear, CutSame, PlanReach}
 use Rattle.run_passes.specs.Bounds.{StepBounds, SettingsBounds, BoundsReached}
 use Rattle.run_calls.specs.Calls.{Calls, Effects}
-use Rattle.run_calls.specs.Theorem.{RectangleTheorem, LibraryTheorem}
+use Rattle.run_calls.specs.Theorem.{SourcesAgree, RectangleTheorem, SourcesTheorem, LibraryTheorem, LibrarySourcesTheorem}
 use Rattle.run_calls.specs.States.{EndReached, ResultAt, RectangleTheoremAt}
 use Rattle.run_calls.specs.Rules.{StartTied, CallsTied, RefusedUntouched, CanFinish, CountRule, LibraryCountRule, LeftCounts, EndFits, ReachedFits, FitsReached, EachReached}
 use Rattle.run_calls.specs.Corollaries.{WholePicture, TwoCutsAgree, OutsideKept, BandsAlike}
 use Rattle.run_calls.specs.Example.{PremisesMet, PlaceClear}
 use Rattle.run_calls.specs.EdgeExample.{EdgePremisesMet, EdgePlaceClear}
-use Rattle.run_calls.specs.FourEdges.{FourEdgesMet, FourEdgesClear, FourEdgesDelivered}
-use Rattle.run_calls.specs.Needed.{PremisesSay, EachNeeded, GaborMarginNeeded, StepMarginNeeded, InputsNeeded, SigmasNeeded, UnalteredNeeded}
+use Rattle.run_calls.specs.FourEdges.{FourEdgesMet, FourEdgesSources, FourEdgesClear, FourEdgesDelivered}
+use Rattle.run_calls.specs.Needed.{PremisesSay, EachNeeded, GaborMarginNeeded, StepMarginNeeded, InputsNeeded, SigmasNeeded, UnalteredNeeded, SourcesSay, EachSourceNeeded}
 
 pub record Promises : Type 1 where
   -- the theorem on rectangles (Specification 13.6): for three planes and the calls of 13.7, and for any number of planes and any kind of
   -- calls
   pub library-theorem : LibraryTheorem
   pub rectangle-theorem : (n : ℕ) (K : Calls n) → Effects n K → RectangleTheorem n K
+  -- the same from equal sources of block sigmas, which give equal block sigmas
+  pub library-sources-theorem : LibrarySourcesTheorem
+  pub sources-theorem : (n : ℕ) (K : Calls n) → Effects n K → SourcesTheorem n K
+  pub sources-agree : SourcesAgree
   -- the theorem for a state, however it was reached, and that lists of calls reach such states
   pub rectangle-theorem-at : RectangleTheoremAt
   pub result-at-state : ResultAt
@@ -37,6 +41,7 @@ pub record Promises : Type 1 where
   pub edge-premises-met : EdgePremisesMet
   pub edge-place-clear : EdgePlaceClear
   pub four-edges-met : FourEdgesMet
+  pub four-edges-sources : FourEdgesSources
   pub four-edges-clear : FourEdgesClear
   pub four-edges-delivered : FourEdgesDelivered
   -- the theorem is false without any one premise, or with a smaller margin
@@ -47,6 +52,9 @@ pub record Promises : Type 1 where
   pub inputs-needed : InputsNeeded
   pub sigmas-needed : SigmasNeeded
   pub unaltered-needed : UnalteredNeeded
+  -- and with any one source of block sigmas unlike
+  pub sources-say : SourcesSay
+  pub each-source-needed : EachSourceNeeded
   -- corollaries
   pub whole-picture : (n : ℕ) (K : Calls n) → Effects n K → WholePicture n K
   pub two-cuts-agree : (n : ℕ) (K : Calls n) → Effects n K → TwoCutsAgree n K

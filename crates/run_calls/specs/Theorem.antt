@@ -1,8 +1,11 @@
 -- The theorem on rectangles (Specification 13.6): any list of calls that finishes a run on a rectangle cut from a larger picture gives the
--- larger picture's smoothed samples beyond the margin. Statements only.
+-- larger picture's smoothed samples beyond the margin. It has two forms: the block sigmas agree, or what they come from is equal, from which
+-- the first follows. Statements only.
 use Rattle.std.specs.Prelude.{◌≡◌, List, ℕ, ◌<◌, T, ℤ, length, Float}
 use Rattle.refusals.specs.Checks.{first_of}
 use Rattle.region.specs.Regions.{inside, Holds}
+use Rattle.frame.specs.Sizes.{sizes_of}
+use Rattle.sigma_grids.specs.Table.{present, grid_width, grid_height}
 use Rattle.run_passes.specs.Plan.{plan, margin}
 use Rattle.run_setup.specs.Setup.{epf_on, result_length}
 use Rattle.run_record.specs.Record.{finished}
@@ -16,8 +19,23 @@ use Rattle.run_calls.specs.Places.{Clear, input_at, sample_at, sigma_at, result_
 abbrev pub Unrefused : ℕ → Handed → Type 0
 Unrefused n h = first_of (picture_checks n h) ≡ 0
 
--- A smaller picture is cut from a larger one; each is given by the arguments of its start.
-pub record CutFrom (n : ℕ) (small large : Handed) : Type 0 where
+-- the block sigmas of n planes' pictures agree at each position of the smaller filter region
+abbrev pub SigmasAgree : ℕ → Handed → Handed → Type 0
+SigmasAgree n small large = (x y : ℤ) → Holds small.setup.filter x y → sigma_at n small x y ≡ sigma_at n large x y
+
+-- What block sigmas come from is equal (Specification 7.6): the frame, the presence of each group's grid, the sides of those that are present,
+-- the grids and `sigma_for_modular`. The sides of an absent grid may be anything.
+pub record SameSources (small large : Handed) : Type 0 where
+  pub same-frame : small.frame ≡ large.frame
+  pub same-presence : (g : ℕ) → g < (sizes_of small.frame).num_groups → present small.table g ≡ present large.table g
+  pub same-sides : (g : ℕ) → g < (sizes_of small.frame).num_groups → T (present small.table g)
+      → (grid_width small.table g ≡ grid_width large.table g) × (grid_height small.table g ≡ grid_height large.table g)
+  pub same-grids : small.grids ≡ large.grids
+  pub same-modular : small.setup.settings.epf.sigma_for_modular ≡ large.setup.settings.epf.sigma_for_modular
+
+-- A smaller picture is cut from a larger one; each is given by the arguments of its start. `Alike` is what is asked of both if the EPF is
+-- on: `SigmasAgree n` or `SameSources`.
+pub record CutWith (Alike : Handed → Handed → Type 0) (n : ℕ) (small large : Handed) : Type 0 where
   -- the larger one would not be refused, and its filter region contains the smaller one's
   pub unrefused : Unrefused n large
   pub contained : T (inside large.setup.filter small.setup.filter)
@@ -25,8 +43,18 @@ pub record CutFrom (n : ℕ) (small large : Handed) : Type 0 where
   pub same-passes : plan n small.setup.settings ≡ plan n large.setup.settings
   -- the inputs agree at each position of the smaller filter region
   pub inputs-agree : (c : ℕ) (x y : ℤ) → c < n → Holds small.setup.filter x y → input_at n small c x y ≡ input_at n large c x y
-  -- If the EPF is on, the sigmas agree there too. Both filter regions start at multiples of 8 then, since neither is refused under 6.
-  pub sigmas-agree : T (epf_on small.setup) → (x y : ℤ) → Holds small.setup.filter x y → sigma_at n small x y ≡ sigma_at n large x y
+  -- Both filter regions start at multiples of 8 if the EPF is on, since neither is refused under 6.
+  pub sigmas-alike : T (epf_on small.setup) → Alike small large
+
+abbrev pub CutFrom : ℕ → Handed → Handed → Type 0
+CutFrom n = CutWith (SigmasAgree n) n
+
+abbrev pub CutFromSources : ℕ → Handed → Handed → Type 0
+CutFromSources n = CutWith SameSources n
+
+-- equal sources give equal block sigmas, for any number of planes
+abbrev pub SourcesAgree : Type 0
+SourcesAgree = (n : ℕ) (small large : Handed) → Unrefused n small → CutFromSources n small large → CutFrom n small large
 
 -- the result call on a state, with a slice
 abbrev pub result_on : ℕ → State → List Float → ResultOutcome
@@ -49,16 +77,29 @@ module _ (n : ℕ) (K : Calls n) where
   result_after h cs out = result_on n (end n K (start_state n h) cs) out
 
   -- The premises of the theorem: of a smaller and a larger picture, a list of calls and a slice, in the Specification's order.
-  pub record Premises (small large : Handed) (cs : List K.Call) (out : List Float) : Type 0 where
+  pub record PremisesWith (Alike : Handed → Handed → Type 0) (small large : Handed) (cs : List K.Call) (out : List Float) : Type 0 where
     pub start-accepted : StartAccepted n small
-    pub cut-from-larger : CutFrom n small large
+    pub cut-from-larger : CutWith Alike n small large
     pub buffers-unaltered : Unaltered n K (start_state n small) cs
     pub run-finished : T (finished (end n K (start_state n small) cs).run)
     pub slice_fits : length out ≡ result_length n small.setup
 
+  abbrev pub Premises : Handed → Handed → List K.Call → List Float → Type 0
+  Premises = PremisesWith (SigmasAgree n)
+
+  -- the theorem of pictures whose block sigmas agree
   abbrev pub RectangleTheorem : Type 0
   RectangleTheorem = (small large : Handed) (cs : List K.Call) (out : List Float) → Premises small large cs out → Delivers n small large (result_after small cs out)
+
+  -- the theorem of pictures with equal sources of block sigmas
+  abbrev pub SourcesTheorem : Type 0
+  SourcesTheorem = (small large : Handed) (cs : List K.Call) (out : List Float) → PremisesWith SameSources small large cs out
+      → Delivers n small large (result_after small cs out)
 
 -- the theorem of Specification 13.6: three planes and the calls of 13.7
 abbrev pub LibraryTheorem : Type 0
 LibraryTheorem = RectangleTheorem 3 (library_calls 3)
+
+-- the same from equal sources
+abbrev pub LibrarySourcesTheorem : Type 0
+LibrarySourcesTheorem = SourcesTheorem 3 (library_calls 3)

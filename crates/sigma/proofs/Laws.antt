@@ -1,7 +1,7 @@
 -- Laws of block sigmas for callers: their order, blocks with a present grid, and blocks with a missing grid. Assumes nothing.
 use mathlib.Core.Path.{◌≡◌, ◌∙◌}
 use mathlib.Core.List.{List}
-use Prim.Native.Nat.{ℕ, suc, ◌+◌, ◌*◌, ◌<◌}
+use Prim.Native.Nat.{ℕ, ◌+◌, ◌*◌, ◌<◌}
 use borrow.Author.Tests.{eq-eqb, ne_eqb}
 use lib.Arith.{digits_lt, digits_div, digits_mod}
 use lib.ListN.{length, get_or}
@@ -13,7 +13,7 @@ use Rattle.sigma_groups.specs.declared.blocks.Blocks.{Blocks}
 use Rattle.sigma_grids.specs.Table.{presence, grid_width, grid_start}
 use Rattle.sigma_groups.specs.Measures.{blocks_across, blocks_down}
 use Rattle.sigma_groups.specs.Held.{group_at}
-use Rattle.sigma.specs.Sigma.{sigma_in, frame_sigma, above_at, block_sigma, block_sigmas}
+use Rattle.sigma.specs.Sigma.{sigma_in, frame_sigma, block_sigma, block_sigmas}
 
 module _ (f : Frame) (b : Blocks) (t : List ℕ) (grids : List Float) (modular : Float) where
   -- One sigma per block,
@@ -33,12 +33,7 @@ module _ (f : Frame) (b : Blocks) (t : List ℕ) (grids : List Float) (modular :
   unfolding block_sigma frame_sigma sigma_in
   sigma-present x y p = rw (eq-eqb (presence t (group_at f (b.left + x) (b.top + y))) 1 p)
 
-  -- If the grid is missing, a block of the top row has `sigma_for_modular`,
-  pub sigma-top : (x : ℕ) → (presence t (group_at f (b.left + x) (b.top + 0)) ≡ 1 → ⊥) → block_sigma f b t grids modular x 0 ≡ modular
-  unfolding block_sigma frame_sigma sigma_in above_at
-  sigma-top x p = rw (ne_eqb (presence t (group_at f (b.left + x) (b.top + 0))) 1 p)
-
-  -- and any other block repeats the sigma of the block above.
-  pub sigma-repeats : (x y : ℕ) → (presence t (group_at f (b.left + x) (b.top + suc y)) ≡ 1 → ⊥) → block_sigma f b t grids modular x (suc y) ≡ block_sigma f b t grids modular x y
-  unfolding block_sigma frame_sigma sigma_in above_at
-  sigma-repeats x y p = rw (ne_eqb (presence t (group_at f (b.left + x) (b.top + suc y))) 1 p)
+  -- A block with a missing grid has `sigma_for_modular`.
+  pub sigma-missing : (x y : ℕ) → (presence t (group_at f (b.left + x) (b.top + y)) ≡ 1 → ⊥) → block_sigma f b t grids modular x y ≡ modular
+  unfolding block_sigma frame_sigma sigma_in
+  sigma-missing x y p = rw (ne_eqb (presence t (group_at f (b.left + x) (b.top + y))) 1 p)

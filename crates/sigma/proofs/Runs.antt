@@ -2,19 +2,23 @@
 use mathlib.Core.Path.{◌≡◌, refl, sym, ap, ◌∙◌}
 use mathlib.Core.Bool.{true, false}
 use mathlib.Core.List.{List}
-use Prim.Native.Nat.{ℕ, zero, suc, ◌+◌, ◌-◌, ◌*◌, ◌/◌, ◌%◌, ◌<◌, ◌≤◌}
-use native.Mathlib.Nat.{div-add-mod', zero-mul, suc-mul, mul_comm, mul-le-mul, mul-le-mul_right}
-use native.Mathlib.Decide.{dec_lt}
+use Prim.Native.Nat.{ℕ, suc, ◌+◌, ◌-◌, ◌*◌, ◌/◌, ◌%◌, ◌<◌, ◌≤◌}
+use native.Mathlib.Nat.{div-add-mod', suc-mul, mul_comm, mul-le-mul, mul-le-mul_right}
 use native.Mathlib.Omega.{arith}
-use borrow.Author.Tests.{lt-ltb, le-ltb, eqb-true}
+use borrow.Author.Tests.{eqb-true}
+use borrow.Rule.Slice.PartMut.{put_mid}
 use lib.Arith.{digits_div, digits_mod}
 use lib.ListN.{length, get_or}
 use lib.Seq.{ext_get_or}
 use lib.Ieee.{Float, nan}
+use Rattle.std.specs.List.{between}
+use Rattle.std.proofs.lemmas.List.{take_all}
+use Rattle.std.proofs.lemmas.List.Edits.{length-between}
 use Rattle.planes.specs.Sets.{tab}
 use Rattle.planes.proofs.SetLaws.{length-tab, get_d-tab}
 use Rattle.planes.specs.Fill.{fill}
-use Rattle.planes.proofs.Fill.{length-fill, fill-before, fill-at, fill-then}
+use Rattle.planes.proofs.Copy.{part-copied, copied-run}
+use Rattle.planes.proofs.Fill.{length-fill, fill-at, fill-then, fill-cong}
 use Rattle.frame.specs.declared.Frame.{Frame}
 use Rattle.frame.specs.declared.GroupSizes.{GroupSizes}
 use Rattle.frame.specs.Sizes.{group_dim_of, group_of, inner_of, sizes_of}
@@ -27,29 +31,40 @@ use Rattle.sigma_groups.specs.BlocksFit.{BlocksFit}
 use Rattle.sigma_groups.proofs.BlocksFit.{across-le}
 use Rattle.sigma_groups.specs.Fitting.{TableOf}
 use Rattle.sigma_groups.specs.Held.{group_at, not_held, some_not_held}
-use Rattle.sigma.specs.Sigma.{missing, sigma_in, frame_sigma, above_at, block_sigma, block_sigmas}
+use Rattle.sigma.specs.Sigma.{sigma_in, frame_sigma, block_sigma, block_sigmas}
 use Rattle.sigma_groups.proofs.Laws.{entry_lt, entries-le, Held, held, Accepted}
 use Rattle.sigma_grids.proofs.Laws.{some-fewer, none_below, grid-sides, grid-has-block, cells-present, start-ends}
-use Rattle.sigma.specs.Runs.{above_in, Holds, RunFits, RunOf, GridsOf, row_sigma, RowFits}
+use Rattle.sigma.specs.Runs.{Holds, RunFits, RunOf, GridsOf, row_sigma, RowFits}
+
+-- a list of n samples whose sample k is f k
+pub is-tab : (s : List Float) (n : ℕ) (f : ℕ → Float) → length s ≡ n → ((k : ℕ) → k < n → get_or s k nan ≡ f k) → s ≡ tab n f
+is-tab s n f e h = ext_get_or nan s (tab n f) (e ∙ sym (length-tab n f)) (λ k l. let m : k < n = omega arith in h k m ∙ sym (get_d-tab n f k m))
 
 -- a run that fills the whole list
-fill-whole : (d : List Float) (n : ℕ) (f : ℕ → Float) → length d ≡ n → fill d 0 n f ≡ tab n f
-fill-whole d n f e = ext_get_or nan (fill d 0 n f) (tab n f) (length-fill d 0 n f ∙ e ∙ sym (length-tab n f)) each
+pub fill-whole : (d : List Float) (n : ℕ) (f : ℕ → Float) → length d ≡ n → fill d 0 n f ≡ tab n f
+fill-whole d n f e = is-tab (fill d 0 n f) n f (length-fill d 0 n f ∙ e) each
   where
-    each : (k : ℕ) → k < length (fill d 0 n f) → get_or (fill d 0 n f) k nan ≡ get_or (tab n f) k nan
-    each k l =
-        let m : k < n = omega (arith, length-fill d 0 n f) in
-        let z : 0 + k ≡ k = omega arith in
-        rw z at (fill-at d 0 n f k (omega arith) m) ∙ sym (get_d-tab n f k m)
+    each : (k : ℕ) → k < n → get_or (fill d 0 n f) k nan ≡ f k
+    each k l = let z : 0 + k ≡ k = omega arith in rw z at (fill-at d 0 n f k (omega arith) l)
 
--- writing from index at on does not change the row above
-pub above_same : (s : List Float) (n : ℕ) (modular : Float) (at m : ℕ) (f : ℕ → Float) (k : ℕ) → k < at + n → above_in (fill s at m f) n modular k ≡ above_in s n modular k
-unfolding above_in
-above_same s n modular at m f k l = go (dec_lt k n)
-  where
-    go : Dec (k < n) → above_in (fill s at m f) n modular k ≡ above_in s n modular k
-    go (yes p) = rw (lt-ltb k n p)
-    go (no p) = rw (le-ltb k n (omega arith)) (fill-before s at m f (k - n) (omega arith))
+pub length-part : (s : List Float) (at n : ℕ) → at + n ≤ length s → length (between at (at + n) s) ≡ n
+length-part s at n l = omega (arith, length-between s at (at + n) l)
+
+-- the part of d from index `at` replaced by n samples
+part-tab : (d : List Float) (at n : ℕ) (f : ℕ → Float) → at + n ≤ length d → put_mid at (at + n - at) d (tab n f) ≡ fill d at n f
+part-tab d at n f p =
+    let size = length-tab n f in
+    let room : 0 + n ≤ length (tab n f) = omega (arith, size) in
+    let whole : between 0 (0 + n) (tab n f) ≡ tab n f = take_all (0 + n - 0) (tab n f) (omega (arith, size)) in
+    rw whole at (part-copied d at (tab n f) 0 n p room) ∙ copied-run d at (tab n f) 0 n p room ∙ fill-cong d at n _ f (λ i l. get_d-tab n f (0 + i) (omega arith) ∙ ap f (omega arith))
+
+-- the next n samples
+next-part : (d s part : List Float) (at n : ℕ) (f g : ℕ → Float) → s ≡ fill d 0 at f → at + n ≤ length s → part ≡ tab n g → ((i : ℕ) → i < n → g i ≡ f (at + i))
+    → put_mid at (at + n - at) s part ≡ fill d 0 (at + n) f
+next-part d s part at n f g e room q each =
+    let z : 0 + at ≡ at = omega arith in
+    let written : fill s at n g ≡ fill d 0 (at + n) f = rw e (rw z at (fill-then d 0 at n f g f (λ i l. refl) each)) in
+    rw q (part-tab s at n g room ∙ written)
 
 -- blocks to the right of a block in the same group: block b + i has the same group, and its cell is i columns to the right
 pub run-group : (b s i : ℕ) → inner_of b s + i < group_dim_of s → group_of (b + i) s ≡ group_of b s
@@ -64,16 +79,16 @@ module _ (t : List ℕ) (grids : List Float) (r : Run) where
   first_cell = grid_start t r.group + (r.row * grid_width t r.group + r.column)
 
   -- cells of a present grid are consecutive
-  pub run-present : present t r.group ≡ true → (modular above : Float) (from i : ℕ) → from ≡ first_cell
-      → get_or grids (from + i) nan ≡ sigma_in t grids modular above r.group (r.column + i) r.row
+  pub run-present : present t r.group ≡ true → (modular : Float) (from i : ℕ) → from ≡ first_cell
+      → get_or grids (from + i) nan ≡ sigma_in t grids modular r.group (r.column + i) r.row
   unfolding sigma_in
-  run-present p modular above from i e =
+  run-present p modular from i e =
       let z : from + i ≡ grid_start t r.group + (r.row * grid_width t r.group + (r.column + i)) = omega arith in
       rw (p, z)
 
-  pub run-missing : present t r.group ≡ false → (modular above : Float) (i : ℕ) → missing modular above ≡ sigma_in t grids modular above r.group (r.column + i) r.row
+  pub run-missing : present t r.group ≡ false → (modular : Float) (i : ℕ) → modular ≡ sigma_in t grids modular r.group (r.column + i) r.row
   unfolding sigma_in
-  run-missing p modular above i = rw p
+  run-missing p modular i = rw p
 
   module _ (h : Holds t grids r) where
     pub row-le : r.row * grid_width t r.group ≤ 1048576
@@ -137,25 +152,23 @@ module _ (f : Frame) (sizes : GroupSizes) (t : List ℕ) (grids : List Float) (h
           }
 
 -- the next run of a row
-module _ (f : Frame) (t : List ℕ) (grids : List Float) (modular : Float) (s₀ : List Float) (o : ℕ) (row : BlockRow) where
+module _ (f : Frame) (t : List ℕ) (grids : List Float) (modular : Float) (s₀ : List Float) (row : BlockRow) where
   abbrev row_of : ℕ → Float
-  row_of = row_sigma f t grids modular s₀ o row
+  row_of = row_sigma f t grids modular row
 
-  pub row-turn : (s s' : List Float) (x limit : ℕ) (r : Run) → s ≡ fill s₀ o x row_of → RunOf f (row.left + x) row.by limit r → x + limit ≤ row.across
-      → s' ≡ fill s (o + x) r.n (λ i. sigma_in t grids modular (above_in s row.across modular (o + x + i)) r.group (r.column + i) r.row)
-      → s' ≡ fill s₀ o (x + r.n) row_of
+  pub row-turn : (s part : List Float) (x limit : ℕ) (r : Run) → s ≡ fill s₀ 0 x row_of → x + r.n ≤ length s → RunOf f (row.left + x) row.by limit r
+      → part ≡ tab r.n (λ i. sigma_in t grids modular r.group (r.column + i) r.row)
+      → put_mid x (x + r.n - x) s part ≡ fill s₀ 0 (x + r.n) row_of
   unfolding row_sigma frame_sigma
-  row-turn s s' x limit r e is l e' = e' ∙ rw e (fill-then s₀ o x r.n row_of _ row_of (λ i l. refl) each)
+  row-turn s part x limit r e room is q = next-part s₀ s part x r.n row_of _ e room q each
     where
-      each : (i : ℕ) → i < r.n → sigma_in t grids modular (above_in (fill s₀ o x row_of) row.across modular (o + x + i)) r.group (r.column + i) r.row ≡ row_of (x + i)
+      each : (i : ℕ) → i < r.n → sigma_in t grids modular r.group (r.column + i) r.row ≡ row_of (x + i)
       each i p =
           let k = f.group_size_shift in
           let bx = row.left + x in
-          let at_x : o + x + i ≡ o + (x + i) = omega arith in
           let block : row.left + (x + i) ≡ row.left + x + i = omega arith in
           let inside : inner_of bx k + i < group_dim_of k = omega (arith, is.column-is, is.one-group) in
-          rw (above_same s₀ row.across modular o x row_of (o + x + i) (omega (arith, is.n-le)))
-          (rw (at_x, block, run-group bx k i inside, run-inner bx k i inside, is.group-is, is.column-is, is.row_is))
+          rw (block, run-group bx k i inside, run-inner bx k i inside, is.group-is, is.column-is, is.row_is)
 
 -- ---- row by row
 
@@ -171,30 +184,16 @@ module _ (f : Frame) (b : Blocks) (t : List ℕ) (grids : List Float) (modular :
   unfolding flat_sigma
   flat-is x y o p e = rw (e, digits_mod y p, digits_div y p)
 
-  -- the sigma above a block is one row of blocks earlier in the list
-  above-is : (x y o : ℕ) → x < blocks_across b → o ≡ y * blocks_across b → o ≤ length s₀ → above_in (fill s₀ 0 o flat) (blocks_across b) modular (o + x) ≡ above_at f b t grids modular x y
-  unfolding above_in above_at block_sigma
-  above-is x zero o p e room = rw (lt-ltb (o + x) (blocks_across b) (omega (arith, zero-mul (blocks_across b))))
-  above-is x (suc y) o p e room =
-      let k : ℕ = y * blocks_across b in
-      let z : o ≡ k + blocks_across b = e ∙ suc-mul y (blocks_across b) in
-      let i : o + x - blocks_across b ≡ 0 + (k + x) = omega arith in
-      rw (le-ltb (o + x) (blocks_across b) (omega arith), i) (fill-at s₀ 0 o flat (k + x) (omega arith) (omega arith) ∙ flat-is x y k p refl)
-
   -- row y of the filter region, with n blocks across
   abbrev row_at : ℕ → ℕ → BlockRow
   row_at n y = record { left = b.left; by = b.top + y; across = n }
 
   -- an iteration of the loop over rows
-  pub rows-turn : (s s' : List Float) (n y o : ℕ) → n ≡ blocks_across b → o ≡ y * n → o ≤ length s₀ → s ≡ fill s₀ 0 o flat
-      → s' ≡ fill s o n (row_sigma f t grids modular s o (row_at n y)) → s' ≡ fill s₀ 0 (o + n) flat
+  pub rows-turn : (s part : List Float) (n y o : ℕ) → n ≡ blocks_across b → o ≡ y * n → s ≡ fill s₀ 0 o flat → o + n ≤ length s
+      → part ≡ tab n (row_sigma f t grids modular (row_at n y)) → put_mid o (o + n - o) s part ≡ fill s₀ 0 (o + n) flat
   unfolding row_sigma block_sigma
-  rows-turn s s' n y o q e room is is' =
-      let z : 0 + o ≡ o = omega arith in
-      is' ∙ rw (is, q) (rw z at (fill-then s₀ 0 o (blocks_across b) flat _ flat (λ i l. refl) each))
-    where
-      each : (x : ℕ) → x < blocks_across b → row_sigma f t grids modular (fill s₀ 0 o flat) o (row_at (blocks_across b) y) x ≡ flat (o + x)
-      each x p = let e' : o ≡ y * blocks_across b = rw (← q) e in rw (above-is x y o p e' room) (sym (flat-is x y o p e'))
+  rows-turn s part n y o q e is room p =
+      next-part s₀ s part o n flat _ is room p (λ x l. sym (flat-is x y o (omega (arith, q)) (rw (← q) e)))
 
   pub rows_end : (s : List Float) (n y o : ℕ) → n ≡ blocks_across b → o ≡ y * n → y ≡ blocks_down b → length s₀ ≡ blocks_down b * blocks_across b → s ≡ fill s₀ 0 o flat → s ≡ block_sigmas f b t grids modular
   unfolding block_sigmas flat_sigma

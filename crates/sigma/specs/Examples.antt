@@ -10,7 +10,7 @@ use Rattle.sigma_groups.specs.Held.{not_held, some_not_held}
 use Rattle.frame.specs.Outcome.{bad_sides, bad_settings}
 use Rattle.sigma_groups.specs.Outcome.{table_fits, grids_fit, sigma_number}
 use Rattle.sigma_groups.specs.Measures.{bad_blocks}
-use Rattle.sigma.specs.Sigma.{sigma_in, frame_sigma, above_at, block_sigma, block_sigmas}
+use Rattle.sigma.specs.Sigma.{sigma_in, frame_sigma, block_sigma, block_sigmas}
 
 -- one group across and two down, of 128 × 128 blocks; the upper one has a grid of one column, the lower one has none
 abbrev frame : Frame
@@ -22,19 +22,19 @@ table = 1 ∷ 1 ∷ 128 ∷ 0 ∷ 0 ∷ 0 ∷ []
 abbrev blocks : ℕ → ℕ → Blocks
 blocks top height = record { left = 0; top = top; width = 8; height = height }
 
--- Specification 14.9: grids in group row 0 and none in row 1, so block row 128 has row 127's sigmas
-repeated : (grids : List Float) (modular : Float) → (block_sigma frame (blocks 0 1040) table grids modular 0 127 ≡ get_or grids 127 nan) × (block_sigma frame (blocks 0 1040) table grids modular 0 128 ≡ get_or grids 127 nan) × (block_sigma frame (blocks 0 1040) table grids modular 0 129 ≡ get_or grids 127 nan)
-unfolding sizes_of grid_start cells sigma_in frame_sigma above_at block_sigma
-repeated grids modular = (refl, refl, refl)
+-- Specification 14.9: grids in group row 0 and none in row 1, so block row 127 has its cell, and the rows from 128 on have `sigma_for_modular`
+missing_grid : (grids : List Float) (modular : Float) → (block_sigma frame (blocks 0 1040) table grids modular 0 127 ≡ get_or grids 127 nan) × (block_sigma frame (blocks 0 1040) table grids modular 0 128 ≡ modular) × (block_sigma frame (blocks 0 1040) table grids modular 0 129 ≡ modular)
+unfolding sizes_of grid_start cells sigma_in frame_sigma block_sigma
+missing_grid grids modular = (refl, refl, refl)
 
 -- the block sigmas of a filter region of block rows 127 to 129
-listed : (grids : List Float) (modular : Float) → block_sigmas frame (blocks 127 24) table grids modular ≡ get_or grids 127 nan ∷ get_or grids 127 nan ∷ get_or grids 127 nan ∷ []
-unfolding sizes_of grid_start cells sigma_in frame_sigma above_at block_sigma block_sigmas tab
+listed : (grids : List Float) (modular : Float) → block_sigmas frame (blocks 127 24) table grids modular ≡ get_or grids 127 nan ∷ modular ∷ modular ∷ []
+unfolding sizes_of grid_start cells sigma_in frame_sigma block_sigma block_sigmas tab
 listed grids modular = refl
 
--- a filter region that starts at block row 128 has no block above, so its top row has `sigma_for_modular`
+-- block rows 128 and 129 have the same sigmas in a filter region that starts at row 128
 started : (grids : List Float) (modular : Float) → block_sigmas frame (blocks 128 16) table grids modular ≡ modular ∷ modular ∷ []
-unfolding sizes_of grid_start cells sigma_in frame_sigma above_at block_sigma block_sigmas tab
+unfolding sizes_of grid_start cells sigma_in frame_sigma block_sigma block_sigmas tab
 started grids modular = refl
 
 -- these inputs are accepted
@@ -50,5 +50,5 @@ corner : (grids : List Float) (modular : Float)
     grids
     modular
     ≡ get_or grids 16383 nan ∷ get_or grids 32640 nan ∷ get_or grids 32895 nan ∷ get_or grids 49152 nan ∷ []
-unfolding sizes_of grid_start cells sigma_in frame_sigma above_at block_sigma block_sigmas tab
+unfolding sizes_of grid_start cells sigma_in frame_sigma block_sigma block_sigmas tab
 corner grids modular = refl

@@ -1,6 +1,5 @@
 -- How block sigmas are written: row of blocks by row, each row in runs. A run is a part of a row of blocks that lies in one group. Definitions only.
-use Rattle.std.specs.Prelude.{◌≡◌, true, false, cond, List, ℕ, ◌+◌, ◌-◌, ◌*◌, ◌<◌, ◌≤◌, ltb, length, get_or, Float}
-use Rattle.std.specs.Float.{nan}
+use Rattle.std.specs.Prelude.{◌≡◌, true, false, List, ℕ, ◌+◌, ◌*◌, ◌<◌, ◌≤◌, length, Float}
 use Rattle.frame.specs.declared.Frame.{Frame}
 use Rattle.frame.specs.declared.GroupSizes.{GroupSizes}
 use Rattle.frame.specs.Sizes.{group_dim_of, inner_of, sizes_of}
@@ -10,10 +9,6 @@ use Rattle.sigma_grids.specs.Table.{present, grid_width, grid_height, grid_start
 use Rattle.sigma_groups.specs.Held.{group_at, not_held}
 use Rattle.sigma.specs.Sigma.{frame_sigma}
 use Rattle.sigma_groups.specs.Fitting.{TableOf}
-
--- the sigma of the block above index at, n blocks earlier in the list; `modular` for the top row
-unfoldable pub above_in : List Float → ℕ → Float → ℕ → Float
-above_in s n modular at = cond (ltb at n) modular (get_or s (at - n) nan)
 
 -- ---- a run of blocks of one group
 
@@ -48,10 +43,9 @@ pub record GridsOf (f : Frame) (sizes : GroupSizes) (t : List ℕ) (grids : List
   pub sides : some_below (sizes_of f).num_groups (bad_grid t) ≡ false
   pub cells_are : length grids ≡ grid_start t (sizes_of f).num_groups
 
--- the sigma of block x of a row that is written at index o; s₀ has the rows above it
-module _ (f : Frame) (t : List ℕ) (grids : List Float) (modular : Float) (s₀ : List Float) (o : ℕ) (r : BlockRow) where
-  unfoldable pub row_sigma : ℕ → Float
-  row_sigma x = frame_sigma f t grids modular (above_in s₀ r.across modular (o + x)) (r.left + x) r.by
+-- the sigma of block x of a row
+unfoldable pub row_sigma : Frame → List ℕ → List Float → Float → BlockRow → ℕ → Float
+row_sigma f t grids modular r x = frame_sigma f t grids modular (r.left + x) r.by
 
 -- a row of blocks, each of them held
 pub record RowFits (f : Frame) (t : List ℕ) (r : BlockRow) : Type 0 where

@@ -3,54 +3,20 @@
 
 ghost use Rattle.std.specs.Prelude.{◌≡◌, false, ℕ, ◌+◌, ◌*◌, ◌<◌, ◌≤◌, length};
 ghost use Rattle.refusals.specs.Refusals.{number_of};
-ghost use Rattle.planes.specs.Fill.{fill};
+ghost use Rattle.planes.specs.Sets.{tab};
 ghost use Rattle.frame.specs.Sizes.{group_of, sizes_of};
 ghost use Rattle.sigma_groups.specs.Held.{some_not_held};
 ghost use Rattle.sigma_groups.specs.Measures.{blocks_across, blocks_down};
-ghost use Rattle.sigma.specs.Sigma.{missing, sigma_in, block_sigmas};
+ghost use Rattle.sigma.specs.Sigma.{sigma_in, block_sigmas};
 ghost use Rattle.sigma.specs.Outcome.{SigmasOutcome, sigmas_outcome};
-ghost use Rattle.sigma.specs.Runs.{above_in, row_sigma, RunFits, RunOf, GridsOf, RowFits};
+ghost use Rattle.sigma.specs.Runs.{row_sigma, RunFits, RunOf, GridsOf, RowFits};
 
 use frame::Frame;
-use planes::copy_run;
 use refusals::Refusal;
 use sigma_grids::{grid_of, grid_start};
 use sigma_groups::blocks::{Blocks, SoundBlocks};
 use sigma_groups::checked;
 use sigma_groups::groups::Groups;
-
-// The sigma of a block whose grid is missing: that of the block above.
-// Form: `sigma_for_modular` is passed too, as to the definition: a later rule for missing grids may need it, and then these two change alone.
-fn missing(_modular: f32, above: f32) -> f32
-    ensures { result ≡ missing _modular above }
-{
-    above
-}
-
-// The sigma of the block above index `at`, `modular` for the top row of blocks.
-fn above(sigmas: &[f32], across: usize, modular: f32, at: usize) -> f32
-    requires { at < length sigmas.now }
-    ensures { result ≡ above_in sigmas.now across modular at }
-{
-    if at < across {
-        return modular;
-    }
-    sigmas[at - across]
-}
-
-// The sigmas of `n` blocks of a missing group, from index `at` on.
-// Form: the whole slice and an index, since a block reads the sigma above it.
-fn fill_missing(modular: f32, across: u32, sigmas: &mut [f32], at: usize, n: u32)
-    requires { (at + n ≤ length sigmas.old) × (n ≤ across) }
-    ensures { sigmas.new ≡ fill sigmas.old at n
-        (λ (i : ℕ). missing modular (above_in sigmas.old across modular (at + i))) }
-{
-    let across = across as usize;
-    let end = n as usize;
-    for i in 0..end {
-        sigmas[at + i] = missing(modular, above(sigmas, across, modular, at + i));
-    }
-}
 
 // A part of a row of blocks that lies in one group: the group, the cell of the first block, the number of blocks.
 // Form: `Blocks` has four numbers too, but by chance: they are a place and the two sides of a region.
@@ -71,7 +37,8 @@ struct BlockRow {
     across: u32,
 }
 
-// The groups of a frame, and the grids slice that their table describes. `modular` is the sigma above the filter region.
+// The groups of a frame, and the grids slice that their table describes. `modular` is the sigma of a block whose grid
+// is missing.
 #[derive(Clone, Copy)]
 struct Grids<'a> {
     groups: Groups<'a>,
@@ -81,22 +48,20 @@ struct Grids<'a> {
 }
 
 impl<'a> Grids<'a> {
-    // Writes the sigmas of a run at index `at`.
-    // Form: the whole slice and an index, since a block reads the sigma above it.
-    fn fill_run(self, run: Run, across: u32, sigmas: &mut [f32], at: usize)
-        requires { RunFits self.groups.table.now self.grids.now run × (at + run.n ≤ length sigmas.old) × (run.n ≤ across) }
-        ensures { sigmas.new ≡ fill sigmas.old at run.n
+    // Writes the sigmas of a run.
+    fn fill_run(self, run: Run, sigmas: &mut [f32])
+        requires { RunFits self.groups.table.now self.grids.now run × (length sigmas.old ≡ run.n) }
+        ensures { sigmas.new ≡ tab run.n
             (λ (i : ℕ). sigma_in self.entry.groups.table.now self.entry.grids.now self.entry.modular
-            (above_in sigmas.old across self.entry.modular (at + i)) run.group (run.column + i) run.row) }
+            run.group (run.column + i) run.row) }
     {
-        match grid_of(self.groups.table, run.group) {
-            None => fill_missing(self.modular, across, sigmas, at, run.n),
-            Some(grid) => {
-                let first = grid_start(self.groups.table, run.group).unwrap();
-                let from = first + (run.row as usize * grid.width as usize + run.column as usize);
-                copy_run(sigmas, at, self.grids, from, run.n as usize);
-            }
-        }
+        let Some(grid) = grid_of(self.groups.table, run.group) else {
+            sigmas.fill(self.modular);
+            return;
+        };
+        let first = grid_start(self.groups.table, run.group).unwrap();
+        let from = first + (run.row as usize * grid.width as usize + run.column as usize);
+        sigmas.copy_from_slice(&self.grids[from..from + run.n as usize]);
     }
 
     // The run that starts at block (bx, by) and has at most `limit` blocks.
@@ -122,21 +87,20 @@ impl<'a> Grids<'a> {
         }
     }
 
-    // Writes the sigmas of a row of blocks at index o.
-    // Form: no range has the next index, since the run that is written says how far the loop goes on. The whole slice and
-    // an index, since a block reads the sigma above it.
-    fn fill_row(self, row: BlockRow, sigmas: &mut [f32], o: usize)
-        requires { RowFits self.groups.frame.frame self.groups.table.now row × (o + row.across ≤ length sigmas.old) }
-        ensures { sigmas.new ≡ fill sigmas.old o row.across
+    // Writes the sigmas of a row of blocks.
+    // Form: no range has the next index, since the run that is written says how far the loop goes on.
+    fn fill_row(self, row: BlockRow, sigmas: &mut [f32])
+        requires { RowFits self.groups.frame.frame self.groups.table.now row × (length sigmas.old ≡ row.across) }
+        ensures { sigmas.new ≡ tab row.across
             (row_sigma self.entry.groups.frame.frame self.entry.groups.table.now self.entry.grids.now
-            self.entry.modular sigmas.old o row) }
+            self.entry.modular row) }
     {
-        let across = row.across;
         let mut x = 0;
-        while x < across {
-            let run = self.run_at(row.left + x, row.by, across - x);
-            self.fill_run(run, across, sigmas, o + x as usize);
-            x += run.n;
+        while x < row.across {
+            let run = self.run_at(row.left + x, row.by, row.across - x);
+            let end = x + run.n;
+            self.fill_run(run, &mut sigmas[x as usize..end as usize]);
+            x = end;
         }
     }
 
@@ -154,7 +118,8 @@ impl<'a> Grids<'a> {
                 by: region.blocks.top + y,
                 across,
             };
-            self.fill_row(row, sigmas, (y * across) as usize);
+            let at = (y * across) as usize;
+            self.fill_row(row, &mut sigmas[at..at + across as usize]);
         }
     }
 }

@@ -87,10 +87,11 @@ entries! {
 
     /// Fills in one sigma per block if the edge filter is on (1); if it is off (0) there are none. The
     /// table has [`crate::TABLE_ENTRY`] numbers per group: whether it has a grid, the grid's width and
-    /// its height. `grids` has the cells of all grids, one grid after another.
+    /// its height. `grids` has the cells of all grids, one grid after another. Blocks of a group without a
+    /// grid have `sigma_for_modular`.
     ///
     /// ```
-    /// // Specification 14.9: group row 0 has grids, row 1 none: block row 128 repeats row 127.
+    /// // Specification 14.9: group row 0 has grids, row 1 none: block row 128 has `sigma_for_modular`, 1.
     /// # use restoration::{Blocks, Frame};
     /// let frame = Frame { group_size_shift: 0, ..Frame::with_size(8, 1032) };
     /// let blocks = Blocks { width: 8, height: 1032, ..Blocks::default() };
@@ -99,7 +100,7 @@ entries! {
     /// let table = [1, 1, 128, 0, 0, 0];
     /// let number = restoration::block_sigmas(1, frame, blocks, &table, &grid, 1.0, &mut sigmas);
     /// restoration::accepted(number)?;
-    /// assert_eq!(sigmas[126..], [126.0, 127.0, 127.0]);
+    /// assert_eq!(sigmas[126..], [126.0, 127.0, 1.0]);
     /// # Ok::<(), restoration::Refusal>(())
     /// ```
     block_sigmas = restoration_block_sigmas(

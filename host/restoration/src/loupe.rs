@@ -60,8 +60,8 @@ entries! {
 }
 
 /// Filters rectangles of a picture, one call per rectangle, without filtering the rest of it. The samples are
-/// those that the whole picture would have there if the block sigmas of the widened rectangle are the whole's,
-/// as they are when no grid is missing.
+/// those that the whole picture would have there with the same settings, frame, table and grids: the block sigmas
+/// of the widened rectangle are then the whole's (Specification 7.6 and 17.6).
 ///
 /// ```
 /// use restoration::{Frame, Loupe, Region, Settings, Setup, Smoothing};

@@ -11,9 +11,8 @@ use crate::{
     convert::{frame, original},
     picture::{self, agree, samples},
     random::Random,
-    rectangles::sigmas_within,
     report::{Amount, Report, Row},
-    runs::{self, Input, Passes, same_samples, setup_rule},
+    runs::{self, Input, Passes, setup_rule},
 };
 
 /// Pictures before `--scale`, and rectangles of each.
@@ -64,15 +63,15 @@ fn finish(tally: &Tally, drawn: u64, row: &mut Row) {
 /// Compares rectangles of a picture's filter region.
 fn rectangles(mut whole: Input, random: &mut Random, row: &mut Row, tally: &mut Tally) {
     whole.setup.preserve_outside = 0;
-    let by_original = whole.original();
+    let (by_original, mixed) = (whole.original(), whole.is_mixed());
     for _ in 0..RECTANGLES {
         let wanted = wanted(whole.setup.filter, random);
+        row.of_groups(mixed);
         rectangle(&whole, &by_original, wanted, random, row, tally);
     }
 }
 
-/// Compares a rectangle with the original's whole run or, where its sigmas differ from the whole picture's, with
-/// the original's run over the widened rectangle.
+/// Compares a rectangle with the original's whole run.
 fn rectangle(
     whole: &Input,
     by_original: &[f32],
@@ -93,15 +92,10 @@ fn rectangle(
         Err(refusal) => return row.differs(&(whole, wanted), &refusal, &0),
     };
     let mut own = cut(whole, widened, random);
-    let expected = if sigmas_agree(whole, &own) {
-        let has_passes = setup_rule(&whole.setup).passes() > 0;
-        let cut = has_passes && widened != whole.setup.filter;
-        tally.add(wanted.sample_count(), cut);
-        samples_in(whole.setup.filter, by_original, wanted)
-    } else {
-        tally.add_other_sigmas();
-        samples_in(widened, &own.original(), wanted)
-    };
+    let has_passes = setup_rule(&whole.setup).passes() > 0;
+    let cut = has_passes && widened != whole.setup.filter;
+    tally.add(wanted.sample_count(), cut);
+    let expected = samples_in(whole.setup.filter, by_original, wanted);
     let mut out = samples(expected.len(), random);
     let number = smooth(setup, &mut own, &mut out);
     let differing = out.iter().zip(&expected).position(|(a, b)| !agree(*a, *b));
@@ -127,15 +121,6 @@ fn cut(whole: &Input, widened: Region, random: &mut Random) -> Input {
         sigmas: samples(setup_rule(&setup).sigmas() as usize, random),
         ..whole.clone()
     }
-}
-
-/// Whether the block sigmas of the smaller picture are the whole picture's there.
-fn sigmas_agree(whole: &Input, own: &Input) -> bool {
-    let off = own.setup.settings.epf.iters == 0;
-    off || same_samples(
-        &own.expected_sigmas(),
-        &sigmas_within(whole, own.setup.filter),
-    )
 }
 
 fn smooth(setup: LoupeSetup, own: &mut Input, out: &mut [f32]) -> u32 {

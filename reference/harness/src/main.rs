@@ -17,6 +17,7 @@ mod header;
 mod kinds;
 mod loupe;
 mod mirror;
+mod originals;
 mod pass;
 mod picture;
 mod random;
@@ -82,9 +83,9 @@ const SECTIONS: [Section; 8] = [
     (compare_subjects, 41),
     (header::compare, 23),
     (gabor::compare, 7),
-    (sigma::compare, 5),
-    (epf::compare, 26),
-    (runs::compare, 17),
+    (sigma::compare, 7),
+    (epf::compare, 28),
+    (runs::compare, 18),
     (rectangles::compare, 3),
     (loupe::compare, 2),
 ];
@@ -110,6 +111,7 @@ fn compare(amount: Amount, sections: &[Section]) -> ExitCode {
         section(amount, &mut report);
     }
     let original_ran_none = gabor::one_row::original_ran_none();
+    originals::print_asked();
     if report.finish(sections.iter().map(|(_, rows)| rows).sum()) && original_ran_none {
         ExitCode::SUCCESS
     } else {

@@ -146,6 +146,7 @@ impl Pair {
     fn compare(&self, random: &mut Random, row: &mut Row, left: &mut Row) -> u64 {
         row.count(0);
         let case = (&self.smaller, &self.larger);
+        row.of_groups(self.larger.is_mixed() || self.smaller.is_mixed());
         let answered = restoration::margin(self.smaller.setup.settings);
         if answered.value() != Ok(self.margin) {
             row.differs(&case, &answered, &self.margin);
@@ -208,11 +209,6 @@ fn tight(passes: Passes, random: &mut Random, row: &mut Row, left: &mut Row) {
             row.differs(&(passes, edge), &"no picture", &"one that needs the margin");
         }
     }
-}
-
-/// The larger picture's sigmas in a part of its filter region, on blocks.
-pub fn sigmas_within(larger: &Input, part: Region) -> Vec<f32> {
-    regroup::Sigmas::of(larger, part).cells
 }
 
 /// A part of the filter region, on blocks if the edge filter runs.

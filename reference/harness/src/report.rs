@@ -56,6 +56,8 @@ pub struct Row {
     numbers: [u64; NUMBERS],
     /// Pictures whose bands are the cases.
     pictures: u64,
+    /// Cases with mixed groups. Those that are compared with an original are compared with the one without its carry.
+    mixed: u64,
     /// The numbers that must be expected often enough.
     required: &'static [u32],
 }
@@ -70,6 +72,7 @@ impl Row {
             differ: 0,
             numbers: [0; NUMBERS],
             pictures: 0,
+            mixed: 0,
             required: &[],
         }
     }
@@ -99,6 +102,11 @@ impl Row {
     /// A picture that is compared band by band, and then as a whole.
     pub fn by_bands(&mut self) {
         self.pictures += 1;
+    }
+
+    /// A case whose groups are mixed or not (`originals::is_mixed`).
+    pub fn of_groups(&mut self, mixed: bool) {
+        self.mixed += u64::from(mixed);
     }
 
     pub fn count(&mut self, number: u32) {
@@ -157,12 +165,16 @@ impl Row {
         counts.join(", ")
     }
 
-    /// What a case is if it is not a call or a picture.
-    fn unit(&self) -> String {
-        if self.pictures == 0 {
-            return String::new();
+    /// What a case is if it is not a call or a picture, and how many have mixed groups.
+    fn about_cases(&self) -> String {
+        let mut about = String::new();
+        if self.pictures > 0 {
+            about += &format!("; bands of {} pictures", self.pictures);
         }
-        format!("; bands of {} pictures", self.pictures)
+        if self.mixed > 0 {
+            about += &format!("; {} of mixed groups", self.mixed);
+        }
+        about
     }
 }
 
@@ -197,7 +209,7 @@ impl Report {
                 row.cases,
                 row.differ,
                 row.counts(),
-                row.unit()
+                row.about_cases()
             );
         }
         let cases: u64 = self.rows.iter().map(|row| row.cases).sum();

@@ -1,5 +1,6 @@
 //! Whole runs against the original's `apply_gabor_like` (on one row the rule, `gabor::one_row`) and
-//! `apply_epf` on one picture: bands in random order, with refused calls of every number interleaved.
+//! `apply_epf` on one picture, without its carry if groups are mixed: bands in random order, with refused calls of
+//! every number interleaved.
 
 mod bands_left;
 mod calls;
@@ -28,8 +29,9 @@ use crate::{
     report::{Amount, Report, Row},
 };
 
-/// Runs of small pictures and of large ones, before `--scale`.
+/// Runs of small pictures, of small ones with mixed groups, and of large ones, before `--scale`.
 const RUNS: u64 = 20_000;
+const MIXED_RUNS: u64 = 3_000;
 const LARGE_RUNS: u64 = 24;
 /// Sides of small pictures.
 const SMALL: u32 = 40;
@@ -50,6 +52,11 @@ pub fn compare(amount: Amount, report: &mut Report) {
         whole(input, &mut random, &mut row, &mut tally);
     }
     report.add(row);
+    let mut row = Row::new("whole runs", "mixed groups");
+    while row.draws(MIXED_RUNS, amount) {
+        whole(mixed(&mut random), &mut random, &mut row, &mut tally);
+    }
+    report.add(row);
     let mut row = Row::new("whole runs", "large");
     for n in 0..amount.few(LARGE_RUNS) {
         let passes = Passes {
@@ -65,9 +72,20 @@ pub fn compare(amount: Amount, report: &mut Report) {
     tally.report(report);
 }
 
+/// A small picture, where some groups have a grid and some have none.
+fn mixed(random: &mut Random) -> Input {
+    loop {
+        let input = draw::picture(SMALL, random);
+        if input.is_mixed() {
+            return input;
+        }
+    }
+}
+
 /// A run from start to result; the result must be that of [`Input::original`].
 fn whole(mut input: Input, random: &mut Random, row: &mut Row, tally: &mut Tally) {
     let original = input.original();
+    row.of_groups(input.is_mixed());
     damaged_start(&input, random, tally);
     let (_, run) = calls::start(&mut input, tally);
     let mut state = State::new(run, &input);
@@ -90,11 +108,6 @@ fn whole(mut input: Input, random: &mut Random, row: &mut Row, tally: &mut Tally
     } else if number != 0 {
         row.differs(&input, &number, &0);
     }
-}
-
-/// The same samples, with the same bits or both NaN.
-pub fn same_samples(a: &[f32], b: &[f32]) -> bool {
-    a.len() == b.len() && a.iter().zip(b).all(|(a, b)| agree(*a, *b))
 }
 
 /// The numbers of the bands in random order.

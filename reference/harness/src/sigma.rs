@@ -1,5 +1,6 @@
 //! Block sigmas: frames of 1 to 4 groups per row and column, filter regions where groups meet, grids
-//! that are missing or too small, and refusals.
+//! that are missing or too small, and refusals. Where groups are mixed the sigmas are compared with the
+//! original without its carry, and with the unchanged one after its missing grids are filled in.
 
 use core::{fmt, hint::black_box};
 
@@ -11,6 +12,7 @@ use restoration::{
 use crate::{
     bits, convert,
     expected::{self, sigma as rule},
+    originals::{self, is_mixed},
     picture::{agree, any_flag, any_len, compare_answer, plain, special},
     random::Random,
     report::{Amount, Report, Row},
@@ -31,6 +33,8 @@ pub const fn seldom_large(n: u64) -> u32 {
     }
 }
 
+/// Mixed frames for each number of groups, before `--scale`; by group size shift.
+const MIXED: [u64; 4] = [60, 15, 4, 4];
 /// Frames with grids that are too small, before `--scale`.
 const NARROW: u64 = 2_000;
 /// Draws of damaged inputs, before `--scale`.
@@ -123,6 +127,44 @@ impl Case {
         original_grids(&self.table, &self.grids)
     }
 
+    /// The same with each missing grid filled in: its cells are `modular`, as many as the blocks need.
+    pub fn filled_grids(&self) -> Vec<Option<oracle::SigmaGrid>> {
+        let mut grids = self.original_grids();
+        let across = oracle::group_sizes(self.frame).groups_per_row;
+        for (group, grid) in (0..).zip(&mut grids) {
+            let [width, height] = self.needed_sides((group % across, group / across));
+            grid.get_or_insert_with(|| oracle::SigmaGrid {
+                width,
+                height,
+                cells: vec![self.modular; width * height],
+            });
+        }
+        grids
+    }
+
+    /// How many columns and rows of a group's grid the blocks need.
+    fn needed_sides(&self, (column, row): (u32, u32)) -> [usize; 2] {
+        let dim = GROUP_DIM << self.frame.group_size_shift;
+        let Blocks {
+            left,
+            top,
+            width,
+            height,
+        } = self.blocks;
+        [(column, left, width), (row, top, height)]
+            .map(|(group, first, side)| needed(group, dim, first, side) as usize)
+    }
+
+    /// Whether some of the groups with blocks have a grid and some have none; of an accepted case.
+    pub fn is_mixed(&self) -> bool {
+        is_mixed(self.filter(), self.frame, &self.original_grids())
+    }
+
+    /// The sigmas of the blocks of group row 1, in a case of [`one_above_the_other`].
+    pub fn without_grid<'a>(&self, sigmas: &'a [f32]) -> &'a [f32] {
+        &sigmas[self.grids.len().saturating_sub(self.blocks.top as usize)..]
+    }
+
     /// Blocks of the filter region; 1 if the region is too large.
     pub fn count(&self) -> usize {
         let Blocks { width, height, .. } = self.blocks;
@@ -155,22 +197,18 @@ pub fn compare(amount: Amount, report: &mut Report) {
     let mut random = Random::for_name(NAME);
     let mut row = Row::new(NAME, "instances");
     for shift in 0..=MAX_GROUP_SIZE_SHIFT {
-        for case in carried(shift, &mut random) {
-            carry(&case, &mut random, &mut row);
+        for case in one_above_the_other(shift, &mut random) {
+            without_grid(&case, &mut random, &mut row);
         }
     }
     report.add(row);
     let mut row = Row::new(NAME, "groups meet");
-    for (shift, (most, cases)) in (0..).zip(GROUPS.into_iter().zip(MEETINGS)) {
-        for groups in 0..most * most {
-            let groups = (1 + groups % most, 1 + groups / most);
-            for _ in 0..amount.few(cases) {
-                let case = meeting(shift, groups, false, &mut random);
-                check(&case, 1, case.count(), &mut random, &mut row);
-            }
-        }
-    }
+    for_each_frame(MEETINGS, amount, |shift, groups| {
+        let case = meeting(shift, groups, false, &mut random);
+        check(&case, 1, case.count(), &mut random, &mut row);
+    });
     report.add(row);
+    mixed_frames(amount, &mut random, report);
     let mut row = Row::new(NAME, "narrow grids");
     while row.draws(NARROW, amount) {
         let shift = seldom_large(random.within(0, 199) as u64);
@@ -187,6 +225,77 @@ pub fn compare(amount: Amount, report: &mut Report) {
     }
     row.require(&NUMBERS, amount);
     report.add(row);
+}
+
+/// So many frames of each number of groups per row and column, by group size shift.
+fn for_each_frame(cases: [u64; 4], amount: Amount, mut each: impl FnMut(u32, (u32, u32))) {
+    for (shift, (most, cases)) in (0..).zip(GROUPS.into_iter().zip(cases)) {
+        for groups in 0..most * most {
+            for _ in 0..amount.few(cases) {
+                each(shift, (1 + groups % most, 1 + groups / most));
+            }
+        }
+    }
+}
+
+/// Frames of which the filter region touches a group with a grid and one without: compared with the original
+/// without its carry, and with the unchanged one after the missing grids are filled in.
+fn mixed_frames(amount: Amount, random: &mut Random, report: &mut Report) {
+    let mut row = Row::new(NAME, "mixed groups");
+    let mut filled = Row::new(NAME, "grids filled in");
+    let (mut frames, mut carried) = (0, 0);
+    for_each_frame(MIXED, amount, |shift, groups| {
+        if let Some(case) = mixed(shift, groups, random) {
+            check(&case, 1, case.count(), random, &mut row);
+            check_filled(&case, &mut filled);
+            frames += 1;
+            carried += u64::from(carry_shows(&case));
+        }
+    });
+    println!(
+        "{NAME}: of {frames} frames of mixed groups the unchanged original carries a sigma in {carried}"
+    );
+    row.at_least("frames in which the carry shows", carried, frames / 10);
+    for row in [row, filled] {
+        report.add(row);
+    }
+}
+
+/// A case of [`meeting`] whose groups are mixed; none with a single group.
+pub fn mixed(shift: u32, groups: (u32, u32), random: &mut Random) -> Option<Case> {
+    if groups == (1, 1) {
+        return None;
+    }
+    loop {
+        let case = meeting(shift, groups, false, random);
+        if case.is_mixed() {
+            return Some(case);
+        }
+    }
+}
+
+/// The unchanged original has a sigma of another block in a row that it shows.
+fn carry_shows(case: &Case) -> bool {
+    let (filter, frame, settings) = (case.filter(), case.frame, settings(case.modular));
+    let [carried, filled] = [case.original_grids(), case.filled_grids()]
+        .map(|grids| oracle::sigma_rows(filter, frame, &grids, settings));
+    let sigmas = |rows: oracle::SigmaRows| rows.into_iter().flat_map(|(_, sigmas)| sigmas);
+    sigmas(carried)
+        .zip(sigmas(filled))
+        .any(|(a, b)| !agree(a, b))
+}
+
+/// The library's sigmas must be the unchanged original's with `modular` in each cell of a missing grid.
+fn check_filled(case: &Case, row: &mut Row) {
+    let mut ours = vec![0.0; case.count()];
+    let number = case.ours(1, &mut ours);
+    row.count(0);
+    if number != 0 {
+        row.differs(case, &number, &0);
+    }
+    let (grids, settings) = (case.filled_grids(), settings(case.modular));
+    let shown = oracle::sigma_rows(case.filter(), case.frame, &grids, settings);
+    check_rows(case, &ours, shown, row);
 }
 
 fn whole_frames(random: &mut Random, report: &mut Report) {
@@ -225,12 +334,18 @@ fn check(case: &Case, on: u32, len: usize, random: &mut Random, row: &mut Row) {
     }
     let expected = rule::sigmas(input, &case.grids, case.modular);
     compare_answer(case, (0, 0), (given, &ours), (0, &expected), &|_| true, row);
-    let shown = oracle::sigma_rows(
+    row.of_groups(case.is_mixed());
+    let shown = originals::sigma_rows(
         case.filter(),
         case.frame,
         &case.original_grids(),
         settings(case.modular),
     );
+    check_rows(case, &ours, shown, row);
+}
+
+/// The sigmas of an accepted case must be those of the rows that an original shows.
+fn check_rows(case: &Case, ours: &[f32], shown: oracle::SigmaRows, row: &mut Row) {
     assert!(case.blocks.height < 7 || !shown.is_empty());
     let across = case.blocks.width.div_ceil(BLOCK) as usize;
     for (y, original) in shown {
@@ -259,7 +374,7 @@ fn settings(sigma_for_modular: f32) -> oracle::Edge {
 }
 
 /// Group row 0 has grids, row 1 has none; a filter region of one block column where they meet.
-pub fn carried(shift: u32, random: &mut Random) -> [Case; 4] {
+pub fn one_above_the_other(shift: u32, random: &mut Random) -> [Case; 4] {
     let dim = GROUP_DIM << shift;
     [(dim - 1, 16), (dim - 2, 39), (dim, 16), (dim + 1, 8)].map(|(top, height)| Case {
         frame: oracle::Frame {
@@ -281,20 +396,14 @@ pub fn carried(shift: u32, random: &mut Random) -> [Case; 4] {
     })
 }
 
-/// Blocks of group row 1 repeat the last block row above, if that is in the filter region.
-fn carry(case: &Case, random: &mut Random, row: &mut Row) {
+/// Blocks of group row 1 have `modular`, whether or not the filter region has blocks of group row 0.
+fn without_grid(case: &Case, random: &mut Random, row: &mut Row) {
     check(case, 1, case.count(), random, row);
     let mut sigmas = vec![0.0; case.count()];
     case.ours(1, &mut sigmas);
-    let (dim, top) = (case.grids.len(), case.blocks.top as usize);
-    let above = if top < dim {
-        case.grids[dim - 1]
-    } else {
-        case.modular
-    };
-    let missing = &sigmas[dim.saturating_sub(top)..];
-    if !missing.iter().all(|&sigma| agree(sigma, above)) {
-        row.differs(case, &missing, &above);
+    let missing = case.without_grid(&sigmas);
+    if !missing.iter().all(|&sigma| agree(sigma, case.modular)) {
+        row.differs(case, &missing, &case.modular);
     }
 }
 

@@ -405,8 +405,8 @@ fn grids_and_groups() {
     assert_eq!(sigmas_number(SMALL, one, &[2, 1, 1], &[]), 9);
 }
 
-/// A frame of two groups, of which the second has no grid; the filter region has the last block row of
-/// the first group and the only one of the second.
+/// A frame of two groups, one above the other, of which the second has no grid; the filter region has the last
+/// block row of the first group and the only one of the second. The original repeats row 127's sigma.
 #[test]
 fn a_group_without_sigmas() {
     let tall = oracle::Frame {
@@ -420,6 +420,10 @@ fn a_group_without_sigmas() {
     let shown = oracle::sigma_rows(original(filter), tall, &grids, plain_edge(1));
     assert!(shown.iter().any(|(y, _)| *y >= 1_024));
     assert!(shown.iter().all(|(_, sigmas)| *sigmas == [3.0]));
+    // Where the filter region starts below row 127 the same block has `sigma_for_modular`.
+    let below = original(at(0, 1_024, 8, 8));
+    let shown = oracle::sigma_rows(below, tall, &grids, plain_edge(1));
+    assert_eq!(shown[0].1, [1.0]);
     let blocks = Blocks {
         left: 0,
         top: 127,
@@ -429,7 +433,7 @@ fn a_group_without_sigmas() {
     let (table, mut sigmas) = ([1, 1, 128, 0, 0, 0], [0.0; 2]);
     let number =
         restoration::block_sigmas(1, frame(tall), blocks, &table, &cells, 1.0, &mut sigmas);
-    assert_eq!((number, sigmas), (0, [3.0, 3.0]));
+    assert_eq!((number, sigmas), (0, [3.0, 1.0]));
 }
 
 /// Where the original has a bool, the library has a number: 0, 1, or 9 for another.

@@ -2,7 +2,8 @@
 //!
 //! `region.rs`, `filter/{epf,gabor,owned}.rs` and `filter/impls/generic*` are compiled whole and
 //! unchanged; `mirror` of `util.rs` and the channel exchange of `image.rs` are extracted from their
-//! files by the build.
+//! files by the build. The package `oracle-uncarried` has the same functions with one statement more in
+//! its copy of `filter/epf.rs`: a block without a grid does not have the sigma of the block above.
 
 extern crate alloc;
 extern crate standins as jxl_grid;

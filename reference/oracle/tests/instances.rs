@@ -130,8 +130,9 @@ fn small_sigma_copies_and_nan_sigma_does_not_weigh() {
     assert_ne!(out, planes);
 }
 
+/// Where the original is not Specification 7.6 and 14.9 (docs/DIFFERENCES.md).
 #[test]
-fn missing_grid_repeats_the_block_above() {
+fn the_originals_own_missing_grid_repeats_the_block_above() {
     // Group dimension 128: block row 128 is the first of the second group row, which has no grid.
     let frame = Frame {
         height: 1_032,
@@ -160,8 +161,9 @@ fn missing_grid_repeats_the_block_above() {
     }
 }
 
+/// The same of the sigmas: block row 128 has that of row 127.
 #[test]
-fn missing_grid_repeats_the_sigma_above() {
+fn the_originals_own_missing_grid_repeats_the_sigma_above() {
     let frame = Frame {
         height: 1_032,
         ..SMALL_FRAME

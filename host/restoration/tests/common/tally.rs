@@ -8,8 +8,6 @@ pub struct Tally {
     samples: usize,
     /// Those of them with at least one pass and a widened rectangle smaller than the whole.
     cut: u64,
-    /// Rectangles whose sigmas differ from the whole picture's, because a grid is missing (7.6).
-    other_sigmas: u64,
 }
 
 impl Tally {
@@ -20,27 +18,22 @@ impl Tally {
         self.cut += u64::from(cut);
     }
 
-    /// Counts a rectangle that is not, because its sigmas differ.
-    pub fn add_other_sigmas(&mut self) {
-        self.other_sigmas += 1;
-    }
-
     pub fn summary(&self) -> String {
         format!(
-            "{} rectangles ({} samples) compared with whole runs, {} filtered from a part of the picture; {} have other sigmas",
-            self.compared, self.samples, self.cut, self.other_sigmas
+            "{} rectangles ({} samples) compared with whole runs, {} filtered from a part of the picture",
+            self.compared, self.samples, self.cut
         )
     }
 
-    /// Names of counts, the counts, and their minimums where this many rectangles are drawn. At least three
-    /// quarters are compared with whole runs and at least half are cut: a few are refused because they start
-    /// past the limit, some have other sigmas, and some need the whole picture.
+    /// Names of counts, the counts, and their minimums where this many rectangles are drawn. At least nine in
+    /// ten are compared with whole runs and at least half are cut: a few are refused because they start past the
+    /// limit, and some need the whole picture.
     pub fn required(&self, drawn: u64) -> [(&'static str, u64, u64); 2] {
         [
             (
                 "rectangles compared with whole runs",
                 self.compared,
-                drawn * 3 / 4,
+                drawn * 9 / 10,
             ),
             ("rectangles filtered from a part", self.cut, drawn / 2),
         ]

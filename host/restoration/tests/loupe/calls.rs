@@ -150,6 +150,13 @@ pub fn part(region: Region, planes: &[f32], part: Region) -> Vec<f32> {
         .collect()
 }
 
+/// Lays the samples of a part into the planes of a region.
+pub fn lay(region: Region, planes: &mut [f32], part: Region, samples: &[f32]) {
+    for (row, given) in rows(region, part).zip(samples.chunks_exact(part.width as usize)) {
+        planes[row].copy_from_slice(given);
+    }
+}
+
 /// Where each row of a part of a region lies in its planes.
 fn rows(region: Region, part: Region) -> impl Iterator<Item = Range<usize>> {
     let (width, height) = (region.width as usize, region.height as usize);

@@ -3,12 +3,12 @@
 use core::ops::Range;
 
 use restoration::{
-    BLOCK, Blocks, CHANNELS, Frame, GROUP_DIM, GaborSettings, Loupe, LoupeSetup, MAX_OFFSET,
-    MAX_SIDE, Region, Settings, Setup, Smoothing, accepted, block_sigmas,
+    BLOCK, CHANNELS, Frame, GROUP_DIM, GaborSettings, Loupe, LoupeSetup, MAX_OFFSET, MAX_SIDE,
+    Region, Settings, Setup, Smoothing, TABLE_ENTRY, group_sizes,
 };
 
 use crate::{
-    calls::{Call, Nans, part, same},
+    calls::{Call, part},
     expected,
     random::Random,
 };
@@ -27,6 +27,7 @@ const SIGMAS: [u32; 10] = [
 const SCALES: [(u32, u32); 5] = [(1, 0), (1, 0), (2, 0), (8, 0), (1, 1)];
 
 /// A whole picture. Its planes are those of its filter region.
+#[derive(Clone)]
 pub struct Picture {
     pub whole: Region,
     pub settings: Settings,
@@ -53,20 +54,61 @@ impl Picture {
             groups.whole.left = any_start(random);
             groups.whole.top = any_start(random);
         }
-        let Groups {
-            whole,
-            frame,
-            table,
-            grids,
-        } = groups;
-        Self {
-            whole,
-            settings,
-            frame,
-            table,
-            grids,
-            planes: samples(whole.sample_count(), random),
+        Self::of(groups, settings, random)
+    }
+
+    /// A picture of so many groups per row and column, more than one in all, with the EPF on. Some of the groups
+    /// that it touches have a grid and some have none.
+    pub fn of_mixed_groups(
+        passes: u32,
+        sides: (u32, u32),
+        groups: (u32, u32),
+        random: &mut Random,
+    ) -> Self {
+        loop {
+            let groups = Groups::across_meetings(sides, groups, random);
+            let picture = Self::of(groups, settings(passes, random), random);
+            let [across, down] = picture.blocks();
+            let blocks = (0..down).flat_map(|y| (0..across).map(move |x| (x, y)));
+            let present = blocks.filter(|&block| picture.has_grid(block)).count();
+            if (1..across as usize * down as usize).contains(&present) {
+                return picture;
+            }
         }
+    }
+
+    fn of(groups: Groups, settings: Settings, random: &mut Random) -> Self {
+        Self {
+            settings,
+            planes: samples(groups.whole.sample_count(), random),
+            whole: groups.whole,
+            frame: groups.frame,
+            table: groups.table,
+            grids: groups.grids,
+        }
+    }
+
+    /// A part of the filter region as a picture of its own.
+    pub fn part(&self, r: Region) -> Self {
+        Self {
+            whole: r,
+            planes: part(self.whole, &self.planes, r),
+            ..self.clone()
+        }
+    }
+
+    /// Blocks of the filter region across and down.
+    pub fn blocks(&self) -> [u32; 2] {
+        [self.whole.width, self.whole.height].map(|side| side.div_ceil(BLOCK))
+    }
+
+    /// Whether the group of a block has a grid. The block is counted from the filter region's corner.
+    pub fn has_grid(&self, (x, y): (u32, u32)) -> bool {
+        let sizes = group_sizes(self.frame).value().expect("a frame in range");
+        let group = |start: i32, block: u32| (start as u32 / BLOCK + block) / sizes.group_dim;
+        let row = group(self.whole.top, y) * sizes.groups_per_row;
+        let group = row + group(self.whole.left, x);
+        self.table[TABLE_ENTRY * group as usize] == 1
     }
 
     pub fn has_passes(&self) -> bool {
@@ -126,46 +168,6 @@ impl Picture {
             return 0;
         }
         (r.width.div_ceil(BLOCK) * r.height.div_ceil(BLOCK)) as usize
-    }
-
-    /// Whether the block sigmas of a widened rectangle are those of the whole there (17.6, premise 5).
-    pub fn sigmas_agree(&self, widened: Region) -> bool {
-        if self.settings.epf.iters == 0 {
-            return true;
-        }
-        let [whole, own] = [self.whole, widened].map(in_blocks);
-        same(
-            &part(whole, &self.sigmas(self.whole).repeat(CHANNELS), own),
-            &self.sigmas(widened).repeat(CHANNELS),
-            Nans::Alike,
-        )
-    }
-
-    fn sigmas(&self, r: Region) -> Vec<f32> {
-        let mut sigmas = vec![0.0; self.block_count(r)];
-        let blocks = Blocks {
-            left: r.left as u32 / BLOCK,
-            top: r.top as u32 / BLOCK,
-            width: r.width,
-            height: r.height,
-        };
-        let modular = self.settings.epf.sigma_for_modular;
-        let (table, grids) = (&self.table, &self.grids);
-        accepted(block_sigmas(
-            1, self.frame, blocks, table, grids, modular, &mut sigmas,
-        ))
-        .expect("all blocks are held");
-        sigmas
-    }
-}
-
-/// A region whose left and top are multiples of 8, counted in blocks.
-fn in_blocks(r: Region) -> Region {
-    Region {
-        left: r.left / BLOCK as i32,
-        top: r.top / BLOCK as i32,
-        width: r.width.div_ceil(BLOCK),
-        height: r.height.div_ceil(BLOCK),
     }
 }
 
@@ -260,6 +262,21 @@ impl Axis {
         }
     }
 
+    /// So many groups, and blocks on both sides of a place where two of them meet.
+    fn across_a_meeting(side: u32, groups: u32, dim: u32, random: &mut Random) -> Self {
+        let count = side.div_ceil(BLOCK);
+        let first = if groups == 1 {
+            random.below((dim - count) as usize) as u32
+        } else {
+            let meeting = dim * (1 + random.below(groups as usize - 1) as u32);
+            meeting - 1 - random.below(count as usize - 1) as u32
+        };
+        Self {
+            blocks: first..first + count,
+            groups,
+        }
+    }
+
     /// Columns or rows that a group's grid needs.
     fn needed(&self, group: u32, dim: u32) -> u32 {
         let end = self.blocks.end.min((group + 1) * dim);
@@ -280,6 +297,28 @@ impl Groups {
         let shift = random.one_of(&[0, 0, 0, 0, 0, 0, 0, 1]);
         let dim = GROUP_DIM << shift;
         let axes = [width, height].map(|side| Axis::new(side, dim, random));
+        let missing = random.one_of(&[1, 3, 8]);
+        Self::new(axes, (width, height), shift, missing, random)
+    }
+
+    /// Of so many groups per row and column, with the sides' blocks on both sides of a meeting where there is one.
+    fn across_meetings(sides: (u32, u32), groups: (u32, u32), random: &mut Random) -> Self {
+        let shift = random.one_of(&[0, 0, 0, 1]);
+        let along = [(sides.0, groups.0), (sides.1, groups.1)];
+        let axes = along
+            .map(|(side, groups)| Axis::across_a_meeting(side, groups, GROUP_DIM << shift, random));
+        Self::new(axes, sides, shift, 2, random)
+    }
+
+    /// One group in `missing` has no grid.
+    fn new(
+        axes: [Axis; 2],
+        (width, height): (u32, u32),
+        shift: u32,
+        missing: u64,
+        random: &mut Random,
+    ) -> Self {
+        let dim = GROUP_DIM << shift;
         let frame = frame(&axes, shift, random);
         let mut groups = Self {
             whole: Region {
@@ -292,7 +331,6 @@ impl Groups {
             table: Vec::new(),
             grids: Vec::new(),
         };
-        let missing = random.one_of(&[1, 3, 8]);
         for row in 0..axes[1].groups {
             for column in 0..axes[0].groups {
                 let need = [axes[0].needed(column, dim), axes[1].needed(row, dim)];

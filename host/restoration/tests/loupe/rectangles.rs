@@ -109,13 +109,8 @@ pub fn compare_rectangle(
     let Some(out) = compare(report, &call, any_band_height(widened.height, random)) else {
         return;
     };
-    let expected = if picture.sigmas_agree(widened) {
-        tally.add(out.len(), picture.has_passes() && widened != picture.whole);
-        part(picture.whole, whole, wanted)
-    } else {
-        tally.add_other_sigmas();
-        out.clone()
-    };
+    tally.add(out.len(), picture.has_passes() && widened != picture.whole);
+    let expected = part(picture.whole, whole, wanted);
     let by_loupe = picture
         .loupe()
         .smooth(wanted, |r| part(picture.whole, &picture.planes, r));

@@ -1,5 +1,6 @@
 //! Block sigmas from a frame's grids and then all steps of 1 to 3 iterations, band by band, against
-//! `apply_epf`.
+//! `apply_epf`. Where groups are mixed that is the one without its carry, and again the unchanged one after its
+//! missing grids are filled in.
 
 use restoration::{BLOCK, Blocks, MAX_GROUP_SIZE_SHIFT, MAX_ITERS};
 
@@ -7,6 +8,7 @@ use super::{
     BANDS, DEFAULTS, Pass, SIDES, around, placements, settings, textured, two_samples, whole_images,
 };
 use crate::{
+    originals,
     pass::Pass as _,
     picture::{self, compare_answer, is_written, samples},
     random::Random,
@@ -14,8 +16,9 @@ use crate::{
     sigma::{self, Case},
 };
 
-/// Random pictures, before `--scale`.
+/// Random pictures, and pictures of mixed groups, before `--scale`.
 const PICTURES: u64 = 3_000;
+const MIXED: u64 = 2_000;
 /// Sides of random pictures.
 const LARGEST: u32 = 48;
 
@@ -35,7 +38,7 @@ pub fn compare(amount: Amount, report: &mut Report) {
     report.add(row);
     let mut row = Row::new(NAME, "instances");
     for shift in 0..=MAX_GROUP_SIZE_SHIFT {
-        for case in sigma::carried(shift, &mut random) {
+        for case in sigma::one_above_the_other(shift, &mut random) {
             random_steps(&case, &mut random, &mut row);
         }
     }
@@ -48,6 +51,7 @@ pub fn compare(amount: Amount, report: &mut Report) {
         where_groups_meet(shift, &mut random, &mut row);
     }
     report.add(row);
+    mixed_groups(amount, &mut random, report);
 }
 
 /// Two samples with each named sigma, from a grid and from `sigma_for_modular`.
@@ -105,17 +109,58 @@ fn all_placements((width, height): (u32, u32), amount: Amount, random: &mut Rand
 }
 
 fn where_groups_meet(shift: u32, random: &mut Random, row: &mut Row) {
+    let groups = any_groups(shift, random);
+    let case = smaller(sigma::meeting(shift, groups, false, random));
+    random_steps(&case, random, row);
+}
+
+fn any_groups(shift: u32, random: &mut Random) -> (u32, u32) {
     let mut groups = || random.within(1, sigma::GROUPS[shift as usize].into()) as u32;
-    let groups = (groups(), groups());
-    let mut case = sigma::meeting(shift, groups, false, random);
-    // The grids hold fewer blocks as well.
+    (groups(), groups())
+}
+
+/// With sides of at most [`LARGEST`]. The grids hold fewer blocks as well.
+fn smaller(mut case: Case) -> Case {
     case.blocks.width = case.blocks.width.min(LARGEST);
     case.blocks.height = case.blocks.height.min(LARGEST);
-    random_steps(&case, random, row);
+    case
+}
+
+/// Each picture twice: as it is, and beside the unchanged original with the missing grids filled in.
+fn mixed_groups(amount: Amount, random: &mut Random, report: &mut Report) {
+    let mut row = Row::new(NAME, "mixed groups");
+    let mut filled = Row::new(NAME, "grids filled in");
+    for shift in (0..40).cycle().map(sigma::seldom_large) {
+        if !row.draws(MIXED, amount) {
+            break;
+        }
+        let groups = any_groups(shift, random);
+        let case = sigma::mixed(shift, groups, random).map(smaller);
+        if let Some(case) = case.filter(Case::is_mixed) {
+            random_steps(&case, random, &mut row);
+            with_image(&case, random, |steps, source, random| {
+                steps.check_filled(source, random, &mut filled);
+            });
+        }
+    }
+    for row in [row, filled] {
+        report.add(row);
+    }
 }
 
 /// The filter region of a case, in an image around it.
 fn random_steps(case: &Case, random: &mut Random, row: &mut Row) {
+    with_image(case, random, |steps, source, random| {
+        steps.check(source, random, row);
+    });
+}
+
+/// All steps over the filter region of a case, in an image around it.
+fn with_image(
+    case: &Case,
+    random: &mut Random,
+    compare: impl FnOnce(Steps, Vec<f32>, &mut Random),
+) {
     let place = oracle::Place {
         image: around(case.filter(), random),
         filter: case.filter(),
@@ -125,7 +170,7 @@ fn random_steps(case: &Case, random: &mut Random, row: &mut Row) {
     let band = random.within(1, 64) as u32;
     let steps = Steps::new(case, place, (iterations, settings(random)), band);
     let source = textured(picture::set_len(&place), random);
-    steps.check(source, random, row);
+    compare(steps, source, random);
 }
 
 /// The inputs of all steps without the sets.
@@ -157,15 +202,31 @@ impl<'a> Steps<'a> {
         }
     }
 
+    /// Compares with the original that the case is compared with.
     fn check(&self, source: Vec<f32>, random: &mut Random, row: &mut Row) {
+        row.of_groups(self.case.is_mixed());
+        let grids = self.case.original_grids();
+        let edge_filter = (self.settings, self.case.frame, &grids[..]);
+        let planes = picture::planes(&source);
+        let original = originals::filters(self.place, None, Some(edge_filter), planes);
+        self.compare(source, original, random, row);
+    }
+
+    /// Compares with the unchanged original, which has `sigma_for_modular` in each cell of a missing grid.
+    fn check_filled(&self, source: Vec<f32>, random: &mut Random, row: &mut Row) {
+        let (grids, planes) = (self.case.filled_grids(), picture::planes(&source));
+        let original = oracle::epf(self.place, self.case.frame, &grids, self.settings, planes);
+        self.compare(source, original, random, row);
+    }
+
+    fn compare(
+        &self,
+        source: Vec<f32>,
+        original: oracle::Planes,
+        random: &mut Random,
+        row: &mut Row,
+    ) {
         let before = samples(source.len(), random);
-        let original = oracle::epf(
-            self.place,
-            self.case.frame,
-            &self.case.original_grids(),
-            self.settings,
-            picture::planes(&source),
-        );
         let (number, ours) = self.run([source, before.clone()]);
         let mut expected = before;
         let rows = (0, picture::result(&self.place).height);

@@ -1,5 +1,7 @@
 //! Block sigmas: the number that a call is refused with, and the sigma of each block.
 
+use std::collections::BTreeSet;
+
 use restoration::{MAX_GRID_SIDE, TABLE_ENTRY};
 
 use super::{
@@ -153,7 +155,22 @@ pub fn all_held(input: Input) -> bool {
     })
 }
 
-/// The sigma of each block of the filter region, for an accepted call.
+/// The groups that have a block of the filter region, which is inside the frame.
+pub fn touched_groups(frame: Frame, filter: Region) -> Vec<usize> {
+    let [across, ..] = frame.groups().expect("a frame in range");
+    let (columns, rows) = touched(filter);
+    let groups = |blocks: core::ops::Range<i128>| -> BTreeSet<i128> {
+        blocks.map(|block| frame.split(block)[0]).collect()
+    };
+    let (columns, rows) = (groups(columns), groups(rows));
+    rows.iter()
+        .flat_map(|row| columns.iter().map(move |column| row * across + column))
+        .map(|group| group as usize)
+        .collect()
+}
+
+/// The sigma of each block of the filter region, for an accepted call: its cell in its group's grid or, where
+/// that grid is missing, `modular`.
 pub fn sigmas(input: Input, grids: &[f32], modular: f32) -> Vec<f32> {
     let [across, ..] = input.frame.groups().expect("checked before");
     let cells = |entry: &[u32]| (entry[0] * entry[1] * entry[2]) as usize;
@@ -167,19 +184,18 @@ pub fn sigmas(input: Input, grids: &[f32], modular: f32) -> Vec<f32> {
     };
     let starts: Vec<usize> = (0..input.table.len() / TABLE_ENTRY).map(start).collect();
     let (columns, rows) = touched(input.filter);
-    let mut above = vec![modular; columns.clone().count()];
-    let mut sigmas = Vec::new();
-    for by in rows {
+    let sigma = |bx: i128, by: i128| {
+        let [group_column, column] = input.frame.split(bx);
         let [group_row, row] = input.frame.split(by);
-        for (bx, sigma) in columns.clone().zip(&mut above) {
-            let [group_column, column] = input.frame.split(bx);
-            let group = (group_row * across + group_column) as usize;
-            let entry = &input.table[TABLE_ENTRY * group..][..TABLE_ENTRY];
-            if entry[0] == 1 {
-                *sigma = grids[starts[group] + row as usize * entry[1] as usize + column as usize];
-            }
+        let group = (group_row * across + group_column) as usize;
+        let entry = &input.table[TABLE_ENTRY * group..][..TABLE_ENTRY];
+        if entry[0] == 1 {
+            grids[starts[group] + row as usize * entry[1] as usize + column as usize]
+        } else {
+            modular
         }
-        sigmas.extend_from_slice(&above);
-    }
-    sigmas
+    };
+    rows.flat_map(|by| columns.clone().map(move |bx| (bx, by)))
+        .map(|(bx, by)| sigma(bx, by))
+        .collect()
 }

@@ -9,6 +9,7 @@ use restoration::{CHANNELS, GaborSettings, Region};
 
 use super::{PICTURES, Pass, any_picture, random_pass, weights};
 use crate::{
+    originals::{self, EdgeFilter},
     picture::plain,
     random::Random,
     report::{Amount, Report, Row},
@@ -47,7 +48,7 @@ pub fn expected_pass(
 pub fn expected_run(
     place: oracle::Place,
     weights: Option<oracle::Weights>,
-    edge: Option<(oracle::Edge, oracle::Frame, &[Option<oracle::SigmaGrid>])>,
+    edge: Option<EdgeFilter>,
     planes: oracle::Planes,
 ) -> oracle::Planes {
     match weights {
@@ -55,12 +56,12 @@ pub fn expected_run(
             RUNS.fetch_add(1, Relaxed);
             let planes = filtered_planes(&place, weights, planes);
             if edge.is_some() {
-                oracle::filters(place, None, edge, planes)
+                originals::filters(place, None, edge, planes)
             } else {
                 part(&place, planes)
             }
         }
-        _ => oracle::filters(place, weights, edge, planes),
+        _ => originals::filters(place, weights, edge, planes),
     }
 }
 
@@ -68,7 +69,7 @@ pub fn expected_run(
 /// whether the original ran none, as it must be.
 pub fn original_ran_none() -> bool {
     let [passes, runs, own] = [&PASSES, &RUNS, &OWN].map(|count| count.load(Relaxed));
-    let by_original = oracle::one_row_gabor_passes();
+    let by_original = originals::one_row_gabor_passes();
     println!("Gabor-like passes over one row, compared with the rule of Specification 10.4:");
     println!(
         "  among the cases of other rows of the table: {} passes, {runs} runs",

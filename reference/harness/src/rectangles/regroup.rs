@@ -1,7 +1,8 @@
-//! A frame with other groups and grids that give a part of a filter region the same sigmas.
+//! A frame with other groups and grids that give a part of a filter region the same sigmas, or the same frame.
 
-use restoration::{BLOCK, GROUP_DIM, MAX_SIDE, Region, Settings};
+use restoration::{BLOCK, GROUP_DIM, MAX_SIDE, Region, Settings, TABLE_ENTRY};
 
+use super::alike;
 use crate::{
     picture::agree,
     random::Random,
@@ -21,7 +22,7 @@ pub struct Sigmas {
     top: u32,
     across: u32,
     down: u32,
-    pub cells: Vec<f32>,
+    cells: Vec<f32>,
 }
 
 impl Sigmas {
@@ -63,20 +64,15 @@ impl Sigmas {
             .collect()
     }
 
-    /// Each of the blocks repeats the block above it, or has `modular` in the top row.
-    fn carried(&self, blocks: &[(u32, u32)], modular: f32) -> bool {
-        blocks.iter().all(|&(bx, by)| {
-            let above = if by == self.top {
-                modular
-            } else {
-                self.at(bx, by - 1)
-            };
-            agree(self.at(bx, by), above)
-        })
+    /// Each of the blocks has `modular`, as where a grid is missing.
+    fn all_modular(&self, blocks: &[(u32, u32)], modular: f32) -> bool {
+        blocks
+            .iter()
+            .all(|&(bx, by)| agree(self.at(bx, by), modular))
     }
 }
 
-/// Groups that give the part the larger picture's sigmas; any groups without the edge filter.
+/// Groups that give the part the larger picture's sigmas, its own among them; any groups without the edge filter.
 pub fn groups(
     larger: &Input,
     filter: Region,
@@ -91,9 +87,14 @@ pub fn groups(
             grids: case.grids,
         };
     }
+    let modular = larger.setup.settings.epf.sigma_for_modular;
+    if random.once_in(3) {
+        settings.epf.sigma_for_modular = alike(modular, random);
+        return Groups::of(larger, random);
+    }
     let expected = Sigmas::of(larger, filter);
     if random.once_in(2) {
-        settings.epf.sigma_for_modular = expected.cells[0];
+        settings.epf.sigma_for_modular = random.one_of(&[expected.cells[0], modular]);
     }
     let (shift, counts) = counts(&expected, random);
     let mut groups = Groups {
@@ -125,12 +126,29 @@ fn counts(expected: &Sigmas, random: &mut Random) -> (u32, (u32, u32)) {
 }
 
 impl Groups {
-    /// The next group's entry: none if its blocks repeat those above (not always), else a grid that has
-    /// them.
+    /// The larger picture's frame, table and grids, with other numbers in the entries of missing grids, which no
+    /// call reads.
+    fn of(larger: &Input, random: &mut Random) -> Self {
+        let mut table = larger.table.clone();
+        for entry in table.chunks_exact_mut(TABLE_ENTRY) {
+            if entry[0] == 0 {
+                entry[1..].fill_with(|| random.next() as u32);
+            }
+        }
+        let grids = larger.grids.iter().map(|&cell| alike(cell, random));
+        Self {
+            frame: larger.frame,
+            table,
+            grids: grids.collect(),
+        }
+    }
+
+    /// The next group's entry: no grid if its blocks have `modular` (not always), else a grid that has their
+    /// sigmas.
     fn add(&mut self, expected: &Sigmas, group: (u32, u32), modular: f32, random: &mut Random) {
         let dim = GROUP_DIM << self.frame.group_size_shift;
         let blocks = expected.within(group, dim);
-        if expected.carried(&blocks, modular) && random.once_in(2) {
+        if expected.all_modular(&blocks, modular) && random.once_in(2) {
             self.table
                 .extend([0, random.next() as u32, random.next() as u32]);
             return;

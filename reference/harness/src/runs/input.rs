@@ -9,7 +9,7 @@ use crate::{
     convert::{edge, frame, original, wide, wide_frame},
     expected::{self, runs as rule},
     gabor::one_row::expected_run,
-    picture, sigma,
+    originals, picture, sigma,
 };
 
 /// The inputs of start.
@@ -70,6 +70,13 @@ impl Input {
         let modular = self.setup.settings.epf.sigma_for_modular;
         let input = self.rule();
         expected::sigma::sigmas(input.sigmas_of(), &self.grids, modular)
+    }
+
+    /// Whether the edge filter is on and its groups are mixed; of a picture that start accepts.
+    pub fn is_mixed(&self) -> bool {
+        let grids = sigma::original_grids(&self.table, &self.grids);
+        let filter = original(self.setup.filter);
+        self.setup.settings.epf.iters > 0 && originals::is_mixed(filter, self.frame, &grids)
     }
 
     /// The result of a whole run by the original, on one row after the rule's Gabor-like pass. A run

@@ -27,8 +27,8 @@ pub fn compare(report: &mut Report) {
         }
     }
     for shift in 0..=MAX_GROUP_SIZE_SHIFT {
-        for case in sigma::carried(shift, &mut random) {
-            carry(case, &mut row, &mut tally);
+        for case in sigma::one_above_the_other(shift, &mut random) {
+            without_grid(case, &mut row, &mut tally);
         }
     }
     report.add(row);
@@ -79,26 +79,19 @@ fn two_bands(passes: Passes, random: &mut Random, row: &mut Row, tally: &mut Tal
     expect("result", number, 0, row);
 }
 
-/// Group row 0 has grids, row 1 has none: its blocks repeat the last block row above, if that is in the
-/// filter region.
-fn carry(case: sigma::Case, row: &mut Row, tally: &mut Tally) {
-    let (dim, top) = (case.grids.len(), case.blocks.top as usize);
-    let above = if top < dim {
-        case.grids[dim - 1]
-    } else {
-        case.modular
-    };
-    let mut input = one_iteration(case);
+/// Group row 0 has grids, row 1 has none: its blocks have `sigma_for_modular`.
+fn without_grid(case: sigma::Case, row: &mut Row, tally: &mut Tally) {
+    let mut input = one_iteration(&case);
     let (number, _) = calls::start(&mut input, tally);
     expect("start where groups meet", number, 0, row);
-    let missing = &input.sigmas[dim.saturating_sub(top)..];
-    if missing.is_empty() || !missing.iter().all(|&sigma| agree(sigma, above)) {
-        row.differs(&input, &missing, &above);
+    let missing = case.without_grid(&input.sigmas);
+    if missing.is_empty() || !missing.iter().all(|&sigma| agree(sigma, case.modular)) {
+        row.differs(&input, &missing, &case.modular);
     }
 }
 
 /// A picture of zeros whose filter region is that of a case.
-fn one_iteration(case: sigma::Case) -> Input {
+fn one_iteration(case: &sigma::Case) -> Input {
     let filter = convert::region(case.filter());
     let mut settings = draw::defaults(Passes {
         gabor: false,
@@ -113,8 +106,8 @@ fn one_iteration(case: sigma::Case) -> Input {
         },
         sigmas: vec![0.0; case.count()],
         frame: case.frame,
-        table: case.table,
-        grids: case.grids,
+        table: case.table.clone(),
+        grids: case.grids.clone(),
         first: vec![0.0; samples],
         second: vec![0.0; samples],
     }
