@@ -226,8 +226,8 @@ typedef struct RestorationSetup {
     uint32_t band_height;
 } RestorationSetup;
 
-// The record of a run. `pass` counts the completed passes. `bands_left` is the number of bands of the next pass that are
-// not done, 0 if the run is finished. `done` has one flag per band of the next pass: 1 if the band is done.
+// The record of a run. `pass` counts the completed passes. `bands_left` is the number of bands of the next pass that
+// are not done, 0 if the run is finished. `done` has one flag per band of the next pass: 1 if the band is done.
 typedef struct RestorationRun {
     RestorationSetup setup;
     uint32_t pass;
@@ -505,7 +505,8 @@ RestorationRunAnswer restoration_start(
     const float *second, size_t second_len,
     float *sigmas, size_t sigmas_len);
 
-// Runs the next pass over the rows of band `k` and returns the record with that band marked done and one band fewer left.
+// Runs the next pass over the rows of band `k` and returns the record with that band marked done and one band fewer
+// left.
 // The first pass reads the set `first` and writes `second`; each advance exchanges the sets. In the band's rows of
 // the result region, the written set gets filtered samples inside the filter region and copies outside it.
 // Numbers: 0; 7 if the length of a set or of `sigmas` is wrong for the record's setup, unless that length depends on
@@ -557,7 +558,7 @@ RestorationRegionAnswer restoration_loupe_widened(RestorationLoupeSetup setup);
 
 // Filters the wanted rectangle of a picture: writes to `out` what a run over the whole gives there, if the samples of
 // the widened rectangle (`restoration_loupe_widened`) are the whole picture's and, with the edge-preserving filter on,
-// so are the frame, the grids and `sigma_for_modular` (Specification 17.6).
+// so are `frame`, `table`, `grids` and `sigma_for_modular` (Specification 17.6).
 // `first` has three planes of the widened rectangle, and `second` has the same length. `sigmas` has one sigma per
 // block (8 x 8 samples) of the widened rectangle, or length 0 if `epf.iters` is 0. `table` and `grids` are as for
 // `restoration_start`. `out` has three planes of the wanted rectangle, one after another, each row by row.

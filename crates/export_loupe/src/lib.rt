@@ -28,7 +28,7 @@ pub extern "C" fn restoration_loupe_widened(setup: LoupeSetup) -> RegionAnswer
 
 // Filters the wanted rectangle of a picture: writes to `out` what a run over the whole gives there, if the samples of
 // the widened rectangle (`restoration_loupe_widened`) are the whole picture's and, with the edge-preserving filter on,
-// so are the frame, the grids and `sigma_for_modular` (Specification 17.6).
+// so are `frame`, `table`, `grids` and `sigma_for_modular` (Specification 17.6).
 // `first` has three planes of the widened rectangle, and `second` has the same length. `sigmas` has one sigma per
 // block (8 x 8 samples) of the widened rectangle, or length 0 if `epf.iters` is 0. `table` and `grids` are as for
 // `restoration_start`. `out` has three planes of the wanted rectangle, one after another, each row by row.

@@ -76,7 +76,8 @@ pub extern "C" fn restoration_start(
     RunAnswer::from(started)
 }
 
-// Runs the next pass over the rows of band `k` and returns the record with that band marked done and one band fewer left.
+// Runs the next pass over the rows of band `k` and returns the record with that band marked done and one band fewer
+// left.
 // The first pass reads the set `first` and writes `second`; each advance exchanges the sets. In the band's rows of
 // the result region, the written set gets filtered samples inside the filter region and copies outside it.
 // Numbers: 0; 7 if the length of a set or of `sigmas` is wrong for the record's setup, unless that length depends on

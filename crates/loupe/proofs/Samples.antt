@@ -110,7 +110,7 @@ module _ (n : ℕ) (h : LoupeHanded) (w : WantedFits h.setup.whole h.setup.wante
 
   module _ (whole : Handed) (part : PartOf n h whole) where
     from : CutFrom n (as_run h) whole
-    from = promises.sources-agree n (as_run h) whole (unrefused n (as_run h) accepted) (record {
+    from = promises.sources-give-sigmas n (as_run h) whole (unrefused n (as_run h) accepted) (record {
       unrefused = part.unrefused;
       contained = rw part.same-region (widened-inside (margin h.setup.settings) h.setup.whole h.setup.wanted w);
       same-passes = part.same-passes;

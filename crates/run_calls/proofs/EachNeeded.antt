@@ -5,7 +5,7 @@ use mathlib.Core.Bool.{true, false, cond, ◌&&◌}
 use mathlib.Core.List.{List, [], ◌∷◌}
 use Prim.Native.Nat.{ℕ, zero, suc, ◌+◌, ◌/◌, ◌<◌}
 use native.Mathlib.Omega.{arith}
-use lib.Dec.{eqb}
+use lib.Dec.{T, eqb}
 use lib.IntN.{ℤ, pos, negsuc, nat_abs, ◌-ℤ◌}
 use lib.Ieee.{Float, of_bits, lt, add, sub, mul, div}
 use Rattle.region_interval.proofs.Order.{lt-to}
@@ -43,7 +43,9 @@ use Rattle.run_calls.specs.Calls.{library_calls, end}
 use Rattle.run_calls.specs.Places.{Clear, input_at, sample_at, sigma_at}
 use Rattle.run_calls.specs.Theorem.{result_after}
 use Rattle.run_calls.specs.Corollaries.{FinishedRun}
-use Rattle.run_calls.specs.Needed.{Premise, start-accepted, unrefused, contained, same-passes, inputs-agree, sigmas-alike, buffers-unaltered, run-finished, slice_fits, Says, EachNeeded}
+use Rattle.run_calls.specs.Theorem.{SameSources}
+use Rattle.sigma_grids.specs.Table.{present, grid_width, grid_height}
+use Rattle.run_calls.specs.Needed.{UnrefusedNeeded, Premise, start-accepted, unrefused, contained, same-passes, inputs-agree, sigmas-alike, buffers-unaltered, run-finished, slice_fits, Says, EachNeeded}
 use Rattle.run_calls.specs.Example.{smaller, calls, slice}
 use Rattle.run_calls.specs.EdgeExample.{smaller as smaller_edge, larger as larger_edge, calls as calls_edge, slice as slice_edge}
 use Rattle.run_calls.proofs.Example.{premises-met}
@@ -286,6 +288,26 @@ blocks-seen = refl
 blocks-itself : lt (sample_at 3 small-edge 0 (pos 11) (pos 1)) (sample_at 3 small-edge 0 (pos 11) (pos 1)) ≡ false
 unfolding start_leaves of_bits lt add sub mul div mirror around of set_of tab inner layout_of pass passes plan steps step_of scale_of sigmas_filled block_sigmas block_sigma frame_sigma sigma_in sizes_of grid_start cells magnitude kernel dists along scaled_from apart distance positive weight_by copied weight_at blend divisor epf border multiplier epf_pass
 blocks-itself = refl
+
+edge-presence : (k : ℕ) → k < (sizes_of small-edge.frame).num_groups → present small-edge.table k ≡ present off-blocks.table k
+unfolding sizes_of
+edge-presence zero l = refl
+edge-presence (suc k) l = absurd (omega arith)
+
+edge-sides : (k : ℕ) → k < (sizes_of small-edge.frame).num_groups → T (present small-edge.table k)
+    → (grid_width small-edge.table k ≡ grid_width off-blocks.table k) × (grid_height small-edge.table k ≡ grid_height off-blocks.table k)
+unfolding sizes_of
+edge-sides zero l t = absurd t
+edge-sides (suc k) l t = absurd (omega arith)
+
+edge-sources : SameSources small-edge off-blocks
+edge-sources = record { same-frame = refl; same-presence = edge-presence; same-sides = edge-sides; same-grids = refl; same-modular = refl }
+
+pub unrefused-needed : UnrefusedNeeded
+unfolding step_margin
+unrefused-needed claim =
+    not-delivered _ small-edge off-blocks (run_of (edge-premises-met dot ones b0 sigma64)) (pos 11) (pos 1) dot-held dot-clear (λ e. less-unlike _ _ blocks-seen blocks-itself (sym e))
+    (claim small-edge off-blocks (calls_edge dot ones b0 sigma64) (slice_edge dot ones b0 sigma64) blocks-others edge-sources)
 
 -- ---- all premises
 

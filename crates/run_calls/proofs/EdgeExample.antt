@@ -1,7 +1,7 @@
 -- The premises of the theorem on rectangles (Specification 13.6) hold for the pictures and calls of specs/EdgeExample.antt. Assumes nothing.
 use mathlib.Core.Path.{◌≡◌, refl, sym, ap, subst, ◌∙◌}
 use mathlib.Core.List.{List, [], ◌∷◌}
-use Prim.Native.Nat.{ℕ, ◌+◌, ◌/◌, ◌<◌}
+use Prim.Native.Nat.{ℕ, zero, suc, ◌+◌, ◌/◌, ◌<◌}
 use native.Mathlib.Omega.{arith}
 use lib.Dec.{T}
 use lib.IntN.{ℤ, pos, nat_abs, ◌-ℤ◌}
@@ -11,7 +11,7 @@ use Rattle.region.specs.Regions.{inside, Holds}
 use Rattle.region.specs.Measures.{bounds_fit, picture_fits}
 use Rattle.region_axis.specs.Measures.{corner_fits, side_fits}
 use Rattle.frame.specs.Sizes.{sizes_of}
-use Rattle.sigma_grids.specs.Table.{bad_grid, cells, grid_start, grid_lacks_block, some_below}
+use Rattle.sigma_grids.specs.Table.{present, grid_width, grid_height, bad_grid, cells, grid_start, grid_lacks_block, some_below}
 use Rattle.sigma_groups.specs.Held.{not_held, some_not_held}
 use Rattle.frame.specs.Outcome.{bad_sides, bad_settings}
 use Rattle.sigma_groups.specs.Outcome.{table_fits, grids_fit}
@@ -28,7 +28,7 @@ use Rattle.run_outcomes.specs.Start.{picture_checks, start_checks, start_leaves,
 use Rattle.run_outcomes.specs.Band.{State, band_checks, band_outcome, advance_outcome}
 use Rattle.run_calls.specs.Calls.{StartAccepted, LibraryCall, band, advance, library_calls, state_after, end, Unaltered}
 use Rattle.run_calls.specs.Places.{input_at, sigma_at}
-use Rattle.run_calls.specs.Theorem.{CutFrom, Unrefused, Premises}
+use Rattle.run_calls.specs.Theorem.{SameSources, CutFrom, Unrefused, PremisesWith, Premises}
 use Rattle.run_calls.specs.EdgeExample.{larger, smaller, calls, slice, EdgePremisesMet, EdgePlaceClear}
 use Rattle.run_calls.proofs.Lists.{start-state}
 
@@ -88,6 +88,44 @@ module _ (p : Picture) (scales : List Float) (border sigma : Float) where
 
 pub edge-premises-met : EdgePremisesMet
 edge-premises-met p scales border sigma = premises p scales border sigma
+
+-- both have the same sources of block sigmas: no group has a grid
+edge-presence : (p : Picture) (scales : List Float) (border sigma : Float) (k : ℕ) → k < (sizes_of (smaller p scales border sigma).frame).num_groups
+    → present (smaller p scales border sigma).table k ≡ present (larger p scales border sigma).table k
+unfolding sizes_of
+edge-presence p scales border sigma zero l = refl
+edge-presence p scales border sigma (suc k) l = absurd (omega arith)
+
+edge-sides : (p : Picture) (scales : List Float) (border sigma : Float) (k : ℕ) → k < (sizes_of (smaller p scales border sigma).frame).num_groups → T (present (smaller p scales border sigma).table k)
+    → (grid_width (smaller p scales border sigma).table k ≡ grid_width (larger p scales border sigma).table k)
+    × (grid_height (smaller p scales border sigma).table k ≡ grid_height (larger p scales border sigma).table k)
+unfolding sizes_of
+edge-sides p scales border sigma zero l t = absurd t
+edge-sides p scales border sigma (suc k) l t = absurd (omega arith)
+
+pub edge-sources-met : (p : Picture) (scales : List Float) (border sigma : Float)
+    → PremisesWith 3 (library_calls 3) SameSources (smaller p scales border sigma) (larger p scales border sigma) (calls p scales border sigma) (slice p scales border sigma)
+edge-sources-met p scales border sigma =
+    let m = edge-premises-met p scales border sigma in
+    record {
+      start-accepted = m.start-accepted;
+      cut-from-larger = record {
+        unrefused = m.cut-from-larger.unrefused;
+        contained = m.cut-from-larger.contained;
+        same-passes = m.cut-from-larger.same-passes;
+        inputs-agree = m.cut-from-larger.inputs-agree;
+        sigmas-alike = λ on. record {
+          same-frame = refl;
+          same-presence = edge-presence p scales border sigma;
+          same-sides = edge-sides p scales border sigma;
+          same-grids = refl;
+          same-modular = refl;
+        };
+      };
+      buffers-unaltered = m.buffers-unaltered;
+      run-finished = m.run-finished;
+      slice_fits = m.slice_fits;
+    }
 
 pub edge-place-clear : EdgePlaceClear
 unfolding step_margin

@@ -26,7 +26,7 @@ use Rattle.run_outcomes.specs.Band.{band_checks, band_outcome, advance_outcome}
 use Rattle.run_calls.specs.Calls.{StartAccepted, library_calls, state_after, end}
 use Rattle.run_calls.specs.Places.{input_at}
 use Rattle.run_calls.specs.Theorem.{CutFrom, Unrefused, Premises}
-use Rattle.run_calls.specs.Example.{larger, smaller, calls, slice, PremisesMet, PlaceClear}
+use Rattle.run_calls.specs.Example.{UnlikeSourcesMet, larger, smaller, calls, slice, PremisesMet, PlaceClear}
 
 module _ (p : Picture) (weights : List (List Float)) where
   accepted : StartAccepted 3 (smaller p weights)
@@ -70,3 +70,20 @@ place-clear p weights = (
   record { column = record { from = tt; before = tt }; row = record { from = tt; before = tt } },
   record { left = λ f. tt; right = λ f. tt; top = λ f. absurd (f refl); bottom = λ f. absurd (f refl) },
 )
+
+pub unlike-sources-met : UnlikeSourcesMet
+unlike-sources-met p weights =
+    let m = premises-met p weights in
+    record {
+      start-accepted = m.start-accepted;
+      cut-from-larger = record {
+        unrefused = m.cut-from-larger.unrefused;
+        contained = m.cut-from-larger.contained;
+        same-passes = m.cut-from-larger.same-passes;
+        inputs-agree = m.cut-from-larger.inputs-agree;
+        sigmas-alike = λ on. absurd on;
+      };
+      buffers-unaltered = m.buffers-unaltered;
+      run-finished = m.run-finished;
+      slice_fits = m.slice_fits;
+    }

@@ -4,7 +4,7 @@ use mathlib.Core.Path.{◌≡◌, refl, sym, ap, subst, ◌∙◌}
 use mathlib.Core.Bool.{true, false}
 use mathlib.Core.Logic.{◌↔◌}
 use mathlib.Core.List.{List, ◌∷◌}
-use Prim.Native.Nat.{ℕ, ◌+◌, ◌<◌}
+use Prim.Native.Nat.{ℕ, zero, suc, ◌+◌, ◌<◌}
 use native.Mathlib.Omega.{arith}
 use borrow.Author.Tests.{eq-eqb, ne_eqb}
 use lib.Dec.{T}
@@ -17,7 +17,7 @@ use Rattle.region.specs.Regions.{inside, Holds}
 use Rattle.region.specs.Measures.{bounds_fit, picture_fits}
 use Rattle.region_axis.specs.Measures.{corner_fits, side_fits}
 use Rattle.frame.specs.Sizes.{sizes_of}
-use Rattle.sigma_grids.specs.Table.{bad_grid, cells, grid_start, grid_lacks_block, some_below}
+use Rattle.sigma_grids.specs.Table.{present, grid_width, grid_height, bad_grid, cells, grid_start, grid_lacks_block, some_below}
 use Rattle.sigma_groups.specs.Held.{not_held, some_not_held}
 use Rattle.frame.specs.Outcome.{bad_sides, bad_settings}
 use Rattle.sigma_groups.specs.Outcome.{table_fits, grids_fit}
@@ -170,6 +170,19 @@ module _ (g : Given) where
         of-set_of 3 10 10 _ c (1 + nat_abs (x -ℤ pos 8)) (1 + nat_abs (y -ℤ pos 8)) h (omega (arith, column)) (omega (arith, row))
         ∙ rw (e, f) (sym (of-set_of 3 26 26 g.picture c (1 + nat_abs (x -ℤ pos 0)) (1 + nat_abs (y -ℤ pos 0)) h (omega (arith, column, further)) (omega (arith, row, lower))))
 
+  presence : (k : ℕ) → k < (sizes_of (smaller g).frame).num_groups → present (smaller g).table k ≡ present (larger g).table k
+  unfolding sizes_of
+  presence zero l = refl
+  presence (suc zero) l = refl
+  presence (suc (suc k)) l = absurd (omega arith)
+
+  sides : (k : ℕ) → k < (sizes_of (smaller g).frame).num_groups → T (present (smaller g).table k)
+      → (grid_width (smaller g).table k ≡ grid_width (larger g).table k) × (grid_height (smaller g).table k ≡ grid_height (larger g).table k)
+  unfolding sizes_of
+  sides zero l t = (refl, refl)
+  sides (suc zero) l t = absurd t
+  sides (suc (suc k)) l t = absurd (omega arith)
+
   -- if the EPF is on, both have the same sources of block sigmas
   from : CutFromSources 3 (smaller g) (larger g)
   unfolding inside
@@ -178,7 +191,7 @@ module _ (g : Given) where
     contained = tt;
     same-passes = refl;
     inputs-agree = λ c x y h held. inputs x y held c h;
-    sigmas-alike = λ on. record { same-frame = refl; same-presence = λ k l. refl; same-sides = λ k l t. (refl, refl); same-grids = refl; same-modular = refl };
+    sigmas-alike = λ on. record { same-frame = refl; same-presence = presence; same-sides = sides; same-grids = refl; same-modular = refl };
   }
 
   -- ---- all premises

@@ -44,8 +44,8 @@ use Rattle.run_calls.specs.Example.{smaller, larger, calls, slice}
 use Rattle.run_calls.specs.EdgeExample.{smaller as smaller_edge, larger as larger_edge, calls as calls_edge, slice as slice_edge}
 use Rattle.run_calls.proofs.Lists.{start-state, start-sound}
 use Rattle.run_calls.proofs.Corollaries.{whole-picture}
-use Rattle.run_calls.proofs.Example.{premises-met, place-clear}
-use Rattle.run_calls.proofs.EdgeExample.{edge-premises-met, edge-place-clear}
+use Rattle.run_calls.proofs.Example.{premises-met, unlike-sources-met, place-clear}
+use Rattle.run_calls.proofs.EdgeExample.{edge-premises-met, edge-sources-met, edge-place-clear}
 
 -- ---- the premises one by one
 
@@ -122,7 +122,7 @@ gabor-margin-needed claim =
     let premises = premises-met beyond weights in
     let held : Holds small.setup.filter (pos 0) (pos 0) = record { column = record { from = tt; before = tt }; row = record { from = tt; before = tt } } in
     let clear : Clear 0 small.setup.filter large.setup.filter (pos 0) (pos 0) = record { left = λ f. tt; right = λ f. tt; top = λ f. tt; bottom = λ f. tt } in
-    not-delivered 0 small large (run_of premises) (pos 0) (pos 0) held clear (less-unlike _ _ seen seen-itself) (claim small large (calls beyond weights) (slice beyond weights) refl premises)
+    not-delivered 0 small large (run_of premises) (pos 0) (pos 0) held clear (less-unlike _ _ seen seen-itself) (claim small large (calls beyond weights) (slice beyond weights) refl (unlike-sources-met beyond weights))
 
 -- ---- one iteration alone: sigma 64
 
@@ -154,7 +154,7 @@ step-margin-needed claim =
     let clear : Clear 1 small.setup.filter large.setup.filter (pos 9) (pos 0) = record { left = λ f. tt; right = λ f. tt; top = λ f. absurd (f refl); bottom = λ f. absurd (f refl) } in
     let cs = calls_edge first-column ones b1 sigma64 in
     let out = slice_edge first-column ones b1 sigma64 in
-    not-delivered 1 small large (run_of premises) (pos 9) (pos 0) held clear (λ e. less-unlike _ _ edge-seen edge-seen-itself (sym e)) (claim small large cs out refl premises)
+    not-delivered 1 small large (run_of premises) (pos 9) (pos 0) held clear (λ e. less-unlike _ _ edge-seen edge-seen-itself (sym e)) (claim small large cs out refl (edge-sources-met first-column ones b1 sigma64))
 
 -- ---- one different input sample
 

@@ -13,13 +13,13 @@ use Rattle.run_passes.proofs.Bounds.{step-bounds, settings-bounds, bounds-reache
 use Rattle.run_passes.proofs.Statements.{pass-near, cut-same, plan-reach}
 use Rattle.run_calls.specs.Promises.{Promises}
 use Rattle.run_calls.proofs.Theorem.{library-theorem, rectangle-theorem, rectangle-theorem-at, library-sources-theorem, sources-theorem}
-use Rattle.run_calls.proofs.Sources.{sources-agree}
+use Rattle.run_calls.proofs.Sources.{sources-give-sigmas}
 use Rattle.run_calls.proofs.Finished.{result-at-state}
-use Rattle.run_calls.proofs.Example.{premises-met, place-clear}
+use Rattle.run_calls.proofs.Example.{premises-met, unlike-sources-met, place-clear}
 use Rattle.run_calls.proofs.EdgeExample.{edge-premises-met, edge-place-clear}
 use Rattle.run_calls.proofs.FourEdges.{four-edges-met, four-edges-sources, four-edges-clear, four-edges-delivered}
 use Rattle.run_calls.proofs.Needed.{premises-say, gabor-margin-needed, step-margin-needed, inputs-needed, sigmas-needed, unaltered-needed}
-use Rattle.run_calls.proofs.EachNeeded.{each_needed}
+use Rattle.run_calls.proofs.EachNeeded.{unrefused-needed, each_needed}
 use Rattle.run_calls.proofs.SourcesNeeded.{sources-say, each-source-needed}
 use Rattle.run_calls.proofs.Corollaries.{whole-picture, two-cuts-agree, outside_kept, bands-alike}
 use Rattle.run_calls.proofs.Refused.{start-tied, calls-tied, refused-untouched}
@@ -33,11 +33,12 @@ promises = record {
   rectangle-theorem = rectangle-theorem;
   library-sources-theorem = library-sources-theorem;
   sources-theorem = sources-theorem;
-  sources-agree = sources-agree;
+  sources-give-sigmas = sources-give-sigmas;
   rectangle-theorem-at = rectangle-theorem-at;
   result-at-state = result-at-state;
   end-reached = end-reached;
   premises-met = premises-met;
+  unlike-sources-met = unlike-sources-met;
   place-clear = place-clear;
   edge-premises-met = edge-premises-met;
   edge-place-clear = edge-place-clear;
@@ -47,6 +48,7 @@ promises = record {
   four-edges-delivered = four-edges-delivered;
   premises-say = premises-say;
   each_needed = each_needed;
+  unrefused-needed = unrefused-needed;
   gabor-margin-needed = gabor-margin-needed;
   step-margin-needed = step-margin-needed;
   inputs-needed = inputs-needed;

@@ -45,7 +45,7 @@ use Rattle.run_setup.proofs.Laws.{setup-fits}
 use Rattle.run_outcomes.specs.Start.{Handed, blocks_of, blocks_held, picture_checks, sigmas_filled}
 use Rattle.run_outcomes.proofs.Laws.{picture-fits}
 use Rattle.run_calls.specs.Places.{sigma_at}
-use Rattle.run_calls.specs.Theorem.{Unrefused, SameSources, SourcesAgree}
+use Rattle.run_calls.specs.Theorem.{Unrefused, SameSources, SourcesGiveSigmas}
 
 -- ---- a block's place in the frame
 
@@ -173,8 +173,8 @@ both-on n small large e on =
 
 -- ---- equal block sigmas
 
-pub sources-agree : SourcesAgree
-sources-agree n small large u from = record {
+pub sources-give-sigmas : SourcesGiveSigmas
+sources-give-sigmas n small large u from = record {
   unrefused = from.unrefused;
   contained = from.contained;
   same-passes = from.same-passes;

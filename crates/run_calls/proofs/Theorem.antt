@@ -33,7 +33,7 @@ use Rattle.run_calls.specs.States.{RectangleTheoremAt}
 use Rattle.run_calls.proofs.Lists.{start-unrefused, picture-accepted, reached-kept, end-reached}
 use Rattle.run_calls.proofs.Finished.{filter-sample, run-samples, handed-over}
 use Rattle.run_calls.proofs.Places.{deep, blocks-apart}
-use Rattle.run_calls.proofs.Sources.{sources-agree}
+use Rattle.run_calls.proofs.Sources.{sources-give-sigmas}
 
 -- ---- the smaller picture's filter region is a cut of the larger one's
 
@@ -143,7 +143,7 @@ pub sources-premises : (n : ℕ) (K : Calls n) (small large : Handed) (cs : List
     → PremisesWith n K SameSources small large cs out → Premises n K small large cs out
 sources-premises n K small large cs out p = record {
   start-accepted = p.start-accepted;
-  cut-from-larger = sources-agree n small large (start-unrefused n small p.start-accepted) p.cut-from-larger;
+  cut-from-larger = sources-give-sigmas n small large (start-unrefused n small p.start-accepted) p.cut-from-larger;
   buffers-unaltered = p.buffers-unaltered;
   run-finished = p.run-finished;
   slice_fits = p.slice_fits;

@@ -1,5 +1,5 @@
--- A second example, with the EPF: one iteration, Gabor off. Settings that no pass reads differ, and so do frames, image regions and
--- `preserve_outside`. Definitions only.
+-- A second example, with the EPF: one iteration, Gabor off. Settings that no pass reads differ, and so do image regions,
+-- `preserve_outside` and the sides of an absent grid. Definitions only.
 use Rattle.std.specs.Prelude.{List, [], ◌∷◌, ℕ, ◌+◌, pos, Float}
 use Rattle.region.specs.declared.Region.{Region}
 use Rattle.region.specs.Regions.{Holds}
@@ -41,7 +41,7 @@ module _ (p : Picture) (scales : List Float) (border sigma : Float) where
   abbrev pub smaller : Handed
   smaller = record {
     setup = setup_with (rows_from 7 5) (rows_from 8 4) 1 (settings_of b1) 2;
-    frame = record { width = 100; height = 100; upsampling = 2; lf_level = 0; group_size_shift = 1 };
+    frame = record { width = 12; height = 2; upsampling = 1; lf_level = 0; group_size_shift = 0 };
     table = 0 ∷ 5 ∷ 5 ∷ [];
     grids = [];
     first = set_of 3 5 2 (λ c x y. p c (7 + x) y);

@@ -16,7 +16,7 @@ use Rattle.run_outcomes.specs.Start.{Handed}
 use Rattle.run_outcomes.specs.Band.{State}
 use Rattle.run_calls.specs.Calls.{start_state, LibraryCall, band, advance, library_calls}
 use Rattle.run_calls.specs.Places.{Clear}
-use Rattle.run_calls.specs.Theorem.{Premises}
+use Rattle.run_calls.specs.Theorem.{SameSources, PremisesWith, Premises}
 
 module _ (p : Picture) (weights : List (List Float)) where
   -- one row with the given left and width, Gabor alone, with `preserve_outside` and the band height
@@ -25,11 +25,11 @@ module _ (p : Picture) (weights : List (List Float)) where
       let r : Region = record { left = left; top = pos 0; width = width; height = 1 } in
       setup_with r r full (with_gabor (gabor_of 1 weights) no_settings) height
 
-  -- a frame of one group without a grid
-  abbrev handed_of : Setup → List Float → List Float → Handed
-  handed_of s first second = record {
+  -- a frame of one group without a grid, of a given width
+  abbrev handed_of : ℕ → Setup → List Float → List Float → Handed
+  handed_of side s first second = record {
     setup = s;
-    frame = record { width = 8; height = 8; upsampling = 1; lf_level = 0; group_size_shift = 0 };
+    frame = record { width = side; height = 8; upsampling = 1; lf_level = 0; group_size_shift = 0 };
     table = 0 ∷ 0 ∷ 0 ∷ [];
     grids = [];
     first = first;
@@ -39,11 +39,11 @@ module _ (p : Picture) (weights : List (List Float)) where
 
   -- columns −1 to 2
   abbrev pub larger : Handed
-  larger = handed_of (setup_of (negsuc 0) 4 1 64) (set_of 3 4 1 p) (set_of 3 4 1 (λ c x y. b0))
+  larger = handed_of 8 (setup_of (negsuc 0) 4 1 64) (set_of 3 4 1 p) (set_of 3 4 1 (λ c x y. b0))
 
   -- columns 0 to 2 of it: the left edge is cut
   abbrev pub smaller : Handed
-  smaller = handed_of (setup_of (pos 0) 3 0 1) (set_of 3 3 1 (λ c x y. p c (suc x) y)) (set_of 3 3 1 (λ c x y. b0))
+  smaller = handed_of 16 (setup_of (pos 0) 3 0 1) (set_of 3 3 1 (λ c x y. p c (suc x) y)) (set_of 3 3 1 (λ c x y. b0))
 
   abbrev begun : State
   begun = start_state 3 smaller
@@ -67,6 +67,11 @@ module _ (p : Picture) (weights : List (List Float)) where
 -- the premises hold
 abbrev pub PremisesMet : Type 0
 PremisesMet = (p : Picture) (weights : List (List Float)) → Premises 3 (library_calls 3) (smaller p weights) (larger p weights) (calls p weights) (slice p weights)
+
+-- and those of the theorem from equal sources: these are not asked for with the EPF off, and the frames are unlike here
+abbrev pub UnlikeSourcesMet : Type 0
+UnlikeSourcesMet = (p : Picture) (weights : List (List Float))
+    → PremisesWith 3 (library_calls 3) SameSources (smaller p weights) (larger p weights) (calls p weights) (slice p weights)
 
 -- the theorem covers at least one position: column 1 is clear of the cut edge
 abbrev pub PlaceClear : Type 0

@@ -31,16 +31,16 @@ module _ (g : Given) where
   abbrev settings : Settings
   settings = with_gabor (gabor_of 1 g.weights) (with_epf (epf_of 1 g.scales (epf_sigma_of g.modular g.modular g.modular g.border) g.modular) no_settings)
 
-  -- a frame of one group with a grid of 3 × 3 cells
+  -- a frame of two groups, one above the other: the first has a grid of 3 × 3 cells, the second has none
   abbrev frame : Frame
-  frame = record { width = 24; height = 24; upsampling = 1; lf_level = 0; group_size_shift = 0 }
+  frame = record { width = 24; height = 1032; upsampling = 1; lf_level = 0; group_size_shift = 0 }
 
   -- columns and rows 0 to 23, in an image region of −1 to 24
   abbrev pub larger : Handed
   larger = record {
     setup = setup_with (record { left = negsuc 0; top = negsuc 0; width = 26; height = 26 }) (record { left = pos 0; top = pos 0; width = 24; height = 24 }) 0 settings 5;
     frame = frame;
-    table = 1 ∷ 3 ∷ 3 ∷ [];
+    table = 1 ∷ 3 ∷ 3 ∷ 0 ∷ 5 ∷ 7 ∷ [];
     grids = tab 9 g.grid;
     first = set_of 3 26 26 g.picture;
     second = set_of 3 26 26 (λ c x y. b0);
@@ -52,7 +52,7 @@ module _ (g : Given) where
   smaller = record {
     setup = setup_with (record { left = pos 7; top = pos 7; width = 10; height = 10 }) (record { left = pos 8; top = pos 8; width = 8; height = 8 }) 1 settings 4;
     frame = frame;
-    table = 1 ∷ 3 ∷ 3 ∷ [];
+    table = 1 ∷ 3 ∷ 3 ∷ 0 ∷ 0 ∷ 9 ∷ [];
     grids = tab 9 g.grid;
     first = set_of 3 10 10 (λ c x y. g.picture c (8 + x) (8 + y));
     second = set_of 3 10 10 (λ c x y. b0);

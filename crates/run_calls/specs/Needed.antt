@@ -17,7 +17,7 @@ use Rattle.run_calls.specs.Theorem.{Unrefused, SigmasAgree, SameSources, Deliver
 
 -- ---- the premises one by one
 
--- named after the fields of `Premises` and, for those about the larger picture, of `CutFrom`
+-- named after the fields of `PremisesWith` and, for those about the larger picture, of `CutWith`
 pub data Premise : Type 0 where
   start-accepted unrefused contained same-passes inputs-agree sigmas-alike buffers-unaltered run-finished slice_fits : Premise
 
@@ -48,12 +48,16 @@ TheoremBut q Instead = (small large : Handed) (cs : List LibraryCall) (out : Lis
 abbrev pub EachNeeded : Type 0
 EachNeeded = (q : Premise) → TheoremBut q (λ small large cs out. Unit {0}) → ⊥
 
+-- with equal sources of block sigmas too, it is needed that the larger picture would not be refused
+abbrev pub UnrefusedNeeded : Type 0
+UnrefusedNeeded = TheoremBut unrefused (λ small large cs out. SameSources small large) → ⊥
+
 -- ---- the margin
 
--- if the margin is m + 1, being clear by m is not enough
+-- if the margin is m + 1, being clear by m is not enough, even with equal sources of block sigmas
 abbrev pub MarginNeeded : ℕ → Type 0
 MarginNeeded m = ((small large : Handed) (cs : List LibraryCall) (out : List Float) → margin small.setup.settings ≡ suc m
-    → Premises 3 (library_calls 3) small large cs out → DeliversBeyond m 3 small large (result_after 3 (library_calls 3) small cs out)) → ⊥
+    → PremisesWith 3 (library_calls 3) SameSources small large cs out → DeliversBeyond m 3 small large (result_after 3 (library_calls 3) small cs out)) → ⊥
 
 -- the Gabor-like filter alone has margin 1
 abbrev pub GaborMarginNeeded : Type 0
@@ -105,7 +109,7 @@ SourcesSay = (small large : Handed) → SameSources small large ↔ ((s : Source
 abbrev pub SourcesBut : Source → Handed → Handed → Type 0
 SourcesBut q small large = (s : Source) → (s ≡ q → ⊥) → SourceSays s small large
 
--- with any one of them unlike, the theorem is false
+-- with any one of them left out, the theorem is false
 abbrev pub EachSourceNeeded : Type 0
 EachSourceNeeded = (q : Source) → ((small large : Handed) (cs : List LibraryCall) (out : List Float)
     → PremisesWith 3 (library_calls 3) (SourcesBut q) small large cs out → Delivers 3 small large (result_after 3 (library_calls 3) small cs out)) → ⊥

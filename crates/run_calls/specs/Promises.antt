@@ -13,14 +13,14 @@ use Rattle.epf_lanes.specs.Divisors.{LaneDivisorBounds}
 use Rattle.run_passes.specs.Statements.{PassNear, CutSame, PlanReach}
 use Rattle.run_passes.specs.Bounds.{StepBounds, SettingsBounds, BoundsReached}
 use Rattle.run_calls.specs.Calls.{Calls, Effects}
-use Rattle.run_calls.specs.Theorem.{SourcesAgree, RectangleTheorem, SourcesTheorem, LibraryTheorem, LibrarySourcesTheorem}
+use Rattle.run_calls.specs.Theorem.{SourcesGiveSigmas, RectangleTheorem, SourcesTheorem, LibraryTheorem, LibrarySourcesTheorem}
 use Rattle.run_calls.specs.States.{EndReached, ResultAt, RectangleTheoremAt}
 use Rattle.run_calls.specs.Rules.{StartTied, CallsTied, RefusedUntouched, CanFinish, CountRule, LibraryCountRule, LeftCounts, EndFits, ReachedFits, FitsReached, EachReached}
 use Rattle.run_calls.specs.Corollaries.{WholePicture, TwoCutsAgree, OutsideKept, BandsAlike}
-use Rattle.run_calls.specs.Example.{PremisesMet, PlaceClear}
+use Rattle.run_calls.specs.Example.{PremisesMet, UnlikeSourcesMet, PlaceClear}
 use Rattle.run_calls.specs.EdgeExample.{EdgePremisesMet, EdgePlaceClear}
 use Rattle.run_calls.specs.FourEdges.{FourEdgesMet, FourEdgesSources, FourEdgesClear, FourEdgesDelivered}
-use Rattle.run_calls.specs.Needed.{PremisesSay, EachNeeded, GaborMarginNeeded, StepMarginNeeded, InputsNeeded, SigmasNeeded, UnalteredNeeded, SourcesSay, EachSourceNeeded}
+use Rattle.run_calls.specs.Needed.{PremisesSay, EachNeeded, UnrefusedNeeded, GaborMarginNeeded, StepMarginNeeded, InputsNeeded, SigmasNeeded, UnalteredNeeded, SourcesSay, EachSourceNeeded}
 
 pub record Promises : Type 1 where
   -- the theorem on rectangles (Specification 13.6): for three planes and the calls of 13.7, and for any number of planes and any kind of
@@ -30,13 +30,14 @@ pub record Promises : Type 1 where
   -- the same from equal sources of block sigmas, which give equal block sigmas
   pub library-sources-theorem : LibrarySourcesTheorem
   pub sources-theorem : (n : ℕ) (K : Calls n) → Effects n K → SourcesTheorem n K
-  pub sources-agree : SourcesAgree
+  pub sources-give-sigmas : SourcesGiveSigmas
   -- the theorem for a state, however it was reached, and that lists of calls reach such states
   pub rectangle-theorem-at : RectangleTheoremAt
   pub result-at-state : ResultAt
   pub end-reached : (n : ℕ) (K : Calls n) → Effects n K → EndReached n K
   -- examples meet the premises, one of them with four cut edges
   pub premises-met : PremisesMet
+  pub unlike-sources-met : UnlikeSourcesMet
   pub place-clear : PlaceClear
   pub edge-premises-met : EdgePremisesMet
   pub edge-place-clear : EdgePlaceClear
@@ -47,12 +48,13 @@ pub record Promises : Type 1 where
   -- the theorem is false without any one premise, or with a smaller margin
   pub premises-say : PremisesSay
   pub each_needed : EachNeeded
+  pub unrefused-needed : UnrefusedNeeded
   pub gabor-margin-needed : GaborMarginNeeded
   pub step-margin-needed : StepMarginNeeded
   pub inputs-needed : InputsNeeded
   pub sigmas-needed : SigmasNeeded
   pub unaltered-needed : UnalteredNeeded
-  -- and with any one source of block sigmas unlike
+  -- and with any one source of block sigmas left out
   pub sources-say : SourcesSay
   pub each-source-needed : EachSourceNeeded
   -- corollaries

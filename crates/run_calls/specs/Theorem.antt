@@ -1,6 +1,7 @@
 -- The theorem on rectangles (Specification 13.6): any list of calls that finishes a run on a rectangle cut from a larger picture gives the
--- larger picture's smoothed samples beyond the margin. It has two forms: the block sigmas agree, or what they come from is equal, from which
--- the first follows. Statements only.
+-- larger picture's smoothed samples beyond the margin. It has two forms: `RectangleTheorem`, of pictures whose block sigmas agree, and
+-- `SourcesTheorem`, of pictures in which what block sigmas come from is equal. The second follows from the first, since equal sources give
+-- equal block sigmas (`SourcesGiveSigmas`). Statements only.
 use Rattle.std.specs.Prelude.{◌≡◌, List, ℕ, ◌<◌, T, ℤ, length, Float}
 use Rattle.refusals.specs.Checks.{first_of}
 use Rattle.region.specs.Regions.{inside, Holds}
@@ -43,7 +44,8 @@ pub record CutWith (Alike : Handed → Handed → Type 0) (n : ℕ) (small large
   pub same-passes : plan n small.setup.settings ≡ plan n large.setup.settings
   -- the inputs agree at each position of the smaller filter region
   pub inputs-agree : (c : ℕ) (x y : ℤ) → c < n → Holds small.setup.filter x y → input_at n small c x y ≡ input_at n large c x y
-  -- Both filter regions start at multiples of 8 if the EPF is on, since neither is refused under 6.
+  -- If the EPF is on, the block sigmas agree there, or their sources are equal. Both filter regions start at multiples of 8 then: the larger
+  -- one would not be refused under 6, nor is the smaller one, whose start is accepted.
   pub sigmas-alike : T (epf_on small.setup) → Alike small large
 
 abbrev pub CutFrom : ℕ → Handed → Handed → Type 0
@@ -53,8 +55,8 @@ abbrev pub CutFromSources : ℕ → Handed → Handed → Type 0
 CutFromSources n = CutWith SameSources n
 
 -- equal sources give equal block sigmas, for any number of planes
-abbrev pub SourcesAgree : Type 0
-SourcesAgree = (n : ℕ) (small large : Handed) → Unrefused n small → CutFromSources n small large → CutFrom n small large
+abbrev pub SourcesGiveSigmas : Type 0
+SourcesGiveSigmas = (n : ℕ) (small large : Handed) → Unrefused n small → CutFromSources n small large → CutFrom n small large
 
 -- the result call on a state, with a slice
 abbrev pub result_on : ℕ → State → List Float → ResultOutcome
@@ -100,6 +102,6 @@ module _ (n : ℕ) (K : Calls n) where
 abbrev pub LibraryTheorem : Type 0
 LibraryTheorem = RectangleTheorem 3 (library_calls 3)
 
--- the same from equal sources
+-- the theorem of Specification 13.6 from equal sources: three planes and the calls of 13.7
 abbrev pub LibrarySourcesTheorem : Type 0
 LibrarySourcesTheorem = SourcesTheorem 3 (library_calls 3)

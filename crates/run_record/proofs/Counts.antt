@@ -190,5 +190,5 @@ marked-left r k l f o =
     let most : count_below max_bands (is_done q) ≤ b = rw (within q (marked-fits r k f o) o.unfinished) (count-most b (is_done q)) in
     omega (arith, f.left, left-unfinished r o.unfinished, left-unfinished q o.unfinished, more, most)
 
--- for the answers of `check_advance` and `done_fits`
+-- for the answers of `check_advance`
 pub ruleset left_rules = (left-not-over, none-left-over)

@@ -77,6 +77,7 @@ not_over r = finished r || band_missing r
 
 -- ---- valid records
 
+-- the bands of a record that may be done
 abbrev pub open_bands : Run → ℕ
 open_bands r = open_in r.setup r.pass
 

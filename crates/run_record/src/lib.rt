@@ -1,4 +1,4 @@
-// The record of a run: the setup, the number of completed passes, and the done bands of the next pass.
+// The record of a run: the setup, the number of completed passes, and of the next pass the number of bands left and the done bands.
 #![tactic(auto)]
 
 ghost use Rattle.std.specs.Prelude.{◌≡◌, true, false, not, ◌&&◌, ℕ, ◌+◌, ◌<◌, ◌≤◌, ◌%◌, eqb, get_or, MatchOption};
@@ -13,8 +13,8 @@ ghost use Rattle.run_record.specs.Record.{open_checks, over_checks, finished_che
 use refusals::{Refusal, flag_fits, flag_set};
 use run_setup::{MAX_BANDS, Setup};
 
-// The record of a run. `pass` counts the completed passes. `bands_left` is the number of bands of the next pass that are
-// not done, 0 if the run is finished. `done` has one flag per band of the next pass: 1 if the band is done.
+// The record of a run. `pass` counts the completed passes. `bands_left` is the number of bands of the next pass that
+// are not done, 0 if the run is finished. `done` has one flag per band of the next pass: 1 if the band is done.
 #[repr(C)]
 #[derive(Clone, Copy)]
 pub struct Run {
@@ -77,7 +77,7 @@ impl Run {
     }
 
     // The number of bands that are done, or `None` if no accepted calls give one of the flags.
-    // Form: one loop for both, as a call looks at the flags once; `try_fold` would carry the count through an `Option` at each flag.
+    // Form: one loop for both, as a call goes through the flags once; `try_fold` would carry the count through an `Option` at each flag.
     fn done_count(&self) -> Option<u32>
         ensures { MatchOption result (bad_done self.now ≡ true)
             (λ n. (bad_done self.now ≡ false) × (n ≡ count_below max_bands (is_done self.now))) }
@@ -150,8 +150,8 @@ impl Run {
         Ok(())
     }
 
-    // Refuses an advance for the record: out of range, or the pass is not done. In a valid record the number of bands left tells
-    // whether a band is missing.
+    // Refuses an advance for the record: out of range, or the pass is not done. In a valid record of a run that is not finished the
+    // number of bands left tells whether a band is missing.
     #[tactic(auto, using(crate::proofs::Counts::left_rules))]
     pub fn check_advance(&self) -> Result<(), Refusal>
         ensures { number_of result ≡ first_of (over_checks self.now) }

@@ -174,7 +174,7 @@ impl Setup {
 }
 
 /// The record of a run. The default is that of a run that has just started, with the default setup,
-/// whose image has no rows and so no bands.
+/// whose image has no rows and so no bands: with another setup its number of bands left is another.
 #[repr(C)]
 #[derive(Clone, Copy, PartialEq)]
 pub struct Run {

@@ -118,9 +118,9 @@ impl Smoothing {
         self.finish_with(|_| {})
     }
 
-    /// The same, and tells `watch` after each band and each advance how far the run is. The library says
-    /// when no pass is left: with no band left it refuses an advance, with 11, only if the run is
-    /// finished.
+    /// Runs all bands and passes that are left, tells `watch` after each band and each advance how far the
+    /// run is (never if it is finished already), and answers the result. The library says when no pass is
+    /// left: with no band left it refuses an advance, with 11, only if the run is finished.
     ///
     /// ```
     /// # use restoration::{Frame, Region, Setup, Smoothing};

@@ -29,17 +29,23 @@ fn settings(passes: u32) -> Settings {
     Settings { gabor, epf }
 }
 
-/// A run over bands of two rows, the last of them of one.
+/// A run over bands of two rows, the last of them of one. The image has eight rows more, above the filter
+/// region and in no band.
 fn started(passes: u32, bands: u32) -> Smoothing {
     let (width, height) = (3, 2 * bands - 1);
     let setup = Setup {
+        image: Region::with_size(width, 8 + height),
+        filter: Region {
+            top: 8,
+            ..Region::with_size(width, height)
+        },
+        preserve_outside: 0,
         settings: settings(passes),
         band_height: 2,
-        ..Setup::whole(Region::with_size(width, height))
     };
     let samples = setup.image.sample_count();
     let planes = (0..samples).map(|n| (n % 7) as f32 / 64.0).collect();
-    let frame = Frame::with_size(width, height);
+    let frame = Frame::with_size(width, 8 + height);
     Smoothing::start(setup, frame, &[0; 3], &[], planes).unwrap()
 }
 

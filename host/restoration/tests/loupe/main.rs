@@ -1,7 +1,7 @@
 //! Compares the proved library's loupe calls with the rules of the Specification (17), and with runs over the
-//! widened rectangle and over the whole. Compares also two runs, on either side of a cut, with the whole. The
-//! original has no calls of the loupe and is not needed here. Prints what was compared. Fails if an answer or a bit differs, if a number was not expected often enough, or if a
-//! section has fewer inputs, or fewer rectangles compared with whole runs, than follows from its number of
+//! widened rectangle and over the whole. Compares also two runs, one up to a cut and a margin past it and one
+//! from the cut on, with the whole. The original has no calls of the loupe and is not needed here. Prints what
+//! was compared. Fails if an answer or a bit differs, if a number was not expected often enough, or if a section has fewer inputs, or fewer rectangles compared with whole runs, than follows from its number of
 //! draws. With `--some` it takes one input in fifty, for a run under valgrind; so does a debug build, which is
 //! slow.
 
@@ -27,7 +27,7 @@ use report::{Amount, Function, Report, Section};
 const WIDENED: Function = Function::new("loupe_widened", &[0, 4, 6, 9, 15]);
 const SMOOTH: Function = Function::new("loupe_smooth", &SMOOTH_NUMBERS);
 const LOUPE: Function = Function::new("Loupe::smooth", &SMOOTH_NUMBERS);
-/// Two runs, one on each side of a cut.
+/// Two runs, one up to a cut and past it, one from the cut on (`seams.rs`).
 const CUT_RUNS: Function = Function::new("cut runs", &[0]);
 const SMOOTH_NUMBERS: [u32; 7] = [0, 4, 6, 7, 8, 9, 15];
 

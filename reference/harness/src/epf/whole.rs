@@ -130,19 +130,24 @@ fn smaller(mut case: Case) -> Case {
 fn mixed_groups(amount: Amount, random: &mut Random, report: &mut Report) {
     let mut row = Row::new(NAME, "mixed groups");
     let mut filled = Row::new(NAME, "grids filled in");
+    let (mut draws, mut pictures) = (0, 0);
     for shift in (0..40).cycle().map(sigma::seldom_large) {
         if !row.draws(MIXED, amount) {
             break;
         }
+        draws += 1;
         let groups = any_groups(shift, random);
         let case = sigma::mixed(shift, groups, random).map(smaller);
         if let Some(case) = case.filter(Case::is_mixed) {
+            pictures += 1;
             random_steps(&case, random, &mut row);
             with_image(&case, random, |steps, source, random| {
                 steps.check_filled(source, random, &mut filled);
             });
         }
     }
+    // Some draws give a picture of which no part of a group without a grid is left.
+    row.at_least("pictures of mixed groups", pictures, draws / 2);
     for row in [row, filled] {
         report.add(row);
     }
