@@ -180,7 +180,7 @@ typedef struct RestorationMirrorAnswer {
 } RestorationMirrorAnswer;
 
 // The Gabor-like filter. `enabled` is a flag: 1 is on, 0 is off. `weights` has two weights for each of the channels
-// X, Y and B: of the side neighbours and of the diagonal ones.
+// X, Y and B: of the side neighbours and of the diagonal ones. One plane has those of X.
 typedef struct RestorationGaborSettings {
     uint32_t enabled;
     float weights[3][2];
@@ -195,7 +195,7 @@ typedef struct RestorationEpfStep {
     float border_sad_mul;
 } RestorationEpfStep;
 
-// The edge-preserving filter: off with 0 iterations, on with 1 to 3.
+// The edge-preserving filter: off with 0 iterations, on with 1 to 3. One plane has the scale of X.
 typedef struct RestorationEpfSettings {
     uint32_t iters;
     float channel_scale[3];
@@ -215,12 +215,13 @@ typedef struct RestorationMarginAnswer {
     uint32_t margin;
 } RestorationMarginAnswer;
 
-// The setup of a run; no call changes it. `preserve_outside` is a flag: the result region is the image region if it
-// is 1, the filter region if it is 0. `band_height` is the number of rows of the result region in a band; the last
-// band may have fewer.
+// The setup of a run; no call changes it. `planes` is the number of planes of each set, 1 or 3. `preserve_outside` is
+// a flag: the result region is the image region if it is 1, the filter region if it is 0. `band_height` is the number
+// of rows of the result region in a band; the last band may have fewer.
 typedef struct RestorationSetup {
     RestorationRegion image;
     RestorationRegion filter;
+    uint32_t planes;
     uint32_t preserve_outside;
     RestorationSettings settings;
     uint32_t band_height;
@@ -242,11 +243,12 @@ typedef struct RestorationRunAnswer {
     RestorationRun run;
 } RestorationRunAnswer;
 
-// What the loupe shows: the filter region of a whole picture, the wanted rectangle of it, and the settings of the
-// filters.
+// What the loupe shows: the filter region of a whole picture, the wanted rectangle of it, the number of planes, 1 or 3,
+// and the settings of the filters.
 typedef struct RestorationLoupeSetup {
     RestorationRegion whole;
     RestorationRegion wanted;
+    uint32_t planes;
     RestorationSettings settings;
 } RestorationLoupeSetup;
 
@@ -256,10 +258,11 @@ typedef struct RestorationCountAnswer {
     uint32_t count;
 } RestorationCountAnswer;
 
-// The region of a rectangle.
+// The region of a rectangle, and the number of planes.
 typedef struct RestorationCutAnswer {
     uint32_t number;
     RestorationRegion region;
+    uint32_t planes;
 } RestorationCutAnswer;
 
 // The rectangles of a file: the first `count` of the regions.
@@ -427,18 +430,19 @@ RestorationMirrorAnswer restoration_mirror(ptrdiff_t offset, size_t len);
 
 // Applies the Gabor-like filter to rows `from` up to, not including, `to` of the result region. The result region is
 // the image region if `preserve_outside` is 1 and the filter region if it is 0.
-// Reads the set `src` and writes the set `dst`. A set is three planes of the image region one after another, each row
-// by row without gaps. In these rows of the result region, `dst` gets filtered samples inside the filter region and
-// copies of `src` outside it. All other samples of `dst` stay. The weights may be any floats; `settings.enabled` is
-// ignored.
+// Reads the set `src` and writes the set `dst`. A set is `planes` planes of the image region one after another, each row
+// by row without gaps: 1, or 3 for the channels X, Y and B. One plane is filtered with the weights of X. In these rows
+// of the result region, `dst` gets filtered samples inside the filter region and copies of `src` outside it. All other
+// samples of `dst` stay. The weights may be any floats; `settings.enabled` is ignored.
 // Numbers: 0; 4 if a region is outside the limits (sides 1 to 16,384, area at most 16,777,216, left and top
-// -1,048,576 to 1,048,576); 5 if the filter region is not inside the image region; 7 if the length of a set is not 3
-// * width * height of the image region; 9 if `preserve_outside` is neither 0 nor 1, `from` is over `to`, or `to` is
-// over the number of rows of the result region. If several apply, the lowest is returned. A refused call leaves `dst`
-// unchanged. `src` is never changed.
+// -1,048,576 to 1,048,576); 5 if the filter region is not inside the image region; 7 if the length of a set is not
+// planes * width * height of the image region; 9 if `planes` is neither 1 nor 3 (then no length is checked),
+// `preserve_outside` is neither 0 nor 1, `from` is over `to`, or `to` is over the number of rows of the result region.
+// If several apply, the lowest is returned. A refused call leaves `dst` unchanged. `src` is never changed.
 uint32_t restoration_gabor_pass(
     RestorationRegion image,
     RestorationRegion filter,
+    uint32_t planes,
     uint32_t preserve_outside,
     RestorationGaborSettings settings,
     uint32_t from,
@@ -449,15 +453,17 @@ uint32_t restoration_gabor_pass(
 // Applies step 0, 1 or 2 of the edge-preserving filter to rows `from` up to, not including, `to` of the result
 // region. The result region is the image region if `preserve_outside` is 1 and the filter region if it is 0.
 // Reads `src` and writes `dst` as `restoration_gabor_pass` does. `sigmas` has one sigma per block (8 x 8 samples) of
-// the filter region, row of blocks by row of blocks. Sigmas, scales and multipliers may be any floats.
+// the filter region, row of blocks by row of blocks. Sigmas, scales and multipliers may be any floats. One plane has
+// the scale of X.
 // Numbers: 0; 4 if a region is outside the limits (see `restoration_gabor_pass`); 5 if the filter region is not
 // inside the image region; 6 if its left or top is negative or not a multiple of 8; 7 if the length of a set or of
-// `sigmas` is wrong; 9 if the step is over 2, `preserve_outside` is neither 0 nor 1, `from` is over `to`, or `to` is
-// over the number of rows of the result region. If several apply, the lowest is returned. A refused call leaves `dst`
-// unchanged. `src` and `sigmas` are never changed.
+// `sigmas` is wrong; 9 if `planes` is neither 1 nor 3 (then the length of a set is not checked), the step is over 2,
+// `preserve_outside` is neither 0 nor 1, `from` is over `to`, or `to` is over the number of rows of the result region.
+// If several apply, the lowest is returned. A refused call leaves `dst` unchanged. `src` and `sigmas` are never changed.
 uint32_t restoration_epf_pass(
     RestorationRegion image,
     RestorationRegion filter,
+    uint32_t planes,
     uint32_t preserve_outside,
     RestorationEpfStep s,
     const float *sigmas, size_t sigmas_len,
@@ -478,22 +484,22 @@ RestorationMarginAnswer restoration_margin(RestorationSettings settings);
 
 // Starts a run: checks all arguments, fills `sigmas` with the block sigmas and returns the run's record.
 // `table` has three numbers per group of the frame (presence, grid width, grid height); `grids` has the cells of the
-// present grids, one grid after another. `first` and `second` are two sets, each of three planes of the image region;
-// the picture is in `first`. `sigmas` has one sigma per block (8 x 8 samples) of the filter region, or length 0 if
-// `epf.iters` is 0.
+// present grids, one grid after another. `first` and `second` are two sets, each of `setup.planes` planes of the image
+// region, 1 or 3; the picture is in `first`. One plane is filtered with the weights and the scale of X. `sigmas` has
+// one sigma per block (8 x 8 samples) of the filter region, or length 0 if `epf.iters` is 0.
 // Numbers: 0; 4 if a side, an area, a left or a top is outside the limits; 5 if the filter region is not inside the
 // image region; 6 if the edge-preserving filter is on and the filter region's left or top is negative or not a
 // multiple of 8; 7 if a slice has the wrong length; 8 if the edge-preserving filter is on and a block's group is not
 // in the frame, or its grid is present but lacks the block; 9 if a setting is out of range: iterations over 3, a
-// setting of the frame, a presence, `preserve_outside` or `gabor.enabled` neither 0 nor 1, a band height outside 1 to
-// 16,384, or more than 256 bands.
+// number of planes other than 1 and 3, a setting of the frame, a presence, `preserve_outside` or `gabor.enabled`
+// neither 0 nor 1, a band height outside 1 to 16,384, or more than 256 bands.
 // If several apply, the lowest is returned. A check is passed over if it needs a value that is itself out of range
-// (Specification 12.6). Number 6, the length of `sigmas` and number 8 are checked only if the iterations are in
-// range. The length of `table` is checked only if the frame's settings are in range. `table` is read only if the
-// frame's sides and settings are in range and its length is right; otherwise grid sides, the length of `grids`,
-// number 8 and presences are not checked. The length of `grids` is checked only if all presences are 0 or 1. The
-// number of bands is checked only if `preserve_outside` and the band height are in range. Example: a table of the
-// wrong length with a present grid 2,000 wide gets 7, not 4.
+// (Specification 12.6). The lengths of the sets are checked only if the number of planes is in range. Number 6, the
+// length of `sigmas` and number 8 are checked only if the iterations are in range. The length of `table` is checked
+// only if the frame's settings are in range. `table` is read only if the frame's sides and settings are in range and
+// its length is right; otherwise grid sides, the length of `grids`, number 8 and presences are not checked. The length
+// of `grids` is checked only if all presences are 0 or 1. The number of bands is checked only if `preserve_outside`
+// and the band height are in range. Example: a table of the wrong length with a present grid 2,000 wide gets 7, not 4.
 // An accepted call fills `sigmas` and leaves `first` and `second` unchanged. A refused call returns a record of zeros
 // and leaves every slice unchanged.
 RestorationRunAnswer restoration_start(
@@ -552,20 +558,21 @@ uint32_t restoration_result(
 // Numbers, the first that applies in this order: 4 if the whole is outside the limits of a filter region, or the
 // wanted rectangle has a side over 16,384, an area over 16,777,216, or a left or top outside the limits (sides of 0
 // are within them); 15 if the wanted rectangle is empty or not inside the whole; 6 if `epf.iters` is 1 to 3 and the
-// whole's left or top is negative or not a multiple of 8; 9 if `gabor.enabled` is neither 0 nor 1 or `epf.iters` is
-// over 3; 0. A refused call returns 0 in every other field.
+// whole's left or top is negative or not a multiple of 8; 9 if `gabor.enabled` is neither 0 nor 1, `epf.iters` is
+// over 3, or `planes` is neither 1 nor 3; 0. A refused call returns 0 in every other field.
 RestorationRegionAnswer restoration_loupe_widened(RestorationLoupeSetup setup);
 
 // Filters the wanted rectangle of a picture: writes to `out` what a run over the whole gives there, if the samples of
 // the widened rectangle (`restoration_loupe_widened`) are the whole picture's and, with the edge-preserving filter on,
 // so are `frame`, `table`, `grids` and `sigma_for_modular` (Specification 17.6).
-// `first` has three planes of the widened rectangle, and `second` has the same length. `sigmas` has one sigma per
-// block (8 x 8 samples) of the widened rectangle, or length 0 if `epf.iters` is 0. `table` and `grids` are as for
-// `restoration_start`. `out` has three planes of the wanted rectangle, one after another, each row by row.
+// `first` has `setup.planes` planes of the widened rectangle, and `second` has the same length. `sigmas` has one sigma
+// per block (8 x 8 samples) of the widened rectangle, or length 0 if `epf.iters` is 0. `table` and `grids` are as for
+// `restoration_start`. `out` has as many planes of the wanted rectangle, one after another, each row by row.
 // Numbers, the first that applies in this order: 4 as in `restoration_loupe_widened`, or if a frame side or a side of
 // a present grid is outside the limits; 15 and 6 as there; 7 if a slice has the wrong length; 8 if the edge-preserving
 // filter is on and the group of a block of the widened rectangle is not in the frame, or its grid is present but
-// lacks the block; 9 if `epf.iters`, `gabor.enabled`, a setting of the frame or a presence is out of range; 0.
+// lacks the block; 9 if `epf.iters`, `planes`, `gabor.enabled`, a setting of the frame or a presence is out of range;
+// 0.
 // A check is passed over if it needs a value that is itself out of range (Specification 17.5).
 // An accepted call leaves `first`, `second` and `sigmas` as a run over the widened rectangle does: its passes write to
 // `second` and `first` alternately. A refused call leaves every slice unchanged.
@@ -583,20 +590,21 @@ uint32_t restoration_loupe_smooth(
 
 // Returns the number of rectangles in a cut file, after checking all of the file but its samples.
 // Numbers, the first that applies in this order: 7 if the file is longer than 16,777,216 bytes; 14 if it ends before
-// the marker does; 12 if the first four bytes are not 4B 43 55 54 (hexadecimal); 14 if it ends before the count does;
-// 12 if the count is not 1 to 64; for each entry in turn, 14 if the file ends before the entry does, and 13 if a side is
-// outside 1 to 16,384, the area over 16,777,216, or left or top outside -1,048,576 to 1,048,576, or if its offset is
-// not the end of what precedes its body; 14 if the file does not end where its last body does; 0.
+// the marker does; 12 if the first four bytes are neither 4B 43 55 54 (hexadecimal; three planes) nor 4B 43 55 31 (one
+// plane); 14 if it ends before the count does; 12 if the count is not 1 to 64; for each entry in turn, 14 if the file
+// ends before the entry does, and 13 if a side is outside 1 to 16,384, the area over 16,777,216, or left or top outside
+// -1,048,576 to 1,048,576, or if its offset is not the end of what precedes its body; 14 if the file does not end where
+// its last body does; 0.
 // A refused call returns 0 in every other field.
 RestorationCountAnswer restoration_cut_count(const uint8_t *file, size_t file_len);
 
-// Returns the region of rectangle `k`, counted from 0, of a cut file.
+// Returns the region of rectangle `k`, counted from 0, of a cut file, and the number of planes, 1 or 3.
 // Numbers: those of `restoration_cut_count`; then 9 if `k` is not below the number of rectangles. A refused call
 // returns 0 in every other field.
 RestorationCutAnswer restoration_cut_region(const uint8_t *file, size_t file_len, uint32_t k);
 
-// Returns the region of rectangle `k`, counted from 0, of a cut file, and stores its samples: the bits of 3 x width x
-// height binary32 numbers, plane after plane, row after row.
+// Returns the region of rectangle `k`, counted from 0, of a cut file, and the number of planes, 1 or 3, and stores its
+// samples: the bits of planes x width x height binary32 numbers, plane after plane, row after row.
 // Numbers: those of `restoration_cut_region`; then 7 if `samples` does not have exactly that length. A refused call
 // returns 0 in every other field and leaves `samples` unchanged.
 RestorationCutAnswer restoration_read_cut(
@@ -604,18 +612,22 @@ RestorationCutAnswer restoration_read_cut(
     uint32_t k,
     uint32_t *samples, size_t samples_len);
 
-// Returns the length, in bytes, of the cut file with the first `count` regions of a table.
+// Returns the length, in bytes, of the cut file with the first `count` regions of a table and this number of planes.
 // Numbers, the first that applies in this order: 12 if the count is not 1 to 64; 4 if one of these regions has a side
-// outside 1 to 16,384, an area over 16,777,216, or a left or top outside -1,048,576 to 1,048,576; 7 if the file would
-// be longer than 16,777,216 bytes; 0. A refused call returns 0 in every other field.
-RestorationLengthAnswer restoration_cut_length(RestorationCutTable table);
+// outside 1 to 16,384, an area over 16,777,216, or a left or top outside -1,048,576 to 1,048,576; 7 if `planes` is 1 or
+// 3 and the file would be longer than 16,777,216 bytes; 9 if `planes` is not 1 or 3; 0. A refused call returns 0 in
+// every other field.
+RestorationLengthAnswer restoration_cut_length(RestorationCutTable table, uint32_t planes);
 
 // Writes the cut file with the first `count` regions of a table and their samples: the bits of binary32 numbers,
 // rectangle after rectangle, each plane after plane, row after row.
-// Numbers: those of `restoration_cut_length`; then 7 if `samples` does not have exactly the samples of these
-// rectangles, or `file` exactly the bytes of the file. A refused call leaves `file` unchanged.
+// Numbers, the first that applies in this order: 12 and 4, those of `restoration_cut_length`; 7 if `file` is longer than
+// 16,777,216 bytes, or if `planes` is 1 or 3 and the cut file would be longer, or `samples` does not have exactly the
+// samples of these rectangles, or `file` exactly the bytes of the cut file; 9 if `planes` is not 1 or 3; 0. A refused
+// call leaves `file` unchanged.
 uint32_t restoration_write_cut(
     RestorationCutTable table,
+    uint32_t planes,
     const uint32_t *samples, size_t samples_len,
     uint8_t *file, size_t file_len);
 
@@ -717,30 +729,33 @@ static_assert(offsetof(RestorationSettings, epf) == 28, "epf");
 static_assert(sizeof(RestorationMarginAnswer) == 8, "RestorationMarginAnswer");
 static_assert(offsetof(RestorationMarginAnswer, number) == 0, "number");
 static_assert(offsetof(RestorationMarginAnswer, margin) == 4, "margin");
-static_assert(sizeof(RestorationSetup) == 104, "RestorationSetup");
+static_assert(sizeof(RestorationSetup) == 108, "RestorationSetup");
 static_assert(offsetof(RestorationSetup, image) == 0, "image");
 static_assert(offsetof(RestorationSetup, filter) == 16, "filter");
-static_assert(offsetof(RestorationSetup, preserve_outside) == 32, "preserve_outside");
-static_assert(offsetof(RestorationSetup, settings) == 36, "settings");
-static_assert(offsetof(RestorationSetup, band_height) == 100, "band_height");
-static_assert(sizeof(RestorationRun) == 368, "RestorationRun");
+static_assert(offsetof(RestorationSetup, planes) == 32, "planes");
+static_assert(offsetof(RestorationSetup, preserve_outside) == 36, "preserve_outside");
+static_assert(offsetof(RestorationSetup, settings) == 40, "settings");
+static_assert(offsetof(RestorationSetup, band_height) == 104, "band_height");
+static_assert(sizeof(RestorationRun) == 372, "RestorationRun");
 static_assert(offsetof(RestorationRun, setup) == 0, "setup");
-static_assert(offsetof(RestorationRun, pass) == 104, "pass");
-static_assert(offsetof(RestorationRun, bands_left) == 108, "bands_left");
-static_assert(offsetof(RestorationRun, done) == 112, "done");
-static_assert(sizeof(RestorationRunAnswer) == 372, "RestorationRunAnswer");
+static_assert(offsetof(RestorationRun, pass) == 108, "pass");
+static_assert(offsetof(RestorationRun, bands_left) == 112, "bands_left");
+static_assert(offsetof(RestorationRun, done) == 116, "done");
+static_assert(sizeof(RestorationRunAnswer) == 376, "RestorationRunAnswer");
 static_assert(offsetof(RestorationRunAnswer, number) == 0, "number");
 static_assert(offsetof(RestorationRunAnswer, run) == 4, "run");
-static_assert(sizeof(RestorationLoupeSetup) == 96, "RestorationLoupeSetup");
+static_assert(sizeof(RestorationLoupeSetup) == 100, "RestorationLoupeSetup");
 static_assert(offsetof(RestorationLoupeSetup, whole) == 0, "whole");
 static_assert(offsetof(RestorationLoupeSetup, wanted) == 16, "wanted");
-static_assert(offsetof(RestorationLoupeSetup, settings) == 32, "settings");
+static_assert(offsetof(RestorationLoupeSetup, planes) == 32, "planes");
+static_assert(offsetof(RestorationLoupeSetup, settings) == 36, "settings");
 static_assert(sizeof(RestorationCountAnswer) == 8, "RestorationCountAnswer");
 static_assert(offsetof(RestorationCountAnswer, number) == 0, "number");
 static_assert(offsetof(RestorationCountAnswer, count) == 4, "count");
-static_assert(sizeof(RestorationCutAnswer) == 20, "RestorationCutAnswer");
+static_assert(sizeof(RestorationCutAnswer) == 24, "RestorationCutAnswer");
 static_assert(offsetof(RestorationCutAnswer, number) == 0, "number");
 static_assert(offsetof(RestorationCutAnswer, region) == 4, "region");
+static_assert(offsetof(RestorationCutAnswer, planes) == 20, "planes");
 static_assert(sizeof(RestorationCutTable) == 1028, "RestorationCutTable");
 static_assert(offsetof(RestorationCutTable, count) == 0, "count");
 static_assert(offsetof(RestorationCutTable, regions) == 4, "regions");

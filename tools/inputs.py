@@ -36,7 +36,7 @@ fn region_of(left: i32, top: i32, width: u32, height: u32) -> region::Region {
 """,
     "run_setup": """
 fn setup_of(image: region::Region, filter: region::Region, full: u32, settings: run_passes::Settings, band_height: u32) -> run_setup::Setup {
-    run_setup::Setup { image, filter, preserve_outside: full, settings, band_height }
+    run_setup::Setup { image, filter, planes: 3, preserve_outside: full, settings, band_height }
 }
 """,
     "run_record": """

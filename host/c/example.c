@@ -1,6 +1,7 @@
-// One refused call of each function of the C boundary, a whole run of each filter, rectangles by the loupe, and a cut file. Prints how many answers were compared; exits with 1 if one differs.
+// One refused call of each function of the C boundary, a whole run of each filter, rectangles by the loupe, a grey picture, and cut files. Prints how many answers were compared; exits with 1 if one differs.
 #include "restoration.h"
 
+#include <math.h>
 #include <stdio.h>
 #include <string.h>
 
@@ -128,14 +129,15 @@ static void passes(void)
     settings.epf.iters = 3;
     COMPARE(restoration_margin(settings).margin == 7);
     // 20 - 7 is 13, moved down to 8, and 26 + 7 is 33; 30 - 7 is 23, moved down to 16, and 75 + 7 is past the whole's 80 (Specification 17.2).
-    RestorationLoupeSetup setup = {.whole = {.width = 100, .height = 80}, .wanted = {.left = 20, .top = 30, .width = 6, .height = 45}, .settings = settings};
+    RestorationLoupeSetup setup = {
+        .whole = {.width = 100, .height = 80}, .wanted = {.left = 20, .top = 30, .width = 6, .height = 45}, .planes = PLANES, .settings = settings};
     RestorationRegion widened = restoration_loupe_widened(setup).region;
     COMPARE(widened.left == 8 && widened.top == 16 && widened.width == 25 && widened.height == 64);
-    REFUSED_NUMBER(restoration_gabor_pass(corner, image, 1, gabor, 0, SIDE, from, SAMPLES, to, SAMPLES), RESTORATION_NOT_INSIDE, to);
-    REFUSED_NUMBER(restoration_epf_pass(image, image, 1, step, &sigma, 1, 0, SIDE, from, SAMPLES, to, SAMPLES), RESTORATION_OUT_OF_RANGE, to);
+    REFUSED_NUMBER(restoration_gabor_pass(corner, image, PLANES, 1, gabor, 0, SIDE, from, SAMPLES, to, SAMPLES), RESTORATION_NOT_INSIDE, to);
+    REFUSED_NUMBER(restoration_epf_pass(image, image, PLANES, 1, step, &sigma, 1, 0, SIDE, from, SAMPLES, to, SAMPLES), RESTORATION_OUT_OF_RANGE, to);
     for (step.step = 0; step.step < 3; step.step++) {
         to[0] = 5;
-        COMPARE(restoration_epf_pass(image, image, 1, step, &sigma, 1, 0, SIDE, from, SAMPLES, to, SAMPLES) == RESTORATION_ACCEPTED && ZEROS(to));
+        COMPARE(restoration_epf_pass(image, image, PLANES, 1, step, &sigma, 1, 0, SIDE, from, SAMPLES, to, SAMPLES) == RESTORATION_ACCEPTED && ZEROS(to));
     }
 
     // Specification 11.8: step 2 with sigma 1, M = 1 and channel scales 1, 0, 0 on planes of one row 0, 1/2.
@@ -143,7 +145,7 @@ static void passes(void)
     RestorationRegion row = {.width = 2, .height = 1};
     RestorationEpfStep last = {.step = 2, .channel_scale = {1, 0, 0}, .multiplier = 1, .border_sad_mul = 1};
     float halves[] = {0, 0.5f, 0, 0.5f, 0, 0.5f}, filtered[PLANES * 2];
-    COMPARE(restoration_epf_pass(row, row, 1, last, &sigma, 1, 0, 1, halves, PLANES * 2, filtered, PLANES * 2) == RESTORATION_ACCEPTED);
+    COMPARE(restoration_epf_pass(row, row, PLANES, 1, last, &sigma, 1, 0, 1, halves, PLANES * 2, filtered, PLANES * 2) == RESTORATION_ACCEPTED);
     for (int plane = 0; plane < PLANES; plane++)
         COMPARE(memcmp(filtered + 2 * plane, stepped, sizeof stepped) == 0);
 }
@@ -176,7 +178,7 @@ static bool same_buffers(Buffers a, Buffers b)
 static void run_calls(RestorationSettings settings, size_t sigmas_len, float middle, const float *expected)
 {
     static const uint32_t present[GROUP] = {1, 1, 1};
-    RestorationSetup setup = {.image = image, .filter = image, .preserve_outside = 1, .settings = settings, .band_height = 1};
+    RestorationSetup setup = {.image = image, .filter = image, .planes = PLANES, .preserve_outside = 1, .settings = settings, .band_height = 1};
     Buffers b = buffers_with(middle), was = b;
 
     REFUSED(RestorationRunAnswer, restoration_start(setup, frame, NULL, 0, grid, 1, b.first, SAMPLES, b.second, SAMPLES, b.sigmas, sigmas_len),
@@ -220,7 +222,7 @@ static void loupe_calls(RestorationSettings settings, size_t sigmas_len, float m
 {
     enum { WANTED = PLANES * SIDE };
     static const uint32_t present[GROUP] = {1, 1, 1};
-    RestorationLoupeSetup setup = {.whole = image, .wanted = {.top = 1, .width = SIDE, .height = 1}, .settings = settings}, outside = setup;
+    RestorationLoupeSetup setup = {.whole = image, .wanted = {.top = 1, .width = SIDE, .height = 1}, .planes = PLANES, .settings = settings}, outside = setup;
     outside.wanted.left = 1;
     Buffers b[1], was = buffers_with(middle);
     b[0] = was;
@@ -264,11 +266,43 @@ static void epf_run(void)
     loupe_calls(settings, 1, 40, means);
     // No frame holds a block at column 16,384, but the record is valid: 8 is not among its checks (Specification 12.8).
     RestorationRegion far = {.left = 16384, .width = SIDE, .height = SIDE};
-    RestorationRun run = {.setup = {.image = far, .filter = far, .settings = settings, .band_height = SIDE}, .bands_left = 0, .done = {1}};
+    RestorationRun run = {.setup = {.image = far, .filter = far, .planes = PLANES, .settings = settings, .band_height = SIDE}, .bands_left = 0, .done = {1}};
     COMPARE(restoration_advance(run).number == RESTORATION_ACCEPTED);
 }
 
-// Specification 16: two rectangles, the second left of the picture; a NaN with bits of its own among the samples.
+// A grey picture has one plane, which has the weights of the first channel; the others are not read. Specification 14.6 again: a whole run, a pass and the
+// middle row by the loupe. Another number of planes is refused, and then the lengths of sets are not compared.
+static void grey(void)
+{
+    enum { GREY = 1, PLANE = SIDE * SIDE };
+    static const float smooth[PLANE] = {1, 2, 1, 2, 4, 2, 1, 2, 1};
+    RestorationSettings settings = {.gabor = {.enabled = 1, .weights = {{0.5f, 0.25f}, {NAN, NAN}, {NAN, NAN}}}};
+    RestorationSetup setup = {.image = image, .filter = image, .planes = GREY, .settings = settings, .band_height = SIDE};
+    RestorationLoupeSetup loupe = {.whole = image, .wanted = {.top = 1, .width = SIDE, .height = 1}, .planes = GREY, .settings = settings};
+    float first[PLANE] = {[PLANE / 2] = 16}, second[PLANE] = {6}, out[PLANE] = {7};
+
+    setup.planes = 2;
+    REFUSED(RestorationRunAnswer, restoration_start(setup, frame, table, GROUP, NULL, 0, first, 0, second, PLANE, NULL, 0), RESTORATION_OUT_OF_RANGE,
+        ZEROS(a.run) && second[0] == 6);
+    setup.planes = GREY;
+    RestorationRunAnswer answer = restoration_start(setup, frame, table, GROUP, NULL, 0, first, PLANE, second, PLANE, NULL, 0);
+    answer = restoration_band(answer.run, NULL, 0, first, PLANE, second, PLANE, 0);
+    answer = restoration_advance(answer.run);
+    COMPARE(restoration_result(answer.run, first, PLANE, second, PLANE, out, PLANE) == RESTORATION_ACCEPTED);
+    COMPARE(memcmp(out, smooth, sizeof smooth) == 0);
+    out[0] = 7;
+    COMPARE(restoration_gabor_pass(image, image, GREY, 0, settings.gabor, 0, SIDE, first, PLANE, out, PLANE) == RESTORATION_ACCEPTED);
+    COMPARE(memcmp(out, smooth, sizeof smooth) == 0);
+
+    loupe.planes = 4;
+    REFUSED(RestorationRegionAnswer, restoration_loupe_widened(loupe), RESTORATION_OUT_OF_RANGE, ZEROS(a.region));
+    REFUSED_NUMBER(restoration_loupe_smooth(loupe, frame, table, GROUP, NULL, 0, first, 0, second, 0, NULL, 0, out, PLANE), RESTORATION_OUT_OF_RANGE, out);
+    loupe.planes = GREY;
+    COMPARE(restoration_loupe_smooth(loupe, frame, table, GROUP, NULL, 0, first, PLANE, second, PLANE, NULL, 0, out, SIDE) == RESTORATION_ACCEPTED);
+    COMPARE(memcmp(out, smooth + SIDE, SIDE * sizeof *out) == 0);
+}
+
+// Specification 16: two rectangles, the second left of the picture; a NaN with bits of its own among the samples. Then their first planes alone.
 static void cuts(void)
 {
     enum { RECTANGLES = 2, FIRST = PLANES * 2, SECOND = PLANES * 3, FILE_BYTES = 6 + 16 * RECTANGLES + 4 * (FIRST + SECOND) };
@@ -280,24 +314,34 @@ static void cuts(void)
     for (uint32_t sample = 0; sample < FIRST + SECOND; sample++)
         samples[sample] = 0xFF800001 - sample;
 
-    REFUSED(RestorationLengthAnswer, restoration_cut_length(cut), RESTORATION_NOT_A_CUT_FILE, a.length == 0);
+    REFUSED(RestorationLengthAnswer, restoration_cut_length(cut, PLANES), RESTORATION_NOT_A_CUT_FILE, a.length == 0);
     cut.count = RECTANGLES;
-    COMPARE(restoration_cut_length(cut).length == FILE_BYTES);
-    REFUSED_NUMBER(restoration_write_cut(cut, samples, FIRST, file, FILE_BYTES), RESTORATION_WRONG_LENGTH, file);
-    REFUSED_NUMBER(restoration_write_cut(cut, samples, FIRST + SECOND, file, FILE_BYTES - 1), RESTORATION_WRONG_LENGTH, file);
-    COMPARE(restoration_write_cut(cut, samples, FIRST + SECOND, file, FILE_BYTES) == RESTORATION_ACCEPTED);
+    COMPARE(restoration_cut_length(cut, PLANES).length == FILE_BYTES);
+    REFUSED(RestorationLengthAnswer, restoration_cut_length(cut, 2), RESTORATION_OUT_OF_RANGE, a.length == 0);
+    REFUSED_NUMBER(restoration_write_cut(cut, PLANES, samples, FIRST, file, FILE_BYTES), RESTORATION_WRONG_LENGTH, file);
+    REFUSED_NUMBER(restoration_write_cut(cut, PLANES, samples, FIRST + SECOND, file, FILE_BYTES - 1), RESTORATION_WRONG_LENGTH, file);
+    REFUSED_NUMBER(restoration_write_cut(cut, 2, samples, FIRST, file, FILE_BYTES), RESTORATION_OUT_OF_RANGE, file);
+    COMPARE(restoration_write_cut(cut, PLANES, samples, FIRST + SECOND, file, FILE_BYTES) == RESTORATION_ACCEPTED);
     COMPARE(memcmp(file, "KCUT\x02\0\x26\0\0", 10) == 0 && memcmp(file + 22, entry, sizeof entry) == 0 && memcmp(file + 38, nan, sizeof nan) == 0);
 
     COMPARE(restoration_cut_count(file, FILE_BYTES).count == RECTANGLES);
     REFUSED(RestorationCountAnswer, restoration_cut_count(file, FILE_BYTES - 1), RESTORATION_WRONG_END, a.count == 0);
-    REFUSED(RestorationCutAnswer, restoration_cut_region(file, FILE_BYTES, RECTANGLES), RESTORATION_OUT_OF_RANGE, ZEROS(a.region));
-    REFUSED(RestorationCutAnswer, restoration_read_cut(file, FILE_BYTES, 1, back, FIRST), RESTORATION_WRONG_LENGTH, ZEROS(a.region) && back[0] == 5);
+    REFUSED(RestorationCutAnswer, restoration_cut_region(file, FILE_BYTES, RECTANGLES), RESTORATION_OUT_OF_RANGE, ZEROS(a.region) && a.planes == 0);
+    REFUSED(RestorationCutAnswer, restoration_read_cut(file, FILE_BYTES, 1, back, FIRST), RESTORATION_WRONG_LENGTH, ZEROS(a.region) && a.planes == 0 && back[0] == 5);
     RestorationCutAnswer answer = restoration_read_cut(file, FILE_BYTES, 1, back, SECOND);
-    COMPARE(answer.number == RESTORATION_ACCEPTED && memcmp(&answer.region, &cut.regions[1], sizeof answer.region) == 0);
+    COMPARE(answer.number == RESTORATION_ACCEPTED && memcmp(&answer.region, &cut.regions[1], sizeof answer.region) == 0 && answer.planes == PLANES);
     COMPARE(memcmp(back, samples + FIRST, sizeof back) == 0);
     file[22] ^= 1;
     REFUSED(RestorationCutAnswer, restoration_read_cut(file, FILE_BYTES, 1, back, SECOND), RESTORATION_BAD_ENTRY, ZEROS(a.region));
     COMPARE(memcmp(back, samples + FIRST, sizeof back) == 0);
+
+    enum { GREY_FIRST = FIRST / PLANES, GREY_SECOND = SECOND / PLANES, GREY_BYTES = 6 + 16 * RECTANGLES + 4 * (GREY_FIRST + GREY_SECOND) };
+    COMPARE(restoration_cut_length(cut, 1).length == GREY_BYTES);
+    COMPARE(restoration_write_cut(cut, 1, samples, GREY_FIRST + GREY_SECOND, file, GREY_BYTES) == RESTORATION_ACCEPTED);
+    COMPARE(memcmp(file, "KCU1\x02\0\x26\0\0", 10) == 0);
+    answer = restoration_read_cut(file, GREY_BYTES, 1, back, GREY_SECOND);
+    COMPARE(answer.number == RESTORATION_ACCEPTED && memcmp(&answer.region, &cut.regions[1], sizeof answer.region) == 0 && answer.planes == 1);
+    COMPARE(memcmp(back, samples + GREY_FIRST, GREY_SECOND * sizeof *back) == 0);
 }
 
 int main(void)
@@ -308,7 +352,9 @@ int main(void)
     passes();
     gabor_run();
     epf_run();
+    grey();
     cuts();
-    printf("from C: %u refused calls, two whole runs, two rectangles by the loupe and a cut file, %u answers compared; differing: %u\n", refused, compared, differing);
+    printf("from C: %u refused calls, three whole runs, three rectangles by the loupe and two cut files, %u answers compared; differing: %u\n", refused, compared,
+        differing);
     return differing > 0;
 }

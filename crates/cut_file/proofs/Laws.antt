@@ -4,7 +4,7 @@ use mathlib.Core.Bool.{Bool, true, false, true≢false, cond, not, ◌&&◌, ◌
 use mathlib.Core.List.{List}
 use mathlib.Core.Logic.{⊎_elim}
 use Prim.Native.Nat.{ℕ, zero, suc, ◌+◌, ◌*◌, ◌≤◌, ◌<◌}
-use native.Mathlib.Nat.{eq-or-lt_of_le}
+use native.Mathlib.Nat.{eq-or-lt_of_le, mul-le-mul_left}
 use native.Mathlib.Numerals.{add-one}
 use native.Mathlib.Omega.{arith}
 use borrow.Author.Tests.{ltb-false, eqb-true, eqb-false, not-false}
@@ -17,8 +17,8 @@ use Rattle.refusals.proofs.Tables.{is_true, numbered, of-true, NoneApplies, zero
 use Rattle.refusals.proofs.Rows.{or_else}
 use Rattle.region.specs.declared.Region.{Region}
 use Rattle.region.specs.Measures.{bounds_fit, area_fits, picture_fits}
-use Rattle.cut_file.specs.File.{max_file, max_rectangles, sample_count, entry_at, body_at}
-use Rattle.cut_file.specs.Read.{count_in, offset_in, region_in, has_marker, bad_count, entry_fits, entry_checks, file_checks}
+use Rattle.cut_file.specs.File.{grey_marker, max_file, max_rectangles, sample_count, entry_at, body_at}
+use Rattle.cut_file.specs.Read.{starts_with, planes_in, count_in, offset_in, region_in, has_marker, bad_count, entry_fits, entry_checks, file_checks}
 use Rattle.cut_file.specs.Entry.{entry_number}
 
 -- ---- samples
@@ -32,55 +32,66 @@ area-le r t =
     omega (arith, leb→le (r.width * r.height) 16777216 (and_r (leb 1 r.height) (leb (r.width * r.height) 16777216) h))
 
 -- a count of the samples of a rectangle within the limits
-pub record Sampled (r : Region) (n : ℕ) : Type 0 where
-  pub are : n ≡ sample_count r
-  pub le : n ≤ 50331648
+pub record Sampled (planes : ℕ) (r : Region) (n : ℕ) : Type 0 where
+  pub are : n ≡ sample_count planes r
+  pub le : n ≤ planes * 16777216
 
-pub sampled : (r : Region) (n : ℕ) → T (picture_fits r) → n ≡ sample_count r → Sampled r n
-sampled r n t e = record { are = e; le = omega (arith, e, area-le r t) }
+pub sampled : (planes : ℕ) (r : Region) (n : ℕ) → T (picture_fits r) → n ≡ sample_count planes r → Sampled planes r n
+sampled planes r n t e = record { are = e; le = rw e (mul-le-mul_left planes (area-le r t)) }
 
 -- the answer of `cut_file::sample_count`
-abbrev pub counted : Region → Option ℕ
-counted r = cond (picture_fits r) (Some (sample_count r)) None
+abbrev pub counted : ℕ → Region → Option ℕ
+counted planes r = cond (picture_fits r) (Some (sample_count planes r)) None
 
 -- what there being a count says, and there being none
-module _ (r : Region) (o : Option ℕ) (is : o ≡ counted r) where
-  pub count-some : (n : ℕ) → o ≡ Some n → T (picture_fits r) × Sampled r n
+module _ (planes : ℕ) (r : Region) (o : Option ℕ) (is : o ≡ counted planes r) where
+  pub count-some : (n : ℕ) → o ≡ Some n → T (picture_fits r) × Sampled planes r n
   count-some n m = go (picture_fits r) refl
     where
-      go : (b : Bool) → picture_fits r ≡ b → T (picture_fits r) × Sampled r n
-      go true e = let f : o ≡ Some (sample_count r) = rw e at is in let t = of-true (picture_fits r) e in (t, sampled r n t cc)
+      go : (b : Bool) → picture_fits r ≡ b → T (picture_fits r) × Sampled planes r n
+      go true e = let f : o ≡ Some (sample_count planes r) = rw e at is in let t = of-true (picture_fits r) e in (t, sampled planes r n t cc)
       go false e = let f : ◌≡◌ {A = Option ℕ} o None = rw e at is in cc
 
   pub count-none : ◌≡◌ {A = Option ℕ} o None → picture_fits r ≡ false
   count-none m = go (picture_fits r) refl
     where
       go : (b : Bool) → picture_fits r ≡ b → picture_fits r ≡ false
-      go true e = let f : o ≡ Some (sample_count r) = rw e at is in cc
+      go true e = let f : o ≡ Some (sample_count planes r) = rw e at is in cc
       go false e = e
 
-  pub count-fits : T (picture_fits r) → o ≡ Some (sample_count r)
+  pub count-fits : T (picture_fits r) → o ≡ Some (sample_count planes r)
   count-fits t = let e = is_true (picture_fits r) t in rw e at is
+
+-- ---- planes
+
+-- a file has at most three planes
+pub planes-few : (s : List ℕ) → planes_in s ≤ 3
+planes-few s = go (starts_with grey_marker s)
+  where
+    go : (b : Bool) → ◌≤◌ (cond b 1 3) 3
+    go true = omega arith
+    go false = omega arith
 
 -- ---- where bodies start
 
 -- the next body starts where this one ends
-pub body-next : (rectangles : ℕ → Region) (n i : ℕ) → body_at rectangles n (i + 1) ≡ body_at rectangles n i + 4 * sample_count (rectangles i)
+pub body-next : (planes : ℕ) (rectangles : ℕ → Region) (n i : ℕ) → body_at planes rectangles n (i + 1) ≡ body_at planes rectangles n i + 4 * sample_count planes (rectangles i)
 unfolding body_at
-body-next rectangles n i = rw (add-one i)
+body-next planes rectangles n i = rw (add-one i)
 
-pub body-grows : (rectangles : ℕ → Region) (n i j : ℕ) → i ≤ j → body_at rectangles n i ≤ body_at rectangles n j
+pub body-grows : (planes : ℕ) (rectangles : ℕ → Region) (n i j : ℕ) → i ≤ j → body_at planes rectangles n i ≤ body_at planes rectangles n j
 unfolding body_at
-body-grows rectangles n i zero h = let z : i ≡ 0 = omega arith in rw z (omega arith)
-body-grows rectangles n i (suc j) h =
+body-grows planes rectangles n i zero h = let z : i ≡ 0 = omega arith in rw z (omega arith)
+body-grows planes rectangles n i (suc j) h =
     ⊎_elim
     (λ (e : i ≡ suc j). rw e (omega arith))
-    (λ (l : i < suc j). omega (arith, body-grows rectangles n i j (omega arith)))
+    (λ (l : i < suc j). omega (arith, body-grows planes rectangles n i j (omega arith)))
     (eq-or-lt_of_le h)
 
 -- the body of rectangle k of n ends at or before the end of the last one
-pub body-ends : (rectangles : ℕ → Region) (n k : ℕ) → k < n → body_at rectangles n k + 4 * sample_count (rectangles k) ≤ body_at rectangles n n
-body-ends rectangles n k h = omega (arith, body-next rectangles n k, body-grows rectangles n (k + 1) n (omega arith))
+pub body-ends : (planes : ℕ) (rectangles : ℕ → Region) (n k : ℕ) → k < n
+    → body_at planes rectangles n k + 4 * sample_count planes (rectangles k) ≤ body_at planes rectangles n n
+body-ends planes rectangles n k h = omega (arith, body-next planes rectangles n k, body-grows planes rectangles n (k + 1) n (omega arith))
 
 -- ---- the checks of the entries, one after another
 
@@ -103,16 +114,16 @@ entries-first s i n = two-first (ltb (length s) (entry_at (i + 1))) (not (entry_
 pub record EntryAccepted (s : List ℕ) (i : ℕ) : Type 0 where
   pub ends-le : entry_at (i + 1) ≤ length s
   pub region-fits : T (picture_fits (region_in s i))
-  pub offset-is : offset_in s i ≡ body_at (region_in s) (count_in s) i
+  pub offset-is : offset_in s i ≡ body_at (planes_in s) (region_in s) (count_in s) i
 
 entry-parts : (s : List ℕ) (i : ℕ) → ltb (length s) (entry_at (i + 1)) ≡ false → entry_fits s i ≡ true → EntryAccepted s i
 entry-parts s i e f =
     let t = of-true (entry_fits s i) f in
-    let offset = eqb (offset_in s i) (body_at (region_in s) (count_in s) i) in
+    let offset = eqb (offset_in s i) (body_at (planes_in s) (region_in s) (count_in s) i) in
     record {
       ends-le = ltb-false (length s) (entry_at (i + 1)) e;
       region-fits = and_l (picture_fits (region_in s i)) offset t;
-      offset-is = eqb→eq (offset_in s i) (body_at (region_in s) (count_in s) i) (and_r (picture_fits (region_in s i)) offset t);
+      offset-is = eqb→eq (offset_in s i) (body_at (planes_in s) (region_in s) (count_in s) i) (and_r (picture_fits (region_in s i)) offset t);
     }
 
 pub entry-accepted : (s : List ℕ) (i : ℕ) → entry_number s i ≡ 0 → EntryAccepted s i
@@ -146,7 +157,7 @@ file-numbered s = entries-numbered s 0 (count_in s)
 -- n entries from entry i on, and the end of the file
 record EntriesAccepted (s : List ℕ) (i n : ℕ) : Type 0 where
   each : (j : ℕ) → i ≤ j → j < i + n → EntryAccepted s j
-  end_is : length s ≡ body_at (region_in s) (count_in s) (i + n)
+  end_is : length s ≡ body_at (planes_in s) (region_in s) (count_in s) (i + n)
 
 entries-accepted : (s : List ℕ) (i n : ℕ) → NoneApplies (entry_checks s i n) → EntriesAccepted s i n
 unfolding entry_checks
@@ -154,7 +165,7 @@ entries-accepted s i zero none =
     let z : i + 0 ≡ i = omega arith in
     record {
       each = λ j l h. absurd (omega arith);
-      end_is = rw z (eqb-true (length s) (body_at (region_in s) (count_in s) i) (not-false (eqb (length s) (body_at (region_in s) (count_in s) i)) none.0));
+      end_is = rw z (eqb-true (length s) (body_at (planes_in s) (region_in s) (count_in s) i) (not-false (eqb (length s) (body_at (planes_in s) (region_in s) (count_in s) i)) none.0));
     }
 entries-accepted s i (suc n) none =
     let rest = entries-accepted s (i + 1) n none.1.1 in
@@ -177,7 +188,7 @@ pub record FileAccepted (s : List ℕ) : Type 0 where
   pub count-pos : 1 ≤ count_in s
   pub count-le : count_in s ≤ 64
   pub entry : (i : ℕ) → i < count_in s → EntryAccepted s i
-  pub end_is : length s ≡ body_at (region_in s) (count_in s) (count_in s)
+  pub end_is : length s ≡ body_at (planes_in s) (region_in s) (count_in s) (count_in s)
 
 pub file-accepted : (s : List ℕ) → first_of (file_checks s) ≡ 0 → FileAccepted s
 unfolding file_checks
@@ -197,5 +208,5 @@ file-accepted s e =
     }
 
 -- the body of each rectangle lies in the file
-pub body-inside : (s : List ℕ) (k : ℕ) → FileAccepted s → k < count_in s → body_at (region_in s) (count_in s) k + 4 * sample_count (region_in s k) ≤ length s
-body-inside s k a h = omega (arith, a.end_is, body-ends (region_in s) (count_in s) k h)
+pub body-inside : (s : List ℕ) (k : ℕ) → FileAccepted s → k < count_in s → body_at (planes_in s) (region_in s) (count_in s) k + 4 * sample_count (planes_in s) (region_in s k) ≤ length s
+body-inside s k a h = omega (arith, a.end_is, body-ends (planes_in s) (region_in s) (count_in s) k h)

@@ -1,4 +1,4 @@
--- A cut file of two rectangles, computed: its bytes, what is read back, and files that are refused.
+-- Cut files of two rectangles, computed: their bytes, what is read back, and files that are refused.
 use Rattle.std.specs.Prelude.{◌≡◌, refl, List, [], ◌∷◌, ◌++◌, ℕ, zero, suc, pos, negsuc, length, take, set}
 use Rattle.refusals.specs.Checks.{first_of}
 use Rattle.region.specs.declared.Region.{Region}
@@ -7,7 +7,7 @@ use Rattle.region.specs.Measures.{bounds_fit, picture_fits}
 use Rattle.region.specs.Regions.{zero_region}
 use Rattle.region_axis.specs.Measures.{corner_fits, side_fits}
 use Rattle.cut_file.specs.File.{body_at, table_bytes, sample_bytes, file_of}
-use Rattle.cut_file.specs.Read.{count_in, region_in, samples_at, samples_in, entry_checks, file_checks, region_checks, read_checks}
+use Rattle.cut_file.specs.Read.{planes_in, count_in, region_in, samples_at, samples_in, entry_checks, file_checks, region_checks, read_checks}
 
 -- one column of two rows at (−3, 5), and one sample at (0, 0)
 abbrev pub first : Region
@@ -26,7 +26,7 @@ abbrev pub samples : List ℕ
 samples = 0x3f80_0000 ∷ 0x7fc0_0001 ∷ 0xffff_ffff ∷ 0 ∷ 0x8000_0000 ∷ 1 ∷ 7 ∷ 8 ∷ 9 ∷ []
 
 abbrev pub file : List ℕ
-file = file_of rectangles 2 samples
+file = file_of 3 rectangles 2 samples
 
 pub length-is : length file ≡ 74
 unfolding file_of table_bytes bytes_of body_at sample_bytes
@@ -62,6 +62,52 @@ first-samples = refl
 pub second-samples : samples_in file 1 ≡ 7 ∷ 8 ∷ 9 ∷ []
 unfolding file_of table_bytes bytes_of body_at sample_bytes number_at samples_at
 second-samples = refl
+
+-- ---- one plane: a third of the samples, and another marker
+
+abbrev pub grey_file : List ℕ
+grey_file = file_of 1 rectangles 2 (0x3f80_0000 ∷ 0x7fc0_0001 ∷ 7 ∷ [])
+
+-- the last byte of the marker is 31
+pub grey_length-is : length grey_file ≡ 50
+unfolding file_of table_bytes bytes_of body_at sample_bytes
+grey_length-is = refl
+
+pub grey_starts_with : take 6 grey_file ≡ 0x4b ∷ 0x43 ∷ 0x55 ∷ 0x31 ∷ 2 ∷ 0 ∷ []
+unfolding file_of table_bytes bytes_of body_at sample_bytes
+grey_starts_with = refl
+
+pub grey_accepted : first_of (file_checks grey_file) ≡ 0
+unfolding file_of table_bytes bytes_of body_at sample_bytes file_checks entry_checks number_at picture_fits bounds_fit corner_fits side_fits
+grey_accepted = refl
+
+-- each marker says its number of planes
+pub planes-back : planes_in file ≡ 3
+unfolding file_of
+planes-back = refl
+
+pub grey_planes-back : planes_in grey_file ≡ 1
+unfolding file_of
+grey_planes-back = refl
+
+-- the body of rectangle 1 starts at byte 46, after two samples
+pub grey_second-samples : samples_in grey_file 1 ≡ 7 ∷ []
+unfolding file_of table_bytes bytes_of body_at sample_bytes number_at samples_at
+grey_second-samples = refl
+
+-- with the other marker, either file is refused: the offset of entry 1 is wrong
+pub grey_as-three : first_of (file_checks (set grey_file 3 0x54)) ≡ 13
+unfolding file_of table_bytes bytes_of body_at sample_bytes file_checks entry_checks number_at picture_fits bounds_fit corner_fits side_fits
+grey_as-three = refl
+
+pub three-as_grey : first_of (file_checks (set file 3 0x31)) ≡ 13
+unfolding file_of table_bytes bytes_of body_at sample_bytes file_checks entry_checks number_at picture_fits bounds_fit corner_fits side_fits
+three-as_grey = refl
+
+-- a slice for three samples where there is one
+pub grey_three-samples : first_of (read_checks grey_file 1 3) ≡ 7
+unfolding file_of table_bytes bytes_of body_at sample_bytes read_checks region_checks file_checks entry_checks number_at picture_fits bounds_fit corner_fits side_fits
+grey_three-samples = refl
 
 -- ---- refused
 

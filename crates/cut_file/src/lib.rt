@@ -5,16 +5,19 @@ ghost use Rattle.std.specs.Prelude.{◌≡◌, ◌+◌, ◌*◌, ◌≤◌, ◌<
 ghost use Rattle.refusals.specs.Checks.{first_of};
 ghost use Rattle.refusals.specs.Refusals.{number_of, IsOutcome};
 ghost use Rattle.region.specs.Measures.{picture_fits};
-ghost use Rattle.cut_file.specs.File.{entry_at, sample_count, body_at};
-ghost use Rattle.cut_file.specs.Read.{count_in, region_in, has_marker, bad_count, entry_checks, file_checks};
+ghost use Rattle.cut_file.specs.File.{marker_of, entry_at, sample_count, body_at};
+ghost use Rattle.cut_file.specs.Read.{planes_in, count_in, region_in, has_marker, bad_count, entry_checks, file_checks};
 ghost use Rattle.cut_file.specs.Entry.{entry_number};
 
 use cut_bytes::{i32_at, u16_at, u32_at};
+use planes::{GREY_PLANES, PLANES};
 use refusals::Refusal;
 use region::Region;
 
-// Compared on reading and written on writing.
+// Compared on reading and written on writing: of a file of three planes, and of one of one plane.
 pub const MARKER: [u8; 4] = *b"KCUT";
+
+pub const GREY_MARKER: [u8; 4] = *b"KCU1";
 
 pub const MARKER_LENGTH: usize = 4;
 
@@ -37,6 +40,16 @@ pub struct CutTable {
     pub regions: [Region; 64],
 }
 
+// The marker of a file of so many planes, one or three.
+pub fn marker_of(planes: u32) -> [u8; 4]
+    ensures { result ≡ marker_of planes }
+{
+    if planes as usize == GREY_PLANES {
+        return GREY_MARKER;
+    }
+    MARKER
+}
+
 // Where entry i starts.
 pub fn entry_at(i: u32) -> usize
     ensures { result ≡ entry_at i }
@@ -44,14 +57,14 @@ pub fn entry_at(i: u32) -> usize
     TABLE_START + ENTRY * i as usize
 }
 
-// The samples of a rectangle's three planes, if it is within the limits.
-pub fn sample_count(r: Region) -> Option<usize>
-    ensures { result ≡ cond (picture_fits r) (Some (sample_count r)) None }
+// The samples of a rectangle's planes, if it is within the limits.
+pub fn sample_count(planes: u32, r: Region) -> Option<usize>
+    ensures { result ≡ cond (picture_fits r) (Some (sample_count planes r)) None }
 {
     if !r.picture_fits() {
         return None;
     }
-    Some(3 * (r.height as usize * r.width as usize))
+    Some(planes as usize * (r.height as usize * r.width as usize))
 }
 
 // Whether a file can't have n rectangles: it has 1 to 64.
@@ -65,7 +78,17 @@ fn has_marker(file: &[u8]) -> bool
     requires { 4 ≤ length file.now }
     ensures { result ≡ has_marker file.now }
 {
-    file.starts_with(&MARKER)
+    file.starts_with(&MARKER) || file.starts_with(&GREY_MARKER)
+}
+
+// The number of planes, by the marker.
+pub fn planes_in(file: &[u8]) -> u32
+    ensures { result ≡ planes_in file.now }
+{
+    if file.starts_with(&GREY_MARKER) {
+        return GREY_PLANES as u32;
+    }
+    PLANES as u32
 }
 
 // The region of entry i.
@@ -83,13 +106,13 @@ pub fn region_in(file: &[u8], i: u32) -> Region
 
 // The samples of entry i, whose body has to start at byte `end`.
 fn check_entry(file: &[u8], i: u32, end: usize) -> Result<usize, Refusal>
-    requires { (i < 64) × (end ≡ body_at (region_in file.now) (count_in file.now) i) }
-    ensures { IsOutcome result (entry_number file.now i) (sample_count (region_in file.now i)) }
+    requires { (i < 64) × (end ≡ body_at (planes_in file.now) (region_in file.now) (count_in file.now) i) }
+    ensures { IsOutcome result (entry_number file.now i) (sample_count (planes_in file.now) (region_in file.now i)) }
 {
     if file.len() < entry_at(i + 1) {
         return Err(Refusal::WrongEnd);
     }
-    let samples = sample_count(region_in(file, i)).ok_or(Refusal::BadEntry)?;
+    let samples = sample_count(planes_in(file), region_in(file, i)).ok_or(Refusal::BadEntry)?;
     if u32_at(file, entry_at(i)) as usize != end {
         return Err(Refusal::BadEntry);
     }

@@ -13,13 +13,13 @@ use Rattle.refusals.specs.Checks.{Check, always, first_of}
 use Rattle.refusals.specs.Refusals.{number, IsOutcome}
 use Rattle.refusals.specs.declared.Refusal.{Refusal}
 use Rattle.refusals.proofs.Outcomes.{number-nonzero}
-use Rattle.region.specs.declared.Region.{Region}
 use Rattle.refusals.proofs.Tables.{numbered, zero-none}
 use Rattle.refusals.proofs.Rows.{joined-none, joined-passed, joined-refused}
 use Rattle.cut_file.specs.File.{sample_count}
-use Rattle.cut_file.specs.Read.{count_in, region_in, samples_in, file_checks, region_checks, read_checks}
+use Rattle.cut_file.specs.Read.{planes_in, count_in, region_in, samples_in, file_checks, region_checks, read_checks}
 use Rattle.cut_file.proofs.Laws.{file-numbered}
-use Rattle.cut_read.specs.Outcome.{count_answer_of, cut_answer_of, count_outcome, cut_answer, region_outcome, read_outcome, ReadOutcome}
+use Rattle.cut_read.specs.declared.Cut.{Cut}
+use Rattle.cut_read.specs.Outcome.{count_answer_of, cut_in, cut_answer_of, count_outcome, cut_answer, region_outcome, read_outcome, ReadOutcome}
 
 -- ---- numbers
 
@@ -65,19 +65,19 @@ module _ (s : List ℕ) (k : ℕ) where
 
   module _ (len : ℕ) where
     abbrev unlike : List Check
-    unlike = always wrong_length (not (eqb len (sample_count (region_in s k)))) ∷ []
+    unlike = always wrong_length (not (eqb len (sample_count (planes_in s) (region_in s k)))) ∷ []
 
     pub region-refused : (first_of (region_checks s k) ≡ 0 → ⊥) → first_of (read_checks s k len) ≡ first_of (region_checks s k)
     unfolding read_checks
     region-refused h = joined-refused (region_checks s k) unlike region-numbered h
 
-    pub length-unlike : first_of (region_checks s k) ≡ 0 → (len ≡ sample_count (region_in s k) → ⊥) → first_of (read_checks s k len) ≡ wrong_length
+    pub length-unlike : first_of (region_checks s k) ≡ 0 → (len ≡ sample_count (planes_in s) (region_in s k) → ⊥) → first_of (read_checks s k len) ≡ wrong_length
     unfolding read_checks
-    length-unlike e h = joined-passed (region_checks s k) unlike region-numbered e ∙ rw (ne_eqb len (sample_count (region_in s k)) h)
+    length-unlike e h = joined-passed (region_checks s k) unlike region-numbered e ∙ rw (ne_eqb len (sample_count (planes_in s) (region_in s k)) h)
 
-    pub length-alike : first_of (region_checks s k) ≡ 0 → len ≡ sample_count (region_in s k) → first_of (read_checks s k len) ≡ 0
+    pub length-alike : first_of (region_checks s k) ≡ 0 → len ≡ sample_count (planes_in s) (region_in s k) → first_of (read_checks s k len) ≡ 0
     unfolding read_checks
-    length-alike e h = joined-passed (region_checks s k) unlike region-numbered e ∙ rw (eq-eqb len (sample_count (region_in s k)) h)
+    length-alike e h = joined-passed (region_checks s k) unlike region-numbered e ∙ rw (eq-eqb len (sample_count (planes_in s) (region_in s k)) h)
 
 -- ---- outcomes
 
@@ -99,16 +99,16 @@ unfolding count_outcome
 count_answer s (Ok n) (e, v) = rw (sym e) (λ j. record { number = 0; count = v j })
 count_answer s (Err x) (e, v) = rw (sym e, ne_eqb (number x) 0 (number-nonzero x))
 
-cut-answer : (s : List ℕ) (k n : ℕ) (r : Result Region Refusal) → IsOutcome r n (region_in s k) → cut_answer_of r ≡ cut_answer n s k
+cut-answer : (s : List ℕ) (k n : ℕ) (r : Result Cut Refusal) → IsOutcome r n (cut_in s k) → cut_answer_of r ≡ cut_answer n s k
 unfolding cut_answer
-cut-answer s k n (Ok q) (e, v) = rw (sym e) (λ j. record { number = 0; region = v j })
+cut-answer s k n (Ok q) (e, v) = rw (sym e) (λ j. record { number = 0; region = (v j).region; planes = (v j).planes })
 cut-answer s k n (Err x) (e, v) = rw (sym e, ne_eqb (number x) 0 (number-nonzero x))
 
-pub region_answer : (s : List ℕ) (k : ℕ) (r : Result Region Refusal) → IsOutcome r (first_of (region_checks s k)) (region_in s k) → cut_answer_of r ≡ region_outcome s k
+pub region_answer : (s : List ℕ) (k : ℕ) (r : Result Cut Refusal) → IsOutcome r (first_of (region_checks s k)) (cut_in s k) → cut_answer_of r ≡ region_outcome s k
 unfolding region_outcome
 region_answer s k r h = cut-answer s k (first_of (region_checks s k)) r h
 
-pub read_answer : (s : List ℕ) (k : ℕ) (slice : List ℕ) (r : Result Region Refusal) (xs : List ℕ) → IsOutcome r (first_of (read_checks s k (length slice))) (region_in s k)
+pub read_answer : (s : List ℕ) (k : ℕ) (slice : List ℕ) (r : Result Cut Refusal) (xs : List ℕ) → IsOutcome r (first_of (read_checks s k (length slice))) (cut_in s k)
     → xs ≡ (read_outcome s k slice).samples → ◌≡◌ {A = ReadOutcome} (record { answer = cut_answer_of r; samples = xs }) (read_outcome s k slice)
 unfolding read_outcome
 read_answer s k slice r xs h e = λ j. record { answer = cut-answer s k (first_of (read_checks s k (length slice))) r h j; samples = e j }

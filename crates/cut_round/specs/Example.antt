@@ -1,5 +1,5 @@
--- A table of two rectangles, their samples (NaNs, infinity, −0 and a subnormal number among them) and the bytes of their file: all premises
--- of the theorem hold of them.
+-- A table of two rectangles, their samples in three planes (NaNs, infinity, −0 and a subnormal number among them) and in one, and the bytes
+-- of both files: all premises of the theorem hold of them.
 use Rattle.std.specs.Prelude.{◌≡◌, List, [], ◌∷◌, ℕ, pos, negsuc, length, replicate}
 use Rattle.refusals.specs.Checks.{first_of}
 use Rattle.region.specs.Regions.{zero_region}
@@ -40,8 +40,26 @@ bytes =
     ∷ 0x78 ∷ 0x56 ∷ 0x34 ∷ 0x12
     ∷ []
 
+-- one plane of the same rectangles: three samples
+abbrev pub grey_samples : List ℕ
+grey_samples = 0x7fc0_0001 ∷ 0x8000_0000 ∷ 0x1234_5678 ∷ []
+
+abbrev pub grey_bytes : List ℕ
+grey_bytes =
+    0x4b ∷ 0x43 ∷ 0x55 ∷ 0x31 ∷ 0x02 ∷ 0x00
+    ∷ 0x26 ∷ 0x00 ∷ 0x00 ∷ 0x00 ∷ 0xfd ∷ 0xff ∷ 0xff ∷ 0xff ∷ 0x05 ∷ 0x00 ∷ 0x00 ∷ 0x00 ∷ 0x01 ∷ 0x00 ∷ 0x02 ∷ 0x00
+    ∷ 0x2e ∷ 0x00 ∷ 0x00 ∷ 0x00 ∷ 0x00 ∷ 0x00 ∷ 0x00 ∷ 0x00 ∷ 0xff ∷ 0xff ∷ 0xff ∷ 0xff ∷ 0x01 ∷ 0x00 ∷ 0x01 ∷ 0x00
+    ∷ 0x01 ∷ 0x00 ∷ 0xc0 ∷ 0x7f
+    ∷ 0x00 ∷ 0x00 ∷ 0x00 ∷ 0x80
+    ∷ 0x78 ∷ 0x56 ∷ 0x34 ∷ 0x12
+    ∷ []
+
 -- the bytes are the file of the table and the samples; writing it and reading it are accepted
+abbrev pub FileMet : ℕ → List ℕ → List ℕ → Type 0
+FileMet planes xs s = (file_of planes (rectangle table) table.count xs ≡ s)
+    × EachBelow 4294967296 xs × (first_of (write_checks planes table (length xs) (length s)) ≡ 0)
+    × EachBelow 256 s × (first_of (file_checks s) ≡ 0)
+
+-- of three planes and of one
 abbrev pub PremisesMet : Type 0
-PremisesMet = (file_of (rectangle table) table.count samples ≡ bytes)
-    × EachBelow 4294967296 samples × (first_of (write_checks table (length samples) (length bytes)) ≡ 0)
-    × EachBelow 256 bytes × (first_of (file_checks bytes) ≡ 0)
+PremisesMet = FileMet 3 samples bytes × FileMet 1 grey_samples grey_bytes

@@ -1,7 +1,7 @@
 -- Stores of the parts of a cut file. Assumes nothing.
 use mathlib.Core.Path.{◌≡◌, refl, sym, ap, ◌∙◌}
 use mathlib.Core.List.{List, [], ◌∷◌, ◌++◌, append_assoc}
-use Prim.Native.Nat.{ℕ, suc, ◌+◌, ◌*◌, ◌≤◌}
+use Prim.Native.Nat.{ℕ, ◌+◌, ◌*◌, ◌≤◌}
 use native.Mathlib.Numerals.{add-one}
 use native.Mathlib.Omega.{arith}
 use lib.ListN.{length, length-append}
@@ -12,8 +12,8 @@ use Rattle.byteorder.specs.Endian.{little_bytes}
 use Rattle.region.specs.declared.Region.{Region}
 use Rattle.cut_bytes.specs.Bytes.{bytes_of, stored, unsigned}
 use Rattle.cut_bytes.proofs.Laws.{length-bytes, bytes-four, stored-inside, bytes_inside, sets_then, sets-whole, part-stored}
-use Rattle.cut_file.specs.File.{marker, entry_at, body_at, entry_bytes, table_bytes, sample_bytes, file_of}
-use Rattle.cut_file.proofs.FileLaws.{length-samples, length-table, length-file}
+use Rattle.cut_file.specs.File.{marker_of, entry_at, body_at, entry_bytes, table_bytes, sample_bytes, file_of}
+use Rattle.cut_file.proofs.FileLaws.{length-marker, length-samples, length-table, length-file}
 
 -- ---- samples
 
@@ -79,47 +79,47 @@ entry-parts l at offset r f g h i j x y room a b c d e k m =
     let w : j ≡ sets i (at + 14) (bytes_of 2 r.height) = m ∙ bytes_inside i (at + 14) 2 r.height (omega arith) in
     rw (w, v, u, d, q, b, p) (entry-stored l at offset r)
 
-module _ (rs : ℕ → Region) (n : ℕ) where
+module _ (planes : ℕ) (rs : ℕ → Region) (n : ℕ) where
   pub table-stored : (l : List ℕ) (k : ℕ)
-      → sets (sets l 6 (table_bytes rs n k)) (entry_at k) (entry_bytes (body_at rs n k) (rs k)) ≡ sets l 6 (table_bytes rs n (k + 1))
+      → sets (sets l 6 (table_bytes planes rs n k)) (entry_at k) (entry_bytes (body_at planes rs n k) (rs k)) ≡ sets l 6 (table_bytes planes rs n (k + 1))
   unfolding table_bytes
   table-stored l k =
-      sets_then l 6 (table_bytes rs n k) (entry_bytes (body_at rs n k) (rs k)) (entry_at k) (omega (arith, length-table rs n k)) ∙ rw (add-one k)
+      sets_then l 6 (table_bytes planes rs n k) (entry_bytes (body_at planes rs n k) (rs k)) (entry_at k) (omega (arith, length-table planes rs n k)) ∙ rw (add-one k)
 
   -- the same, part by part
   pub table-parts : (l f g : List ℕ) (k at end : ℕ)
-      → f ≡ sets l 6 (table_bytes rs n k)
+      → f ≡ sets l 6 (table_bytes planes rs n k)
       → at ≡ entry_at k
-      → end ≡ body_at rs n k
+      → end ≡ body_at planes rs n k
       → g ≡ sets f at (entry_bytes end (rs k))
-      → g ≡ sets l 6 (table_bytes rs n (k + 1))
+      → g ≡ sets l 6 (table_bytes planes rs n (k + 1))
   table-parts l f g k at end a b c d = rw (d, a, b, c) (table-stored l k)
 
   -- ---- the whole file
 
   pub file-stored : (l s : List ℕ) → length l ≡ entry_at n + 4 * length s
-      → sets (sets (sets (sets l 0 marker) 4 (bytes_of 2 n)) 6 (table_bytes rs n n)) (entry_at n) (sample_bytes s) ≡ file_of rs n s
+      → sets (sets (sets (sets l 0 (marker_of planes)) 4 (bytes_of 2 n)) 6 (table_bytes planes rs n n)) (entry_at n) (sample_bytes s) ≡ file_of planes rs n s
   unfolding file_of
   file-stored l s e =
       let a : List ℕ = bytes_of 2 n in
-      let b : List ℕ = table_bytes rs n n in
+      let b : List ℕ = table_bytes planes rs n n in
       let c : List ℕ = sample_bytes s in
-      let six : length (marker ++ a) ≡ 6 = ap (λ (k : ℕ). suc (suc (suc (suc k)))) (length-bytes 2 n) in
-      let table : length ((marker ++ a) ++ b) ≡ entry_at n = length-append (marker ++ a) b ∙ omega (arith, six, length-table rs n n) in
+      let six : length (marker_of planes ++ a) ≡ 6 = length-append (marker_of planes) a ∙ omega (arith, length-marker planes, length-bytes 2 n) in
+      let table : length ((marker_of planes ++ a) ++ b) ≡ entry_at n = length-append (marker_of planes ++ a) b ∙ omega (arith, six, length-table planes rs n n) in
       rw (
-        sets_then l 0 marker a 4 (omega arith),
-        sets_then l 0 (marker ++ a) b 6 (omega (arith, six)),
-        sets_then l 0 ((marker ++ a) ++ b) c (entry_at n) (omega (arith, table)),
+        sets_then l 0 (marker_of planes) a 4 (omega (arith, length-marker planes)),
+        sets_then l 0 (marker_of planes ++ a) b 6 (omega (arith, six)),
+        sets_then l 0 ((marker_of planes ++ a) ++ b) c (entry_at n) (omega (arith, table)),
       )
-      (let q : ((marker ++ a) ++ b) ++ c ≡ file_of rs n s = simp append_assoc in ap (sets l 0) q ∙ sets-whole l (file_of rs n s) (length-file rs n s ∙ sym e))
+      (let q : ((marker_of planes ++ a) ++ b) ++ c ≡ file_of planes rs n s = simp append_assoc in ap (sets l 0) q ∙ sets-whole l (file_of planes rs n s) (length-file planes rs n s ∙ sym e))
 
   -- the same, part by part
   pub file-parts : (l s f g h k : List ℕ) (at : ℕ)
       → length l ≡ entry_at n + 4 * length s
-      → f ≡ sets l 0 marker
+      → f ≡ sets l 0 (marker_of planes)
       → g ≡ sets f 4 (bytes_of 2 n)
-      → h ≡ sets g 6 (table_bytes rs n n)
+      → h ≡ sets g 6 (table_bytes planes rs n n)
       → at ≡ entry_at n
       → k ≡ sets h at (sample_bytes s)
-      → k ≡ file_of rs n s
+      → k ≡ file_of planes rs n s
   file-parts l s f g h k at e p q r a d = rw (d, a, r, q, p) (file-stored l s e)

@@ -4,8 +4,9 @@ use Rattle.cut_file.specs.declared.CutTable.{CutTable}
 use Rattle.cut_file.specs.File.{max_file, max_rectangles, file_length}
 use Rattle.cut_file.specs.Write.{rectangle, rectangles_fit}
 
-pub record TableFits (t : CutTable) (len : ℕ) : Type 0 where
+pub record TableFits (planes : ℕ) (t : CutTable) (len : ℕ) : Type 0 where
+  pub few-planes : planes ≤ 3
   pub count-le : t.count ≤ max_rectangles
   pub rectangles-fit : rectangles_fit (rectangle t) t.count ≡ true
-  pub length-is : len ≡ file_length (rectangle t) t.count
+  pub length-is : len ≡ file_length planes (rectangle t) t.count
   pub length-le : len ≤ max_file

@@ -21,18 +21,19 @@ use Rattle.region_placement.specs.Placed.{placed_checks}
 use Rattle.planes.specs.declared.Layout.{Layout}
 use Rattle.planes.specs.Picture.{Picture}
 use Rattle.planes.specs.Rect.{planes_fill}
-use Rattle.planes.specs.Band.{passed, copied_outside, filter_row, result_height, rows_fit}
+use Rattle.planes.specs.Band.{passed, planes_fit, copied_outside, filter_row, result_height, rows_fit}
 use Rattle.planes.specs.Fits.{LayoutFits, BandFits}
-use Rattle.planes.proofs.Stored.{passed_over, fits-copied, and_first, and_second}
-use Rattle.planes_layout.specs.Outcome.{layout_of, flag_check, PassOutcome}
+use Rattle.planes.proofs.Stored.{passed_over, fits-copied, planes-few, and_first, and_second}
+use Rattle.planes_layout.specs.Outcome.{layout_of, planes_check, flag_check, PassOutcome}
 use Rattle.planes_layout.proofs.Fits.{Accepted, layout-accepted, placed_first, placed-then, pass-refused, pass-done}
 use Rattle.epf_tiles.specs.Blocks.{block_columns, block_rows}
 use Rattle.epf.specs.declared.EpfStep.{EpfStep}
 use Rattle.region_placement.specs.Blocks.{clamp_to_zero}
-use Rattle.epf.specs.Outcome.{epf_over, step_lengths, step_in_range, step_rows, step_checks, epf_checks, epf_outcome}
+use Rattle.epf.specs.Outcome.{epf_over, sets_check, sigmas_check, step_in_range, step_rows, step_checks, epf_checks, epf_outcome}
 
 -- what follows from number 0
 pub record StepFits (n : ℕ) (l : Layout) (step from to sigmas src dst : ℕ) : Type 0 where
+  pub planes-le : n ≤ 3
   pub source : src ≡ n * l.image.height * l.image.width
   pub target : dst ≡ n * l.image.height * l.image.width
   pub blocks : sigmas ≡ block_rows l * block_columns l
@@ -46,30 +47,30 @@ step_fits n l filter full step from to sigmas src dst e =
     let size = n * l.image.height * l.image.width in
     let p = eqb src size in
     let q = eqb dst size in
-    let r = eqb sigmas (block_rows l * block_columns l) in
     let passed = row-passed (step_checks n l filter full step from to sigmas src dst) tt e in
     let flag : flag_fits full ≡ true = not-false (flag_fits full) (passed (flag_check full) (search (here, below) depth 12)) in
-    let lengths : (p && (q && r)) ≡ true = not-false _ (passed (step_lengths n l sigmas src dst) (search (here, below) depth 12)) in
+    let right : planes_fit n ≡ true = not-false (planes_fit n) (passed (planes_check n) (search (here, below) depth 12)) in
+    let lengths : (p && q) ≡ true = not-false _ (rw right at (passed (sets_check n l src dst) (search (here, below) depth 12))) in
     let rows_in : rows_fit l from to ≡ true = not-false _ (rw flag at (passed (step_rows l full from to) (search (here, below) depth 12))) in
-    let qr = and_second p (q && r) lengths in
     record {
-      source = eqb-true _ _ (and_first p (q && r) lengths);
-      target = eqb-true _ _ (and_first q r qr);
-      blocks = eqb-true _ _ (and_second q r qr);
+      planes-le = (planes-few n right).1;
+      source = eqb-true _ _ (and_first p q lengths);
+      target = eqb-true _ _ (and_second p q lengths);
+      blocks = eqb-true _ _ (not-false _ (passed (sigmas_check l sigmas) (search (here, below) depth 12)));
       step-le = ltb-false _ _ (passed (step_in_range step) (search (here, below) depth 12));
       order = leb-true _ _ (and_first (leb from to) (leb to (result_height l)) rows_in);
       rows = leb-true _ _ (and_second (leb from to) (leb to (result_height l)) rows_in);
     }
 
-pub band-fits : (n : ℕ) (l : Layout) (step from to sigmas : ℕ) (src dst : List Float) → n ≤ 3 → LayoutFits l → StepFits n l step from to sigmas (length src) (length dst) → BandFits l n from to src dst
-band-fits n l step from to sigmas src dst planes-le f s = record { layout = f; planes = planes-le; source = s.source; target = s.target; order = s.order; rows = s.rows }
+pub band-fits : (n : ℕ) (l : Layout) (step from to sigmas : ℕ) (src dst : List Float) → LayoutFits l → StepFits n l step from to sigmas (length src) (length dst) → BandFits l n from to src dst
+band-fits n l step from to sigmas src dst f s = record { layout = f; planes = s.planes-le; source = s.source; target = s.target; order = s.order; rows = s.rows }
 
 -- bounds in machine integers
-pub lines-le : (l : Layout) → LayoutFits l → 3 * l.image.height ≤ 49152
-lines-le l f = omega (arith, f.height-le)
+pub lines-le : (n : ℕ) (l : Layout) → planes_fit n ≡ true → LayoutFits l → n * l.image.height ≤ 49152
+lines-le n l e f = mul-le-mul (planes-few n e).1 f.height-le
 
-pub samples-le : (l : Layout) → LayoutFits l → 3 * l.image.height * l.image.width ≤ 805306368
-samples-le l f = mul-le-mul (lines-le l f) f.width-le
+pub samples-le : (n : ℕ) (l : Layout) → planes_fit n ≡ true → LayoutFits l → n * l.image.height * l.image.width ≤ 805306368
+samples-le n l e f = mul-le-mul (lines-le n l e f) f.width-le
 
 pub blocks-le : (l : Layout) → LayoutFits l → block_rows l * block_columns l ≤ 4198401
 blocks-le l f =
@@ -88,13 +89,13 @@ band-passed l n from to f t p src dst a b fits e u v h = passed_over l n from to
 
 -- ---- all checks
 
-module _ (image filter : Region) (full : ℕ) (s : EpfStep) (sigmas : List Float) (from to : ℕ) (src dst : List Float) where
+module _ (image filter : Region) (n full : ℕ) (s : EpfStep) (sigmas : List Float) (from to : ℕ) (src dst : List Float) where
   abbrev Outcome : ℕ → List Float → Type 0
-  Outcome k d = ◌≡◌ {A = PassOutcome} (record { number = k; target = d }) (epf_outcome image filter full s sigmas from to src dst)
+  Outcome k d = ◌≡◌ {A = PassOutcome} (record { number = k; target = d }) (epf_outcome image filter n full s sigmas from to src dst)
 
   -- the checks after 4 and 5
   abbrev own : List Check
-  own = step_checks 3 (layout_of image filter (flag_set full)) filter full s.step from to (length sigmas) (length src) (length dst)
+  own = step_checks n (layout_of image filter (flag_set full)) filter full s.step from to (length sigmas) (length src) (length dst)
 
   -- e: what a check refuses, r: what `?` returns for it
   pub not-placed : (e : Refusal) (r : Result Unit Refusal) → number e ≡ first_of (placed_checks image filter) → IsErrAnd r (λ x. x ≡ e) → Outcome (number_of r) dst
@@ -110,9 +111,9 @@ module _ (image filter : Region) (full : ℕ) (s : EpfStep) (sigmas : List Float
     layout-held = rw l-is (layout-accepted image filter (flag_set full) (sym placed))
 
     abbrev Checked : ℕ → Type 0
-    Checked k = k ≡ first_of (step_checks 3 l filter full s.step from to (length sigmas) (length src) (length dst))
+    Checked k = k ≡ first_of (step_checks n l filter full s.step from to (length sigmas) (length src) (length dst))
 
-    number_is : (k : ℕ) → Checked k → k ≡ first_of (epf_checks image filter full s sigmas from to src dst)
+    number_is : (k : ℕ) → Checked k → k ≡ first_of (epf_checks image filter n full s sigmas from to src dst)
     unfolding epf_checks
     number_is k p = placed-then image filter own (sym placed) k (rw l-is at p)
 
@@ -121,6 +122,6 @@ module _ (image filter : Region) (full : ℕ) (s : EpfStep) (sigmas : List Float
     refused e (Ok u) p is = absurd is
     refused e (Err x) p is = rw is (pass-refused (number e) _ _ dst (number_is (number e) p) (number-nonzero e))
 
-    pub done : Checked 0 → (b : List Float) → b ≡ passed 3 l from to (epf_over 3 l s (clamp_to_zero filter.top) sigmas src) src dst → Outcome 0 b
+    pub done : Checked 0 → (b : List Float) → b ≡ passed n l from to (epf_over n l s (clamp_to_zero filter.top) sigmas src) src dst → Outcome 0 b
     unfolding epf_outcome
     done p b q = pass-done _ _ dst b (number_is 0 p) (rw l-is at q)

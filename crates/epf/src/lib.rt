@@ -17,7 +17,7 @@ use epf_step::LAST_STEP;
 use epf_tiles::Step;
 use epf_tiles::strips::filter_region;
 use limits::BLOCK;
-use planes::{Layout, PLANES, filter_row, rows_fit};
+use planes::{Layout, filter_row, planes_fit, rows_fit};
 use planes_layout::layout_of;
 use planes_outside::copy_outside;
 use refusals::{Refusal, flag_fits, flag_set};
@@ -38,13 +38,14 @@ pub struct EpfStep {
     pub border_sad_mul: f32,
 }
 
-// Checks the filter region's corner, the lengths, the step, the flag and the rows.
-// Form: the step and the flag are numbers as C hands them, and are tested here. `LayoutFits` is a clause and no ghost field of
+// Checks the filter region's corner, the lengths, the number of planes, the step, the flag and the rows.
+// Form: the three numbers are as C hands them, and are tested here. `LayoutFits` is a clause and no ghost field of
 // `Layout`, since a layout may hold any numbers: `set_fits` and all that tests by it take such a one too.
 #[tactic(auto, using(crate::proofs::Fits::size_rules), unfolding(crate::specs::Outcome::step_checks))]
 fn check_pass(
     l: Layout,
     filter: Region,
+    planes: u32,
     preserve_outside: u32,
     step: usize,
     from: usize,
@@ -55,14 +56,20 @@ fn check_pass(
 ) -> Result<(), Refusal>
     requires { LayoutFits l }
     ensures { number_of result
-        ≡ first_of (step_checks 3 l filter preserve_outside step from to (length sigmas.now) (length src.now) (length dst.now)) }
+        ≡ first_of (step_checks planes l filter preserve_outside step from to (length sigmas.now) (length src.now) (length dst.now)) }
 {
     if !on_blocks(filter) {
         return Err(Refusal::NotOnBlocks);
     }
-    let size = PLANES * l.image.height * l.image.width;
     let blocks = l.height.div_ceil(BLOCK) * l.width.div_ceil(BLOCK);
-    if src.len() != size || dst.len() != size || sigmas.len() != blocks {
+    if sigmas.len() != blocks {
+        return Err(Refusal::WrongLength);
+    }
+    if !planes_fit(planes) {
+        return Err(Refusal::OutOfRange);
+    }
+    let size = planes as usize * l.image.height * l.image.width;
+    if src.len() != size || dst.len() != size {
         return Err(Refusal::WrongLength);
     }
     if LAST_STEP < step || !flag_fits(preserve_outside) || !rows_fit(l, from, to) {
@@ -119,12 +126,14 @@ fn epf_band(
 }
 
 // Applies a step to rows `from` up to `to` of the result region: the image region if `preserve_outside` is 1, the
-// filter region if it is 0. Reads the set `src` and writes the set `dst`, each of three planes. `sigmas` has one
-// sigma per block of the filter region, row of blocks by row of blocks. Floats may have any value.
-// Form: the flag and the parameters are those of the C function, which passes them on in their order.
+// filter region if it is 0. Reads the set `src` and writes the set `dst`, each of one or three planes; one plane has
+// the first scale. `sigmas` has one sigma per block of the filter region, row of blocks by row of blocks. Floats may
+// have any value.
+// Form: the numbers and the parameters are those of the C function, which passes them on in their order.
 pub fn epf_pass(
     image: Region,
     filter: Region,
+    planes: u32,
     preserve_outside: u32,
     s: EpfStep,
     sigmas: &[f32],
@@ -134,7 +143,7 @@ pub fn epf_pass(
     dst: &mut [f32],
 ) -> Result<(), Refusal>
     ensures { ◌≡◌ {A = PassOutcome} (record { number = number_of result; target = dst.new })
-        (epf_outcome image filter preserve_outside s sigmas.now from to src.now
+        (epf_outcome image filter planes preserve_outside s sigmas.now from to src.now
         dst.old) }
 {
     let l = layout_of(image, filter, flag_set(preserve_outside))?;
@@ -143,6 +152,7 @@ pub fn epf_pass(
     check_pass(
         l,
         filter,
+        planes,
         preserve_outside,
         s.step as usize,
         first,
@@ -156,7 +166,7 @@ pub fn epf_pass(
         src,
         dst,
         l,
-        PLANES,
+        planes as usize,
         settings,
         sigmas,
         clamp_to_zero(filter.top),

@@ -29,19 +29,20 @@ pub extern "C" fn restoration_mirror(offset: isize, len: usize) -> MirrorAnswer
 
 // Applies the Gabor-like filter to rows `from` up to, not including, `to` of the result region. The result region is
 // the image region if `preserve_outside` is 1 and the filter region if it is 0.
-// Reads the set `src` and writes the set `dst`. A set is three planes of the image region one after another, each row
-// by row without gaps. In these rows of the result region, `dst` gets filtered samples inside the filter region and
-// copies of `src` outside it. All other samples of `dst` stay. The weights may be any floats; `settings.enabled` is
-// ignored.
+// Reads the set `src` and writes the set `dst`. A set is `planes` planes of the image region one after another, each row
+// by row without gaps: 1, or 3 for the channels X, Y and B. One plane is filtered with the weights of X. In these rows
+// of the result region, `dst` gets filtered samples inside the filter region and copies of `src` outside it. All other
+// samples of `dst` stay. The weights may be any floats; `settings.enabled` is ignored.
 // Numbers: 0; 4 if a region is outside the limits (sides 1 to 16,384, area at most 16,777,216, left and top
-// -1,048,576 to 1,048,576); 5 if the filter region is not inside the image region; 7 if the length of a set is not 3
-// * width * height of the image region; 9 if `preserve_outside` is neither 0 nor 1, `from` is over `to`, or `to` is
-// over the number of rows of the result region. If several apply, the lowest is returned. A refused call leaves `dst`
-// unchanged. `src` is never changed.
+// -1,048,576 to 1,048,576); 5 if the filter region is not inside the image region; 7 if the length of a set is not
+// planes * width * height of the image region; 9 if `planes` is neither 1 nor 3 (then no length is checked),
+// `preserve_outside` is neither 0 nor 1, `from` is over `to`, or `to` is over the number of rows of the result region.
+// If several apply, the lowest is returned. A refused call leaves `dst` unchanged. `src` is never changed.
 #[unsafe(no_mangle)]
 pub extern "C" fn restoration_gabor_pass(
     image: Region,
     filter: Region,
+    planes: u32,
     preserve_outside: u32,
     settings: GaborSettings,
     from: u32,
@@ -50,27 +51,39 @@ pub extern "C" fn restoration_gabor_pass(
     dst: &mut [f32],
 ) -> u32
     ensures { ◌≡◌ {A = PassOutcome} (record { number = result; target = dst.new })
-        (gabor_outcome image filter preserve_outside settings.weights from to src.now
+        (gabor_outcome image filter planes preserve_outside settings.weights from to src.now
         dst.old) }
 {
     let weights = settings.weights;
-    let answer = gabor::gabor_pass(image, filter, preserve_outside, weights, from, to, src, dst);
+    let answer = gabor::gabor_pass(
+        image,
+        filter,
+        planes,
+        preserve_outside,
+        weights,
+        from,
+        to,
+        src,
+        dst,
+    );
     number_of(answer)
 }
 
 // Applies step 0, 1 or 2 of the edge-preserving filter to rows `from` up to, not including, `to` of the result
 // region. The result region is the image region if `preserve_outside` is 1 and the filter region if it is 0.
 // Reads `src` and writes `dst` as `restoration_gabor_pass` does. `sigmas` has one sigma per block (8 x 8 samples) of
-// the filter region, row of blocks by row of blocks. Sigmas, scales and multipliers may be any floats.
+// the filter region, row of blocks by row of blocks. Sigmas, scales and multipliers may be any floats. One plane has
+// the scale of X.
 // Numbers: 0; 4 if a region is outside the limits (see `restoration_gabor_pass`); 5 if the filter region is not
 // inside the image region; 6 if its left or top is negative or not a multiple of 8; 7 if the length of a set or of
-// `sigmas` is wrong; 9 if the step is over 2, `preserve_outside` is neither 0 nor 1, `from` is over `to`, or `to` is
-// over the number of rows of the result region. If several apply, the lowest is returned. A refused call leaves `dst`
-// unchanged. `src` and `sigmas` are never changed.
+// `sigmas` is wrong; 9 if `planes` is neither 1 nor 3 (then the length of a set is not checked), the step is over 2,
+// `preserve_outside` is neither 0 nor 1, `from` is over `to`, or `to` is over the number of rows of the result region.
+// If several apply, the lowest is returned. A refused call leaves `dst` unchanged. `src` and `sigmas` are never changed.
 #[unsafe(no_mangle)]
 pub extern "C" fn restoration_epf_pass(
     image: Region,
     filter: Region,
+    planes: u32,
     preserve_outside: u32,
     s: EpfStep,
     sigmas: &[f32],
@@ -80,12 +93,13 @@ pub extern "C" fn restoration_epf_pass(
     dst: &mut [f32],
 ) -> u32
     ensures { ◌≡◌ {A = PassOutcome} (record { number = result; target = dst.new })
-        (epf_outcome image filter preserve_outside s sigmas.now from to src.now
+        (epf_outcome image filter planes preserve_outside s sigmas.now from to src.now
         dst.old) }
 {
     number_of(epf::epf_pass(
         image,
         filter,
+        planes,
         preserve_outside,
         s,
         sigmas,

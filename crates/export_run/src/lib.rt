@@ -1,6 +1,6 @@
 // The C boundary of runs: each function passes its arguments on to one function of the library.
-// Form: C's interface: a refusal is a number, with zeros beside it in an answer, and a frame, its table and its grids are parameters apart,
-// as the sigmas and both sets are.
+// Form: C's interface: a refusal is a number, with zeros beside it in an answer, and a frame, its table and its grids
+// are parameters apart, as the sigmas and both sets are.
 #![tactic(auto)]
 
 ghost use Rattle.std.specs.Prelude.{◌≡◌};
@@ -32,22 +32,22 @@ pub extern "C" fn restoration_margin(settings: Settings) -> MarginAnswer
 
 // Starts a run: checks all arguments, fills `sigmas` with the block sigmas and returns the run's record.
 // `table` has three numbers per group of the frame (presence, grid width, grid height); `grids` has the cells of the
-// present grids, one grid after another. `first` and `second` are two sets, each of three planes of the image region;
-// the picture is in `first`. `sigmas` has one sigma per block (8 x 8 samples) of the filter region, or length 0 if
-// `epf.iters` is 0.
+// present grids, one grid after another. `first` and `second` are two sets, each of `setup.planes` planes of the image
+// region, 1 or 3; the picture is in `first`. One plane is filtered with the weights and the scale of X. `sigmas` has
+// one sigma per block (8 x 8 samples) of the filter region, or length 0 if `epf.iters` is 0.
 // Numbers: 0; 4 if a side, an area, a left or a top is outside the limits; 5 if the filter region is not inside the
 // image region; 6 if the edge-preserving filter is on and the filter region's left or top is negative or not a
 // multiple of 8; 7 if a slice has the wrong length; 8 if the edge-preserving filter is on and a block's group is not
 // in the frame, or its grid is present but lacks the block; 9 if a setting is out of range: iterations over 3, a
-// setting of the frame, a presence, `preserve_outside` or `gabor.enabled` neither 0 nor 1, a band height outside 1 to
-// 16,384, or more than 256 bands.
+// number of planes other than 1 and 3, a setting of the frame, a presence, `preserve_outside` or `gabor.enabled`
+// neither 0 nor 1, a band height outside 1 to 16,384, or more than 256 bands.
 // If several apply, the lowest is returned. A check is passed over if it needs a value that is itself out of range
-// (Specification 12.6). Number 6, the length of `sigmas` and number 8 are checked only if the iterations are in
-// range. The length of `table` is checked only if the frame's settings are in range. `table` is read only if the
-// frame's sides and settings are in range and its length is right; otherwise grid sides, the length of `grids`,
-// number 8 and presences are not checked. The length of `grids` is checked only if all presences are 0 or 1. The
-// number of bands is checked only if `preserve_outside` and the band height are in range. Example: a table of the
-// wrong length with a present grid 2,000 wide gets 7, not 4.
+// (Specification 12.6). The lengths of the sets are checked only if the number of planes is in range. Number 6, the
+// length of `sigmas` and number 8 are checked only if the iterations are in range. The length of `table` is checked
+// only if the frame's settings are in range. `table` is read only if the frame's sides and settings are in range and
+// its length is right; otherwise grid sides, the length of `grids`, number 8 and presences are not checked. The length
+// of `grids` is checked only if all presences are 0 or 1. The number of bands is checked only if `preserve_outside`
+// and the band height are in range. Example: a table of the wrong length with a present grid 2,000 wide gets 7, not 4.
 // An accepted call fills `sigmas` and leaves `first` and `second` unchanged. A refused call returns a record of zeros
 // and leaves every slice unchanged.
 #[unsafe(no_mangle)]
@@ -62,7 +62,7 @@ pub extern "C" fn restoration_start(
 ) -> RunAnswer
     ensures { ◌≡◌ {A = StartOutcome}
         (record { answer = result; first = first.new; sigmas = sigmas.new })
-        (start_outcome 3 (record {
+        (start_outcome (record {
           setup = setup;
           frame = frame;
           table = table.now;
@@ -106,7 +106,7 @@ pub extern "C" fn restoration_band(
         first = first.new;
         second = second.new;
       };
-    }) (band_outcome 3
+    }) (band_outcome
         (record { run = run; sigmas = sigmas.now; first = first.old; second = second.old })
         k) }
 {
@@ -143,7 +143,7 @@ pub extern "C" fn restoration_result(
     out: &mut [f32],
 ) -> u32
     ensures { ◌≡◌ {A = ResultOutcome} (record { number = result; out = out.new })
-        (result_outcome 3 run first.now second.now out.old) }
+        (result_outcome run first.now second.now out.old) }
 {
     let answer = run_result::result(&run, first, second, out);
     number_of(answer)

@@ -1,5 +1,5 @@
-// The Gabor pass over several planes, and over a band with the samples outside the filter region.
-ghost use Rattle.std.specs.Prelude.{◌≡◌, ◌+◌, ◌*◌, ◌<◌, ◌≤◌, length};
+// The Gabor pass over the planes of a set, and over a band with the samples outside the filter region.
+ghost use Rattle.std.specs.Prelude.{◌≡◌, ◌+◌, ◌*◌, ◌<◌, ◌≤◌, length, take};
 ghost use Rattle.planes.specs.Rect.{planes_fill};
 ghost use Rattle.planes.specs.Band.{inner, passed};
 ghost use Rattle.planes.specs.Fits.{LayoutFits, BandFits};
@@ -7,27 +7,29 @@ ghost use Rattle.gabor_kernel.specs.Gabor.{gabor_pass};
 ghost use Rattle.gabor.specs.Pass.{pass_rows};
 
 use gabor_plane::{PlaneRegion, gabor_plane};
-use planes::{Layout, PLANES, filter_row};
+use planes::{Layout, filter_row};
 use planes_outside::copy_outside;
 
-// Filters `rows` rows of the filter region, from row `from`, in each plane.
+// Filters `rows` rows of the filter region, from row `from`, in each of n planes.
 // Form: the sets are two slices of a C caller, and `gabor_pass` tests the length of each; here a clause says that both are of one
 // length. `LayoutFits` is a clause as in `epf::check_pass`.
 fn gabor_planes(
     src: &[f32],
     dst: &mut [f32],
     l: Layout,
+    n: usize,
     weights: [[f32; 2]; 3],
     from: usize,
     rows: usize,
 )
     requires layout_fits { LayoutFits l }
+    requires few_planes { n ≤ 3 }
     requires rows_within { (0 < l.width) × (0 < l.height) × (from + rows ≤ l.height) }
-    requires lengths { (length src.now ≡ 3 * l.image.height * l.image.width) × (length dst.old ≡ length src.now) }
+    requires lengths { (length src.now ≡ n * l.image.height * l.image.width) × (length dst.old ≡ length src.now) }
     ensures { dst.new ≡ planes_fill l.image.width l.image.height l.left l.width
-        (l.top + from) rows (pass_rows weights l src.now from) dst.old 3 }
+        (l.top + from) rows (pass_rows (take n weights) l src.now from) dst.old n }
 {
-    for c in 0..PLANES {
+    for c in 0..n {
         let p = weights[c];
         let at = (c * l.image.height + l.top) * l.image.width + l.left;
         let r = PlaneRegion {
@@ -48,18 +50,19 @@ pub(crate) fn gabor_band(
     src: &[f32],
     dst: &mut [f32],
     l: Layout,
+    n: usize,
     weights: [[f32; 2]; 3],
     from: usize,
     to: usize,
 )
-    requires band_fits { BandFits l 3 from to src.now dst.old }
+    requires band_fits { BandFits l n from to src.now dst.old }
     requires width_nonzero { (0 < l.width) × (0 < l.height) }
-    ensures { dst.new ≡ passed 3 l from to
-        (gabor_pass weights l.width l.height (inner l src.now)) src.now
+    ensures { dst.new ≡ passed n l from to
+        (gabor_pass (take n weights) l.width l.height (inner l src.now)) src.now
         dst.old }
 {
-    copy_outside(src, dst, l, PLANES, from, to);
+    copy_outside(src, dst, l, n, from, to);
     let first = filter_row(l, from);
     let last = filter_row(l, to);
-    gabor_planes(src, dst, l, weights, first, last - first);
+    gabor_planes(src, dst, l, n, weights, first, last - first);
 }

@@ -24,17 +24,17 @@ use Rattle.run_outcomes.specs.Start.{picture_checks, start_checks, start_outcome
 use Rattle.run_outcomes.specs.Band.{band_checks, band_outcome, advance_outcome}
 use Rattle.run_outcomes.specs.Result.{result_checks, result_outcome}
 use Rattle.loupe_region.specs.Widened.{widened}
-use Rattle.loupe_region.specs.Outcome.{widened_checks, widened_outcome}
+use Rattle.loupe_region.specs.Outcome.{rectangle_checks, widened_checks, widened_outcome}
 use Rattle.loupe.specs.Outcome.{loupe_checks, loupe_outcome}
 use Rattle.cut_file.specs.File.{body_at}
 use Rattle.cut_file.specs.Read.{entry_checks, file_checks, region_checks, read_checks}
-use Rattle.cut_file.specs.Write.{rectangles_fit, table_checks, write_checks}
+use Rattle.cut_file.specs.Write.{rectangles_fit, table_checks, length_checks, write_checks}
 use Rattle.cut_read.specs.Outcome.{count_outcome}
 use Rattle.cut_write.specs.Outcome.{length_outcome}
 use Rattle.instances.specs.Limits.{Limits, numbers_of}
 
 pub limits : Limits
-unfolding u mirror power_below corner_fits side_fits region_of inside bounds_fit picture_fits rectangle_fits shrunk_by aligned_to region_answer sizes_of bad_sides bad_settings bad_blocks bad_grid cells grid_start grid_lacks_block some_below no_entries not_held some_not_held table_fits grids_fit layout_of pass_outcome step_checks epf_checks epf_outcome steps plan step_margin margin_checks margin_outcome band_count size_fits numbers_fit setup_fits is_done started band_missing bad_done bands_left_in count_below run_fits picture_checks start_checks start_outcome band_checks band_outcome advance_outcome result_checks result_outcome pass_checks numbers_of widened widened_checks widened_outcome loupe_checks loupe_outcome body_at entry_checks file_checks region_checks read_checks rectangles_fit table_checks write_checks count_outcome length_outcome
+unfolding u mirror power_below corner_fits side_fits region_of inside bounds_fit picture_fits rectangle_fits shrunk_by aligned_to region_answer sizes_of bad_sides bad_settings bad_blocks bad_grid cells grid_start grid_lacks_block some_below no_entries not_held some_not_held table_fits grids_fit layout_of pass_outcome step_checks epf_checks epf_outcome steps plan step_margin margin_checks margin_outcome band_count size_fits numbers_fit setup_fits is_done started band_missing bad_done bands_left_in count_below run_fits picture_checks start_checks start_outcome band_checks band_outcome advance_outcome result_checks result_outcome pass_checks numbers_of widened rectangle_checks widened_checks widened_outcome loupe_checks loupe_outcome body_at entry_checks file_checks region_checks read_checks rectangles_fit table_checks length_checks write_checks count_outcome length_outcome
 limits = record {
   region_side = (refl, refl);
   region_right = (refl, refl);
@@ -63,6 +63,8 @@ limits = record {
   block_left = (refl, refl);
   record_side = (refl, refl);
   record_area = (refl, refl);
+  planes_one = (refl, refl, refl);
+  planes_three = (refl, refl);
   iterations = (refl, refl);
   band_height_of = (refl, refl);
   band_least = (refl, refl);
@@ -110,16 +112,18 @@ limits = record {
   cut_least = (refl, refl);
   cut_most = (refl, refl);
   cut_longest = (refl, refl);
+  cut_grey_longest = (refl, refl);
+  cut_planes = (refl, refl, refl, refl, refl);
   levels = (refl, refl, refl);
   start_numbers = λ h. refl;
   band_numbers = λ t k. refl;
   advance_numbers = λ r. refl;
   result_numbers = λ r first second out. refl;
   sigma_numbers = λ on f b t grids n. refl;
-  pass_numbers = λ image filter full from to src dst. refl;
-  epf_numbers = λ image filter full s sigmas from to src dst. refl;
+  pass_numbers = λ image filter n full from to src dst. refl;
+  epf_numbers = λ image filter n full s sigmas from to src dst. refl;
   widened_numbers = λ s. refl;
   loupe_numbers = λ h. refl;
   read_numbers = λ s k n e. rw e refl;
-  write_numbers = λ t samples file. refl;
+  write_numbers = λ planes t samples file. refl;
 }

@@ -53,7 +53,7 @@ with_sigma sigma = record {
 
 -- column 1 of rows 20 to 23 after band 1
 abbrev pub column1 : Float → List Float
-column1 sigma = tab 4 (λ y. of 2 24 (band_outcome 3 (with_sigma sigma) 1).state.second 0 1 (20 + y))
+column1 sigma = tab 4 (λ y. of 2 24 (band_outcome (with_sigma sigma) 1).state.second 0 1 (20 + y))
 
 -- ---- the table
 

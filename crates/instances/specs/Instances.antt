@@ -1,6 +1,6 @@
 -- The instances of Specification 14 in one table, and others that tell similar programs apart (Specification 14.11). Each row is an
 -- equation in the definitions that the contracts cite. Definitions only.
-use Rattle.std.specs.Prelude.{◌≡◌, false, cond, List, [], ◌∷◌, ℕ, zero, suc, ◌+◌, ◌*◌, ◌/◌, ◌%◌, ◌^◌, eqb, pos, negsuc, get_or, Float}
+use Rattle.std.specs.Prelude.{◌≡◌, false, cond, List, [], ◌∷◌, ℕ, zero, suc, ◌+◌, ◌*◌, ◌/◌, ◌%◌, ◌^◌, eqb, pos, negsuc, length, get_or, Float}
 use Rattle.std.specs.Float.{nan}
 use Rattle.mirror.specs.declared.MirrorAnswer.{MirrorAnswer}
 use Rattle.mirror.specs.Outcome.{mirror_outcome}
@@ -17,6 +17,7 @@ use Rattle.gabor_kernel.specs.Gabor.{gabor_pass}
 use Rattle.epf_step.specs.Steps.{kernel, dists, scaled, copied, standard_limit, epf, multiplier, EpfPass, epf_pass}
 use Rattle.sigma.specs.Sigma.{block_sigmas}
 use Rattle.run_passes.specs.declared.GaborSettings.{GaborSettings}
+use Rattle.run_passes.specs.declared.Settings.{Settings}
 use Rattle.run_passes.specs.Plan.{one_if}
 use Rattle.run_passes.specs.Makers.{gabor_of, epf_sigma_of, epf_of, no_settings, with_gabor, with_epf}
 use Rattle.run_setup.specs.declared.Setup.{Setup}
@@ -157,7 +158,7 @@ settings_from g = gabor_of (one_if g.enabled) g.weights
 abbrev setup_of : ℕ → ℕ → Gabor → ℕ → ℕ → Setup
 setup_of w h gabor iters band_height_of =
     let r : Region = record { left = pos 0; top = pos 0; width = w; height = h } in
-    setup_with r r 1 (with_gabor (settings_from gabor) (with_epf (epf_of iters (b1 ∷ b0 ∷ b0 ∷ []) (epf_sigma_of b0 b0 b0 b2) b16) no_settings)) band_height_of
+    setup_with r r 3 1 (with_gabor (settings_from gabor) (with_epf (epf_of iters (b1 ∷ b0 ∷ b0 ∷ []) (epf_sigma_of b0 b0 b0 b2) b16) no_settings)) band_height_of
 
 -- 1 in column 0 and 0 in the others
 abbrev stripes : Picture
@@ -169,11 +170,11 @@ begun = record { run = started (setup_of 2 24 gabor_off 1 20); sigmas = b16 ∷ 
 
 -- after band 0
 abbrev pub band_zero : State
-band_zero = (band_outcome 3 begun 0).state
+band_zero = (band_outcome begun 0).state
 
 -- column 1 of rows 20 to 23 after band 1 alone
 abbrev pub last_rows : List Float
-last_rows = tab 4 (λ y. of 2 24 (band_outcome 3 begun 1).state.second 0 1 (20 + y))
+last_rows = tab 4 (λ y. of 2 24 (band_outcome begun 1).state.second 0 1 (20 + y))
 
 -- the same if rows were counted from the band's first row
 abbrev pub last_rows_from_band : List Float
@@ -185,7 +186,26 @@ column = record { run = started (setup_of 1 2 (evenly one_half one_quarter) 0 1)
 
 -- row 1 after band 1 alone
 abbrev pub last_sample : Float
-last_sample = of 1 2 (band_outcome 3 column 1).state.second 0 0 1
+last_sample = of 1 2 (band_outcome column 1).state.second 0 0 1
+
+-- ---- grey: one plane of w samples in a row, in one band; the weights and scales of the other two channels are NaN
+
+abbrev first_only : Float → Float → List (List Float)
+first_only side diagonal = (side ∷ diagonal ∷ []) ∷ (nan ∷ nan ∷ []) ∷ (nan ∷ nan ∷ []) ∷ []
+
+abbrev grey_of : ℕ → Settings → List Float → State
+grey_of w settings s =
+    let r : Region = record { left = pos 0; top = pos 0; width = w; height = 1 } in
+    record { run = started (setup_with r r 1 1 settings 1); sigmas = cond (eqb settings.epf.iters 0) [] (b2 ∷ []); first = s; second = set_of 1 w 1 (λ c x y. b0) }
+
+-- the plane after Gabor, with weights 1/2 and 1/4
+abbrev pub grey_blurred : List Float → List Float
+grey_blurred s = (band_outcome (grey_of (length s) (with_gabor (gabor_of 1 (first_only one_half one_quarter)) no_settings) s) 0).state.second
+
+-- and after step 1, with sigma 2 and scale 1
+abbrev pub grey_stepped : List Float → List Float
+grey_stepped s =
+    (band_outcome (grey_of (length s) (with_epf (epf_of 1 (b1 ∷ nan ∷ nan ∷ []) (epf_sigma_of b0 b0 b0 b1) b0) no_settings) s) 0).state.second
 
 -- ---- one group across and two down, each of 128 × 128 blocks; the upper one has a grid of one column, the lower one has none
 
@@ -240,10 +260,15 @@ pub record Table : Type 0 where
   pub nan_sigma : NanSigma
   -- group row 0 has grids, row 1 has none: block row 127 has its cell, block row 128 has `sigma_for_modular`
   pub missing_grid : (grids : List Float) (modular : Float) → (block_row grids modular 127 ≡ get_or grids 127 nan) × (block_row grids modular 128 ≡ modular)
+  -- one plane, where the other channels have weights and scales of NaN: the impulse on a single row again; and step 1 with sigma 2, M 1 and scale 1
+  pub grey_weights : grey_blurred (b0 ∷ b16 ∷ b0 ∷ []) ≡ b4 ∷ b8 ∷ b4 ∷ []
+  pub grey_scale : grey_stepped (b0 ∷ one_quarter ∷ []) ≡ bits 0x3c94_9423 ∷ bits 0x3e6d_6d7c ∷ []
   -- band 0 twice: 10; advance with band 1 missing: 11
-  pub band_once : (band_outcome 3 begun 0).number ≡ 0
-  pub band_twice : (band_outcome 3 band_zero 0).number ≡ 10
+  pub band_once : (band_outcome begun 0).number ≡ 0
+  pub band_twice : (band_outcome band_zero 0).number ≡ 10
   pub band_missing : (advance_outcome band_zero.run).number ≡ 11
+  -- two bands are left at first, then one
+  pub bands_left_at : (begun.run.bands_left ≡ 2) × (band_zero.run.bands_left ≡ 1)
   -- sigma 1 does not copy
   pub not_copied : copied b1 standard_limit ≡ false
   -- a NaN sigma filters; copying would give −0 1, inf 1 and NaN 1

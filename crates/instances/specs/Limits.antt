@@ -27,7 +27,7 @@ use Rattle.run_passes.specs.declared.MarginAnswer.{MarginAnswer}
 use Rattle.run_passes.specs.Plan.{margin_outcome}
 use Rattle.run_passes.specs.Makers.{gabor_of, with_gabor, with_iters}
 use Rattle.run_setup.specs.declared.Setup.{Setup}
-use Rattle.run_setup.specs.Makers.{with_regions, with_full, with_settings, with_band_height}
+use Rattle.run_setup.specs.Makers.{with_planes, with_regions, with_full, with_settings, with_band_height}
 use Rattle.run_record.specs.declared.Run.{Run}
 use Rattle.run_record.specs.Record.{started, over_checks}
 use Rattle.run_outcomes.specs.Start.{Handed, start_checks, start_outcome}
@@ -81,6 +81,10 @@ setup_with image filter full gabor iters height =
 abbrev pub record_number : ℕ → ℕ → ℕ → ℕ → ℕ
 record_number w h iters height = (advance_outcome (started (setup_with (sides w h) (sides w h) 1 0 iters height))).number
 
+-- the same on a record of so many planes, one sample and no pass
+abbrev pub planes_number : ℕ → ℕ
+planes_number n = (advance_outcome (started (with_planes n (setup_with (sides 1 1) (sides 1 1) 1 1 0 1)))).number
+
 -- ---- lengths that depend on the record: 7 if its sides are in range, otherwise 9
 
 -- three planes of one sample
@@ -89,15 +93,15 @@ single = b0 ∷ b0 ∷ b0 ∷ []
 
 -- a band with an image of w × h samples, both sets empty
 abbrev pub sets_number : ℕ → ℕ → ℕ
-sets_number w h = (band_outcome 3 (record { run = started (setup_with (sides w h) (sides 1 1) 1 0 0 1); sigmas = []; first = []; second = [] }) 0).number
+sets_number w h = (band_outcome (record { run = started (setup_with (sides w h) (sides 1 1) 1 0 0 1); sigmas = []; first = []; second = [] }) 0).number
 
 -- a band with a filter region of w × h samples, no block sigmas
 abbrev pub no_sigmas_number : ℕ → ℕ → ℕ
-no_sigmas_number w h = (band_outcome 3 (record { run = started (setup_with (sides 1 1) (sides w h) 1 0 1 1); sigmas = []; first = single; second = single }) 0).number
+no_sigmas_number w h = (band_outcome (record { run = started (setup_with (sides 1 1) (sides w h) 1 0 1 1); sigmas = []; first = single; second = single }) 0).number
 
 -- the result of a filter region of w × h samples, with an empty slice
 abbrev pub slice_number : ℕ → ℕ → ℕ
-slice_number w h = (result_outcome 3 (started (setup_with (sides 1 1) (sides w h) 0 0 0 1)) single single []).number
+slice_number w h = (result_outcome (started (setup_with (sides 1 1) (sides w h) 0 0 0 1)) single single []).number
 
 -- ---- an image of 16 × 8 samples, a filter region of 8 × 8 in it, and one group with a grid of one cell
 
@@ -110,7 +114,7 @@ planes_of = replicate 384 b0
 -- start, with the filter region's left, both flags and the group's presence
 abbrev pub start_number : ℕ → ℕ → ℕ → ℕ → ℕ
 start_number left full gabor presence =
-    (start_outcome 3 (record {
+    (start_outcome (record {
       setup = setup_with (sides 16 8) (eight_from left) full gabor 1 8;
       frame = record { width = 16; height = 8; upsampling = 1; lf_level = 0; group_size_shift = 0 };
       table = presence ∷ 1 ∷ 1 ∷ [];
@@ -123,7 +127,7 @@ start_number left full gabor presence =
 -- a step, with its number, the filter region's left and `preserve_outside`
 abbrev pub step_number : ℕ → ℕ → ℕ → ℕ
 step_number step left full =
-    (epf_outcome (sides 16 8) (eight_from left) full (record { step = step; channel_scale = single; multiplier = b1; border_sad_mul = b1 }) (b1 ∷ []) 0 8 planes_of planes_of).number
+    (epf_outcome (sides 16 8) (eight_from left) 3 full (record { step = step; channel_scale = single; multiplier = b1; border_sad_mul = b1 }) (b1 ∷ []) 0 8 planes_of planes_of).number
 
 -- block sigmas, with the block's column, whether the EPF is on, and the group's presence
 abbrev pub sigmas_number : ℕ → ℕ → ℕ → ℕ
@@ -133,9 +137,9 @@ sigmas_number left on presence =
 
 -- ---- cut files
 
--- the length of the file of the first n of these regions, then regions of one position
-abbrev pub cut_number : ℕ → List Region → ℕ
-cut_number n rs = (length_outcome (record { count = n; regions = rs ++ replicate 64 (sides 1 1) })).number
+-- the length of the file of the first n of these regions, then regions of one position, with a number of planes
+abbrev pub cut_number : ℕ → ℕ → List Region → ℕ
+cut_number planes n rs = (length_outcome (record { count = n; regions = rs ++ replicate 64 (sides 1 1) }) planes).number
 
 -- ---- the margin, with Gabor's flag and the iterations
 
@@ -148,7 +152,7 @@ margin_of gabor iters = margin_outcome (settings_of gabor iters)
 -- ---- the loupe, with Gabor on and three iterations: a margin of 7
 
 abbrev pub widened_of : Region → Region → RegionAnswer
-widened_of whole wanted = widened_outcome (record { whole = whole; wanted = wanted; settings = settings_of 1 3 })
+widened_of whole wanted = widened_outcome (record { whole = whole; wanted = wanted; planes = 3; settings = settings_of 1 3 })
 
 -- two positions of the top row
 abbrev pub two_from : ℕ → Region
@@ -158,8 +162,8 @@ two_from left = record { left = pos left; top = pos 0; width = 2; height = 1 }
 -- the lengths of each set, of the block sigmas and of the result slice
 abbrev pub loupe_number : ℕ → ℕ → ℕ → ℕ → ℕ → ℕ → ℕ
 loupe_number left gabor iters set sigmas out =
-    (loupe_outcome 3 (record {
-      setup = record { whole = sides 16 8; wanted = two_from left; settings = settings_of gabor iters };
+    (loupe_outcome (record {
+      setup = record { whole = sides 16 8; wanted = two_from left; planes = 3; settings = settings_of gabor iters };
       frame = record { width = 16; height = 8; upsampling = 1; lf_level = 0; group_size_shift = 0 };
       table = 1 ∷ 1 ∷ 1 ∷ [];
       grids = b1 ∷ [];
@@ -218,6 +222,9 @@ pub record Limits : Type 0 where
   -- records: sides and area as above, iterations to 3, band heights 1 to 16,384, bands to 256
   pub record_side : (record_number 16384 1 1 1 ≡ 11) × (record_number 16385 1 1 1 ≡ 9)
   pub record_area : (record_number 4096 4096 1 64 ≡ 11) × (record_number 1549 10831 1 64 ≡ 9)
+  -- planes: one or three
+  pub planes_one : (planes_number 1 ≡ 11) × (planes_number 0 ≡ 9) × (planes_number 2 ≡ 9)
+  pub planes_three : (planes_number 3 ≡ 11) × (planes_number 4 ≡ 9)
   pub iterations : (record_number 1 1 3 1 ≡ 11) × (record_number 1 1 4 1 ≡ 9)
   pub band_height_of : (record_number 1 1 1 16384 ≡ 11) × (record_number 1 1 1 16385 ≡ 9)
   pub band_least : (record_number 1 1 1 1 ≡ 11) × (record_number 1 1 1 0 ≡ 9)
@@ -268,32 +275,35 @@ pub record Limits : Type 0 where
       ≡ record { number = 0; region = record { left = pos 8; top = pos 16; width = 17; height = 64 } }
   -- zeros beside a refusal; with Gabor alone, a left of −1,048,577 before the intersection is not refused
   pub widened_refused : widened_of (eight_from 0) (two_from 7) ≡ record { number = 15; region = zero_region }
-  pub widened_past : (widened_outcome (record { whole = square (negsuc 1048575) 8; wanted = square (negsuc 1048575) 1; settings = settings_of 1 0 })).number ≡ 0
+  pub widened_past : (widened_outcome (record { whole = square (negsuc 1048575) 8; wanted = square (negsuc 1048575) 1; planes = 3; settings = settings_of 1 0 })).number ≡ 0
   -- with one iteration columns 0 and 1 need 4 × 3 samples in one block, columns 6 and 7 need 10 × 3 in two, of which the grid has one. Each check
   -- is hidden only by the settings that it is computed from.
   pub loupe_sets : (loupe_number 0 0 1 36 1 6 ≡ 0) × (loupe_number 0 0 1 35 1 6 ≡ 7) × (loupe_number 0 0 4 35 1 6 ≡ 9) × (loupe_number 0 2 1 35 1 6 ≡ 9)
   pub loupe_sigmas : (loupe_number 0 0 1 36 2 6 ≡ 7) × (loupe_number 0 0 4 36 2 6 ≡ 9) × (loupe_number 0 2 1 36 2 6 ≡ 9) × (loupe_number 0 2 0 36 1 6 ≡ 7) × (loupe_number 0 2 0 36 0 6 ≡ 9)
   pub loupe_slice : (loupe_number 0 0 1 36 1 5 ≡ 7) × (loupe_number 0 0 4 36 1 5 ≡ 7) × (loupe_number 0 2 1 36 1 5 ≡ 7)
   pub loupe_held : (loupe_number 6 0 1 90 2 6 ≡ 8) × (loupe_number 6 0 4 90 2 6 ≡ 9) × (loupe_number 6 2 1 90 2 6 ≡ 9)
-  -- cut files: 16,777,216 bytes, of which the first is wrong; 1 to 64 rectangles; the longest file and one of four bytes more
+  -- cut files: 16,777,216 bytes, of which the first is wrong; 1 to 64 rectangles; the longest file of three planes and of one, and one of four
+  -- bytes more; 1 and 3 planes
   pub cut_bytes_most : (s : List ℕ) → length s ≡ 16777216 → get_or s 0 0 ≡ 0 → (count_outcome s).number ≡ 12
   pub cut_bytes_past : (s : List ℕ) → length s ≡ 16777217 → (count_outcome s).number ≡ 7
-  pub cut_least : Limit (λ n. cut_number n []) 1 0 12
-  pub cut_most : Limit (λ n. cut_number n []) 64 65 12
-  pub cut_longest : Limit (cut_number 3) (sides 1024 1365 ∷ sides 335 1 ∷ []) (sides 1024 1365 ∷ sides 336 1 ∷ []) 7
+  pub cut_least : Limit (λ n. cut_number 3 n []) 1 0 12
+  pub cut_most : Limit (λ n. cut_number 3 n []) 64 65 12
+  pub cut_longest : Limit (cut_number 3 3) (sides 1024 1365 ∷ sides 335 1 ∷ []) (sides 1024 1365 ∷ sides 336 1 ∷ []) 7
+  pub cut_grey_longest : Limit (cut_number 1 2) (sides 4096 1023 ∷ sides 4086 1 ∷ []) (sides 4096 1023 ∷ sides 4087 1 ∷ []) 7
+  pub cut_planes : (cut_number 0 1 [] ≡ 9) × (cut_number 1 1 [] ≡ 0) × (cut_number 2 1 [] ≡ 9) × (cut_number 3 1 [] ≡ 0) × (cut_number 4 1 [] ≡ 9)
   -- an LF level divides sides by 8: 1,000, 125 and 16 samples
   pub levels : (columns_at 0 ≡ 1000) × (columns_at 1 ≡ 125) × (columns_at 2 ≡ 16)
   -- the numbers of the tables, in their order: where more than one check applies, the number of the first is returned (Specification 3.2)
-  pub start_numbers : (h : Handed) → numbers_of (start_checks 3 h) ≡ 4 ∷ 4 ∷ 4 ∷ 5 ∷ 6 ∷ 7 ∷ 7 ∷ 7 ∷ 7 ∷ 8 ∷ 9 ∷ 9 ∷ 9 ∷ 9 ∷ 9 ∷ 9 ∷ 9 ∷ []
-  pub band_numbers : (t : State) (k : ℕ) → numbers_of (band_checks 3 t k) ≡ 7 ∷ 7 ∷ 9 ∷ 10 ∷ []
+  pub start_numbers : (h : Handed) → numbers_of (start_checks h) ≡ 4 ∷ 4 ∷ 4 ∷ 5 ∷ 6 ∷ 7 ∷ 7 ∷ 7 ∷ 7 ∷ 8 ∷ 9 ∷ 9 ∷ 9 ∷ 9 ∷ 9 ∷ 9 ∷ 9 ∷ 9 ∷ []
+  pub band_numbers : (t : State) (k : ℕ) → numbers_of (band_checks t k) ≡ 7 ∷ 7 ∷ 9 ∷ 10 ∷ []
   pub advance_numbers : (r : Run) → numbers_of (over_checks r) ≡ 9 ∷ 11 ∷ []
-  pub result_numbers : (r : Run) (first second out : List Float) → numbers_of (result_checks 3 r first second out) ≡ 7 ∷ 7 ∷ 9 ∷ 11 ∷ []
+  pub result_numbers : (r : Run) (first second out : List Float) → numbers_of (result_checks r first second out) ≡ 7 ∷ 7 ∷ 9 ∷ 11 ∷ []
   pub sigma_numbers : (on : ℕ) (f : Frame) (b : Blocks) (t : List ℕ) (grids : List Float) (n : ℕ)
       → numbers_of (sigma_checks on f b t grids n) ≡ 4 ∷ 4 ∷ 4 ∷ 7 ∷ 7 ∷ 7 ∷ 8 ∷ 9 ∷ 9 ∷ 9 ∷ []
-  pub pass_numbers : (image filter : Region) (full from to : ℕ) (src dst : List Float) → numbers_of (pass_checks image filter full 3 from to src dst) ≡ 4 ∷ 5 ∷ 7 ∷ 9 ∷ 9 ∷ []
-  pub epf_numbers : (image filter : Region) (full : ℕ) (s : EpfStep) (sigmas : List Float) (from to : ℕ) (src dst : List Float)
-      → numbers_of (epf_checks image filter full s sigmas from to src dst) ≡ 4 ∷ 5 ∷ 6 ∷ 7 ∷ 9 ∷ 9 ∷ 9 ∷ []
-  pub widened_numbers : (s : LoupeSetup) → numbers_of (widened_checks s) ≡ 4 ∷ 15 ∷ 6 ∷ 9 ∷ 9 ∷ []
-  pub loupe_numbers : (h : LoupeHanded) → numbers_of (loupe_checks 3 h) ≡ 4 ∷ 4 ∷ 4 ∷ 15 ∷ 6 ∷ 7 ∷ 7 ∷ 7 ∷ 7 ∷ 7 ∷ 8 ∷ 9 ∷ 9 ∷ 9 ∷ 9 ∷ []
+  pub pass_numbers : (image filter : Region) (n full from to : ℕ) (src dst : List Float) → numbers_of (pass_checks image filter n full from to src dst) ≡ 4 ∷ 5 ∷ 7 ∷ 9 ∷ 9 ∷ 9 ∷ []
+  pub epf_numbers : (image filter : Region) (n full : ℕ) (s : EpfStep) (sigmas : List Float) (from to : ℕ) (src dst : List Float)
+      → numbers_of (epf_checks image filter n full s sigmas from to src dst) ≡ 4 ∷ 5 ∷ 6 ∷ 7 ∷ 7 ∷ 9 ∷ 9 ∷ 9 ∷ 9 ∷ []
+  pub widened_numbers : (s : LoupeSetup) → numbers_of (widened_checks s) ≡ 4 ∷ 15 ∷ 6 ∷ 9 ∷ 9 ∷ 9 ∷ []
+  pub loupe_numbers : (h : LoupeHanded) → numbers_of (loupe_checks h) ≡ 4 ∷ 4 ∷ 4 ∷ 15 ∷ 6 ∷ 7 ∷ 7 ∷ 7 ∷ 7 ∷ 7 ∷ 8 ∷ 9 ∷ 9 ∷ 9 ∷ 9 ∷ 9 ∷ []
   pub read_numbers : (s : List ℕ) (k n : ℕ) → count_in s ≡ 1 → numbers_of (read_checks s k n) ≡ 7 ∷ 14 ∷ 12 ∷ 14 ∷ 12 ∷ 14 ∷ 13 ∷ 14 ∷ 9 ∷ 7 ∷ []
-  pub write_numbers : (t : CutTable) (samples file : ℕ) → numbers_of (write_checks t samples file) ≡ 12 ∷ 4 ∷ 7 ∷ 7 ∷ 7 ∷ []
+  pub write_numbers : (planes : ℕ) (t : CutTable) (samples file : ℕ) → numbers_of (write_checks planes t samples file) ≡ 12 ∷ 4 ∷ 7 ∷ 7 ∷ 7 ∷ 7 ∷ 9 ∷ []

@@ -1,14 +1,14 @@
--- The number of the checks before the start of the run, from those of `loupe_widened` and `groups_number`. Assumes nothing.
+-- The number of the checks before the start of the run, from those of `widened_rectangle` and `groups_number`. Assumes nothing.
 use mathlib.Core.Path.{◌≡◌, refl, sym, ap, ◌∙◌}
 use mathlib.Core.Bool.{Bool, true, false, cond, not, ◌&&◌, ◌||◌}
 use mathlib.Core.List.{List, [], ◌∷◌}
 use Prim.Native.Nat.{ℕ}
-use borrow.Author.Tests.{eq-eqb, ne_eqb}
+use borrow.Author.Tests.{eq-eqb}
 use lib.Dec.{T, eqb}
 use lib.Ieee.{Float}
 use lib.Ieee.Fits.{and_l, and_r}
 use Rattle.refusals.specs.Numbers.{wrong_length}
-use Rattle.refusals.specs.Checks.{Check, always, applies, first_of}
+use Rattle.refusals.specs.Checks.{Check, given, applies, first_of}
 use Rattle.refusals.proofs.Tables.{is_true, met}
 use Rattle.refusals.proofs.Rows.{found, after, first-number, none, keep, drop, same_number}
 use Rattle.region.specs.Measures.{picture_fits, rectangle_fits}
@@ -17,8 +17,9 @@ use Rattle.sigma_groups.specs.Outcome.{frame_sides, grid_sides, table_length, gr
 use Rattle.run_passes.specs.Plan.{gabor_fits, iterations_fit, margin_checks}
 use Rattle.loupe_region.specs.declared.LoupeSetup.{LoupeSetup}
 use Rattle.loupe_region.specs.Fits.{WantedFits}
-use Rattle.loupe_region.specs.Outcome.{regions_in_limits, wanted_inside, whole_on_blocks, widened_checks}
+use Rattle.loupe_region.specs.Outcome.{regions_in_limits, wanted_inside, whole_on_blocks, rectangle_checks}
 use Rattle.loupe_region.proofs.Laws.{wanted-of, accepted-gabor, accepted-iterations}
+use Rattle.planes.specs.Band.{planes_fit}
 use Rattle.loupe.specs.Outcome.{wanted_length, margin_fits}
 use Rattle.loupe.specs.Pieces.{groups_checks, settings_number, unknown_checks, early_checks}
 
@@ -77,24 +78,24 @@ wanted-passed s e f =
 
 -- ---- the parts of `early_number`
 
-module _ (n : ℕ) (s : LoupeSetup) (f : Frame) (t : List ℕ) (grids : List Float) (sigmas out : ℕ) (place : ℕ) (is-place : place ≡ first_of (widened_checks s)) where
+module _ (s : LoupeSetup) (f : Frame) (t : List ℕ) (grids : List Float) (sigmas out : ℕ) (place : ℕ) (is-place : place ≡ first_of (rectangle_checks s)) where
   abbrev checks : List Check
-  checks = early_checks n s f t grids sigmas out
+  checks = early_checks s f t grids sigmas out
 
   abbrev Number : ℕ → Type 0
   Number k = k ≡ first_of checks
 
   pub in-limits : place ≡ 4 → Number 4
-  unfolding widened_checks margin_checks early_checks
+  unfolding rectangle_checks margin_checks early_checks
   in-limits e = sym (first-number checks (regions_in_limits s) (found (head-applies (regions_in_limits s) (wanted_inside s ∷ whole_on_blocks s ∷ margin_checks s.settings) tt (sym is-place ∙ e))))
 
   module _ (not-4 : place ≡ 4 → ⊥) (groups : ℕ) (is-groups : groups ≡ first_of (groups_checks f t grids)) where
     regions : applies (regions_in_limits s) ≡ false
-    unfolding widened_checks
+    unfolding rectangle_checks
     regions = head_passed (regions_in_limits s) (wanted_inside s ∷ whole_on_blocks s ∷ margin_checks s.settings) (λ e. not-4 (is-place ∙ e))
 
     next : place ≡ first_of (wanted_inside s ∷ whole_on_blocks s ∷ margin_checks s.settings)
-    unfolding widened_checks
+    unfolding rectangle_checks
     next = is-place ∙ tail-number (regions_in_limits s) (wanted_inside s ∷ whole_on_blocks s ∷ margin_checks s.settings) regions
 
     pub groups-in-limits : groups ≡ 4 → Number 4
@@ -146,22 +147,20 @@ module _ (n : ℕ) (s : LoupeSetup) (f : Frame) (t : List ℕ) (grids : List Flo
           last = then ∙ tail-number (whole_on_blocks s) (margin_checks s.settings) blocks
 
           abbrev slice : Check
-          slice = always wrong_length (not (eqb out (wanted_length n s)))
+          slice = given (planes_fit s.planes) wrong_length (not (eqb out (wanted_length s)))
 
-          pub wrong-slice : (out ≡ wanted_length n s → ⊥) → Number 7
+          pub wrong-slice : applies slice ≡ true → Number 7
           unfolding early_checks
-          wrong-slice e =
-              let wrong : applies slice ≡ true = rw (ne_eqb out (wanted_length n s) e) in
+          wrong-slice wrong =
               sym (first-number checks slice (after regions (after sides (after grid-sides (after held (after blocks (found wrong)))))))
 
-          module _ (is_Slice : out ≡ wanted_length n s) where
+          module _ (right : applies slice ≡ false) where
             abbrev unknown : List Check
             unknown = unknown_checks s f t grids sigmas
 
             rest : first_of checks ≡ first_of unknown
             unfolding early_checks
             rest =
-                let right : applies slice ≡ false = rw (eq-eqb out (wanted_length n s) is_Slice) in
                 same_number checks unknown (drop regions (drop sides (drop grid-sides (drop held (drop blocks (drop right (keep (keep (keep (keep none))))))))))
 
             pub early-accepted : place ≡ 0 → Number 0

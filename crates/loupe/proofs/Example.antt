@@ -28,7 +28,7 @@ use Rattle.loupe.specs.Whole.{PartOf}
 use Rattle.loupe.specs.Example.{handed, LoupePremisesMet}
 
 module _ (g : Given) where
-  accepted : (loupe_outcome 3 (handed g)).number ≡ 0
+  accepted : (loupe_outcome (handed g)).number ≡ 0
   unfolding loupe_outcome loupe_checks widened region_of step_margin picture_fits rectangle_fits bounds_fit corner_fits side_fits inside bad_sides bad_settings sizes_of table_fits grids_fit grid_start cells some_below bad_grid some_not_held not_held grid_lacks_block layout_of set_of tab
   accepted = refl
 
@@ -49,7 +49,7 @@ module _ (g : Given) where
     unfolding widened region_of step_margin
     lower = offsets-add (pos 8) (pos 0) y tt held.row.from
 
-    inputs : (c : ℕ) → c < 3 → input_at 3 (as_run (handed g)) c x y ≡ input_at 3 (larger g) c x y
+    inputs : (c : ℕ) → c < 3 → input_at (as_run (handed g)) c x y ≡ input_at (larger g) c x y
     unfolding widened region_of step_margin start_leaves inner layout_of
     inputs c h =
         let e : 9 + (0 + nat_abs (x -ℤ pos 8)) ≡ 1 + nat_abs (x -ℤ pos 0) = omega (arith, further) in
@@ -57,7 +57,7 @@ module _ (g : Given) where
         of-set_of 3 8 8 _ c (0 + nat_abs (x -ℤ pos 8)) (0 + nat_abs (y -ℤ pos 8)) h (omega (arith, column)) (omega (arith, row))
         ∙ rw (e, f) (sym (of-set_of 3 26 26 g.picture c (1 + nat_abs (x -ℤ pos 0)) (1 + nat_abs (y -ℤ pos 0)) h (omega (arith, column, further)) (omega (arith, row, lower))))
 
-  part : PartOf 3 (handed g) (larger g)
+  part : PartOf (handed g) (larger g)
   part = record {
     unrefused = (promises.four-edges-met g).cut-from-larger.unrefused;
     same-region = refl;

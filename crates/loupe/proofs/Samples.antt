@@ -24,8 +24,8 @@ use Rattle.run_passes.specs.declared.Settings.{Settings}
 use Rattle.run_passes.specs.Plan.{margin}
 use Rattle.run_setup.specs.declared.Setup.{Setup}
 use Rattle.run_setup.specs.Makers.{setup_with}
-use Rattle.run_setup.specs.Setup.{layout, band_count}
-use Rattle.run_record.specs.Record.{pass_count, finished}
+use Rattle.run_setup.specs.Setup.{pass_count, layout, band_count}
+use Rattle.run_record.specs.Record.{finished}
 use Rattle.run_outcomes.specs.Start.{Handed}
 use Rattle.run_outcomes.specs.Band.{State, source}
 use Rattle.run_outcomes.specs.Result.{ResultOutcome, result_of}
@@ -41,11 +41,11 @@ use Rattle.loupe.specs.Whole.{PartOf}
 use Rattle.loupe.proofs.Passes.{After, unrefused, after-passes, ended}
 
 -- the largest band height: one band
-pub one-band : (image filter : Region) (settings : Settings) → T (picture_fits filter) → band_count (setup_with image filter 0 settings all_rows) ≡ 1
+pub one-band : (image filter : Region) (planes : ℕ) (settings : Settings) → T (picture_fits filter) → band_count (setup_with image filter planes 0 settings all_rows) ≡ 1
 unfolding band_count layout_of
-one-band image filter settings t = omega (arith, picture-height filter t, bounds-height filter (picture-bounds filter t))
+one-band image filter planes settings t = omega (arith, picture-height filter t, bounds-height filter (picture-bounds filter t))
 
-module _ (n : ℕ) (h : LoupeHanded) (w : WantedFits h.setup.whole h.setup.wanted) (accepted : StartAccepted n (as_run h)) where
+module _ (h : LoupeHanded) (w : WantedFits h.setup.whole h.setup.wanted) (accepted : StartAccepted (as_run h)) where
   abbrev s : Setup
   s = run_setup_of h.setup
 
@@ -53,64 +53,64 @@ module _ (n : ℕ) (h : LoupeHanded) (w : WantedFits h.setup.whole h.setup.wante
   r = widened_region h.setup
 
   abbrev final : State
-  final = final_state n h
+  final = final_state h
 
   fits : T (picture_fits r)
   fits = widened-fits (margin h.setup.settings) h.setup.whole h.setup.wanted w
 
-  pub after : After n (as_run h) accepted (pass_count s) final
-  after = after-passes n (as_run h) accepted (one-band r r h.setup.settings fits) (pass_count s) (omega arith)
+  pub after : After (as_run h) accepted (pass_count s) final
+  after = after-passes (as_run h) accepted (one-band r r h.setup.planes h.setup.settings fits) (pass_count s) (omega arith)
 
   done : T (finished final.run)
-  done = ended n (as_run h) accepted (one-band r r h.setup.settings fits) final after
+  done = ended (as_run h) accepted (one-band r r h.setup.planes h.setup.settings fits) final after
 
   -- ---- the result call on the state after all passes, with a slice of its length
 
   slice : List Float
-  slice = set_of n r.width r.height (λ c x y. b0)
+  slice = set_of h.setup.planes r.width r.height (λ c x y. b0)
 
-  room : length slice ≡ n * r.height * r.width
+  room : length slice ≡ h.setup.planes * r.height * r.width
   unfolding slice
-  room = length-set_of n r.width r.height (λ c x y. b0)
+  room = length-set_of h.setup.planes r.width r.height (λ c x y. b0)
 
   abbrev result : ResultOutcome
-  result = result_on n final slice
+  result = result_on final slice
 
-  copied : result.out ≡ result_of n (layout s) (source final)
-  copied = (promises.result-at-state n (as_run h) accepted final after.reached done slice room).1
+  copied : result.out ≡ result_of h.setup.planes (layout s) (source final)
+  copied = (promises.result-at-state (as_run h) accepted final after.reached done slice room).1
 
-  delivers : (large : Handed) → CutFrom n (as_run h) large → Delivers n (as_run h) large result
-  delivers large from = promises.rectangle-theorem-at n (as_run h) large accepted from final after.reached done slice room
+  delivers : (large : Handed) → CutFrom (as_run h) large → Delivers (as_run h) large result
+  delivers large from = promises.rectangle-theorem-at (as_run h) large accepted from final after.reached done slice room
 
-  itself : CutFrom n (as_run h) (as_run h)
-  itself = record { unrefused = unrefused n (as_run h) accepted; contained = inside-itself r; same-passes = refl; inputs-agree = λ c x y p q. refl; sigmas-alike = λ on x y q. refl }
+  itself : CutFrom (as_run h) (as_run h)
+  itself = record { unrefused = unrefused (as_run h) accepted; contained = inside-itself r; same-passes = refl; inputs-agree = λ c x y p q. refl; sigmas-alike = λ on x y q. refl }
 
   no_cut : (x y : ℤ) → Clear (margin h.setup.settings) r r x y
   no_cut x y = record { left = λ f. absurd (f refl); right = λ f. absurd (f refl); top = λ f. absurd (f refl); bottom = λ f. absurd (f refl) }
 
-  own : (c : ℕ) (x y : ℤ) → c < n → Holds r x y → result_at s result.out c x y ≡ sample_at n (as_run h) c x y
+  own : (c : ℕ) (x y : ℤ) → c < h.setup.planes → Holds r x y → result_at s result.out c x y ≡ sample_at (as_run h) c x y
   own c x y p held = (delivers (as_run h) itself).samples c x y p held (no_cut x y)
 
   -- ---- the set
 
-  pub set-sample : (c x y : ℕ) → c < n → x < r.width → y < r.height → of r.width r.height (source final) c x y ≡ smoothed n (as_run h) c x y
+  pub set-sample : (c x y : ℕ) → c < h.setup.planes → x < r.width → y < r.height → of r.width r.height (source final) c x y ≡ smoothed (as_run h) c x y
   unfolding result_of layout_of
   set-sample c x y p q k =
-      let e : of r.width r.height result.out c x y ≡ smoothed n (as_run h) c x y =
+      let e : of r.width r.height result.out c x y ≡ smoothed (as_run h) c x y =
       rw (nth-offset r.left x, nth-offset r.top y) at (own c (r.left +ℤ pos x) (r.top +ℤ pos y) p (nth-holds r x y q k)) in
       let a : nat_abs (r.left -ℤ r.left) + x ≡ x = omega (arith, start-offset r.left) in
       let b : nat_abs (r.top -ℤ r.top) + y ≡ y = omega (arith, start-offset r.top) in
       let f : of r.width r.height result.out c x y ≡ of r.width r.height (source final) c x y =
       ap (λ (l : List Float). of r.width r.height l c x y) copied
-      ∙ of-set_of n r.width r.height _ c x y p q k
+      ∙ of-set_of h.setup.planes r.width r.height _ c x y p q k
       ∙ rw (a, b) in
       sym f ∙ e
 
   -- ---- the whole picture's samples
 
-  module _ (whole : Handed) (part : PartOf n h whole) where
-    from : CutFrom n (as_run h) whole
-    from = promises.sources-give-sigmas n (as_run h) whole (unrefused n (as_run h) accepted) (record {
+  module _ (whole : Handed) (part : PartOf h whole) where
+    from : CutFrom (as_run h) whole
+    from = promises.sources-give-sigmas (as_run h) whole (unrefused (as_run h) accepted) (record {
       unrefused = part.unrefused;
       contained = rw part.same-region (widened-inside (margin h.setup.settings) h.setup.whole h.setup.wanted w);
       same-passes = part.same-passes;
@@ -135,7 +135,7 @@ module _ (n : ℕ) (h : LoupeHanded) (w : WantedFits h.setup.whole h.setup.wante
               (clear-end m (rows h.setup.wanted) (rows h.setup.whole) y held.row (λ e. f (ap (λ (z : Span). z.end) b ∙ e ∙ ap (λ (z : Region). (rows z).end) g)));
         }
 
-    pub whole-sample : (c : ℕ) (x y : ℤ) → c < n → Holds h.setup.wanted x y → sample_at n (as_run h) c x y ≡ sample_at n whole c x y
+    pub whole-sample : (c : ℕ) (x y : ℤ) → c < h.setup.planes → Holds h.setup.wanted x y → sample_at (as_run h) c x y ≡ sample_at whole c x y
     whole-sample c x y p held =
         let inner = holds-in-larger r h.setup.wanted (wanted-in-widened (margin h.setup.settings) h.setup.whole h.setup.wanted w) x y held in
         sym (own c x y p inner) ∙ (delivers whole from).samples c x y p inner (clear x y held)

@@ -17,7 +17,7 @@ square left side = record { left = pos left; top = pos left; width = side; heigh
 -- first set has 8 to 15.
 abbrev pub handed : Given → LoupeHanded
 handed g = record {
-  setup = record { whole = square 0 24; wanted = square 11 2; settings = (larger g).setup.settings };
+  setup = record { whole = square 0 24; wanted = square 11 2; planes = 3; settings = (larger g).setup.settings };
   frame = (larger g).frame;
   table = (larger g).table;
   grids = (larger g).grids;
@@ -30,4 +30,4 @@ handed g = record {
 -- it is accepted, its arguments show a part of the whole picture, and each edge of the widened rectangle lies inside the whole
 abbrev pub LoupePremisesMet : Type 0
 LoupePremisesMet = (g : Given)
-    → ((loupe_outcome 3 (handed g)).number ≡ 0) × PartOf 3 (handed g) (larger g) × (widened_region (handed g).setup ≡ square 8 8)
+    → ((loupe_outcome (handed g)).number ≡ 0) × PartOf (handed g) (larger g) × (widened_region (handed g).setup ≡ square 8 8)

@@ -1,8 +1,9 @@
 -- What `loupe_smooth` checks, returns and writes (Specification 17.4, 17.5). Definitions only.
 use Rattle.std.specs.Prelude.{Bool, cond, not, ◌&&◌, ◌||◌, List, [], ◌∷◌, ℕ, zero, suc, ◌+◌, ◌*◌, eqb, nat_abs, ◌-ℤ◌, length, Float}
 use Rattle.refusals.specs.Numbers.{wrong_length, block_not_held}
-use Rattle.refusals.specs.Checks.{Check, always, given, first_of}
+use Rattle.refusals.specs.Checks.{Check, given, first_of}
 use Rattle.planes.specs.Sets.{set_of}
+use Rattle.planes.specs.Band.{planes_fit}
 use Rattle.frame.specs.declared.Frame.{Frame}
 use Rattle.sigma_groups.specs.Held.{some_not_held}
 use Rattle.sigma_groups.specs.Outcome.{table_read, frame_sides, grid_sides, table_length, grids_length, frame_settings, presences}
@@ -10,9 +11,8 @@ use Rattle.run_passes.specs.declared.Settings.{Settings}
 use Rattle.run_passes.specs.Plan.{gabor_fits, iterations_fit}
 use Rattle.run_setup.specs.declared.Setup.{Setup}
 use Rattle.run_setup.specs.Makers.{setup_with}
-use Rattle.run_setup.specs.Setup.{epf_on, set_length, sigma_length}
-use Rattle.run_record.specs.Record.{pass_count}
-use Rattle.run_outcomes.specs.Start.{Handed, blocks_of, iters_in_range, gabor_in_range}
+use Rattle.run_setup.specs.Setup.{pass_count, epf_on, set_length, sigma_length}
+use Rattle.run_outcomes.specs.Start.{Handed, blocks_of, iters_in_range, planes_in_range, gabor_in_range}
 use Rattle.run_outcomes.specs.Band.{State, band_outcome, advance_outcome}
 use Rattle.run_calls.specs.Calls.{start_state, of_advance, left_by}
 use Rattle.run_calls.specs.Places.{smoothed}
@@ -39,35 +39,35 @@ all_rows = 16384
 
 -- image and filter region alike, with one band
 abbrev pub run_setup_of : LoupeSetup → Setup
-run_setup_of s = setup_with (widened_region s) (widened_region s) 0 s.settings all_rows
+run_setup_of s = setup_with (widened_region s) (widened_region s) s.planes 0 s.settings all_rows
 
 -- the arguments of its start
 abbrev pub as_run : LoupeHanded → Handed
 as_run h = record { setup = run_setup_of h.setup; frame = h.frame; table = h.table; grids = h.grids; first = h.first; second = h.second; sigmas = h.sigmas }
 
 -- a pass: its only band, and an advance
-unfoldable pub after_pass : ℕ → State → State
-after_pass n t = let u = (band_outcome n t 0).state in left_by u (of_advance (advance_outcome u.run))
+unfoldable pub after_pass : State → State
+after_pass t = let u = (band_outcome t 0).state in left_by u (of_advance (advance_outcome u.run))
 
-unfoldable pub after_passes : ℕ → ℕ → State → State
-after_passes n zero t = t
-after_passes n (suc k) t = after_pass n (after_passes n k t)
+unfoldable pub after_passes : ℕ → State → State
+after_passes zero t = t
+after_passes (suc k) t = after_pass (after_passes k t)
 
 -- the state after the start and all passes
-abbrev pub final_state : ℕ → LoupeHanded → State
-final_state n h = after_passes n (pass_count (run_setup_of h.setup)) (start_state n (as_run h))
+abbrev pub final_state : LoupeHanded → State
+final_state h = after_passes (pass_count (run_setup_of h.setup)) (start_state (as_run h))
 
 -- ---- the wanted samples
 
-abbrev pub wanted_length : ℕ → LoupeSetup → ℕ
-wanted_length n s = n * s.wanted.height * s.wanted.width
+abbrev pub wanted_length : LoupeSetup → ℕ
+wanted_length s = s.planes * s.wanted.height * s.wanted.width
 
 -- the wanted rectangle's part of the smoothed samples (Specification 12.3) of the run, plane by plane
-unfoldable pub wanted_samples : ℕ → LoupeHanded → List Float
-wanted_samples n h =
+unfoldable pub wanted_samples : LoupeHanded → List Float
+wanted_samples h =
     let r = h.setup.wanted in
     let w = widened_region h.setup in
-    set_of n r.width r.height (λ c x y. smoothed n (as_run h) c (nat_abs (r.left -ℤ w.left) + x) (nat_abs (r.top -ℤ w.top) + y))
+    set_of h.setup.planes r.width r.height (λ c x y. smoothed (as_run h) c (nat_abs (r.left -ℤ w.left) + x) (nat_abs (r.top -ℤ w.top) + y))
 
 -- ---- the checks, by name: those of `loupe_region`, of `sigma_groups` and these
 
@@ -75,13 +75,13 @@ wanted_samples n h =
 abbrev pub margin_fits : Settings → Bool
 margin_fits s = gabor_fits s && iterations_fit s
 
-abbrev pub slice_length : ℕ → LoupeHanded → Check
-slice_length n h = always wrong_length (not (eqb (length h.out) (wanted_length n h.setup)))
+abbrev pub slice_length : LoupeHanded → Check
+slice_length h = given (planes_fit h.setup.planes) wrong_length (not (eqb (length h.out) (wanted_length h.setup)))
 
-abbrev pub widened_sets : ℕ → LoupeHanded → Check
-widened_sets n h =
-    given (margin_fits h.setup.settings) wrong_length
-    (not (eqb (length h.first) (set_length n (run_setup_of h.setup)) && eqb (length h.second) (set_length n (run_setup_of h.setup))))
+abbrev pub widened_sets : LoupeHanded → Check
+widened_sets h =
+    given (margin_fits h.setup.settings && planes_fit h.setup.planes) wrong_length
+    (not (eqb (length h.first) (set_length (run_setup_of h.setup)) && eqb (length h.second) (set_length (run_setup_of h.setup))))
 
 -- with the EPF off there are no block sigmas, whatever the widened rectangle is
 abbrev pub widened_sigmas : LoupeHanded → Check
@@ -96,27 +96,28 @@ widened_held h =
 
 -- ---- the outcome
 
-unfoldable pub loupe_checks : ℕ → LoupeHanded → List Check
-loupe_checks n h =
+unfoldable pub loupe_checks : LoupeHanded → List Check
+loupe_checks h =
     regions_in_limits h.setup
     ∷ frame_sides h.frame
     ∷ grid_sides h.frame h.table
     ∷ wanted_inside h.setup
     ∷ whole_on_blocks h.setup
-    ∷ slice_length n h
-    ∷ widened_sets n h
+    ∷ slice_length h
+    ∷ widened_sets h
     ∷ table_length h.frame h.table
     ∷ grids_length h.frame h.table h.grids
     ∷ widened_sigmas h
     ∷ widened_held h
     ∷ iters_in_range (run_setup_of h.setup)
+    ∷ planes_in_range (run_setup_of h.setup)
     ∷ frame_settings h.frame
     ∷ presences h.frame h.table
     ∷ gabor_in_range (run_setup_of h.setup)
     ∷ []
 
-abbrev pub loupe_number : ℕ → LoupeHanded → ℕ
-loupe_number n h = first_of (loupe_checks n h)
+abbrev pub loupe_number : LoupeHanded → ℕ
+loupe_number h = first_of (loupe_checks h)
 
 -- the number, and every slice that is written
 pub record LoupeOutcome : Type 0 where
@@ -126,11 +127,11 @@ pub record LoupeOutcome : Type 0 where
   pub sigmas : List Float
   pub out : List Float
 
-abbrev pub loupe_accepted : ℕ → LoupeHanded → LoupeOutcome
-loupe_accepted n h = record { number = 0; first = (final_state n h).first; second = (final_state n h).second; sigmas = (final_state n h).sigmas; out = wanted_samples n h }
+abbrev pub loupe_accepted : LoupeHanded → LoupeOutcome
+loupe_accepted h = record { number = 0; first = (final_state h).first; second = (final_state h).second; sigmas = (final_state h).sigmas; out = wanted_samples h }
 
 abbrev pub loupe_refused : ℕ → LoupeHanded → LoupeOutcome
 loupe_refused k h = record { number = k; first = h.first; second = h.second; sigmas = h.sigmas; out = h.out }
 
-unfoldable pub loupe_outcome : ℕ → LoupeHanded → LoupeOutcome
-loupe_outcome n h = cond (eqb (loupe_number n h) 0) (loupe_accepted n h) (loupe_refused (loupe_number n h) h)
+unfoldable pub loupe_outcome : LoupeHanded → LoupeOutcome
+loupe_outcome h = cond (eqb (loupe_number h) 0) (loupe_accepted h) (loupe_refused (loupe_number h) h)

@@ -4,6 +4,7 @@ use Rattle.std.specs.Prelude.{true, cond, not, ◌&&◌, ◌||◌, List, [], ◌
 use Rattle.refusals.specs.Numbers.{wrong_length, out_of_range}
 use Rattle.refusals.specs.Checks.{Check, always, given}
 use Rattle.region.specs.declared.Region.{Region}
+use Rattle.planes.specs.Band.{planes_fit}
 use Rattle.frame.specs.declared.Frame.{Frame}
 use Rattle.sigma_groups.specs.Outcome.{frame_sides, grid_sides, table_length, grids_length, frame_settings, presences}
 use Rattle.run_passes.specs.Makers.{no_settings}
@@ -38,32 +39,32 @@ unknown_checks s f t grids sigmas =
     ∷ []
 
 -- The checks that `start` does not make. If the margin is unknown, `start` is not called, and these are all the checks.
-unfoldable pub early_checks : ℕ → LoupeSetup → Frame → List ℕ → List Float → ℕ → ℕ → List Check
-early_checks n s f t grids sigmas out =
+unfoldable pub early_checks : LoupeSetup → Frame → List ℕ → List Float → ℕ → ℕ → List Check
+early_checks s f t grids sigmas out =
     regions_in_limits s
     ∷ frame_sides f
     ∷ grid_sides f t
     ∷ wanted_inside s
     ∷ whole_on_blocks s
-    ∷ always wrong_length (not (eqb out (wanted_length n s)))
+    ∷ given (planes_fit s.planes) wrong_length (not (eqb out (wanted_length s)))
     ∷ unknown_checks s f t grids sigmas
 
 -- ---- the copy of the wanted rectangle from a set of the widened one: the result of a run without passes whose filter region it is
 
-abbrev pub copy_setup : Region → Region → Setup
-copy_setup widened wanted = setup_with widened wanted 0 no_settings all_rows
+abbrev pub copy_setup : ℕ → Region → Region → Setup
+copy_setup planes widened wanted = setup_with widened wanted planes 0 no_settings all_rows
 
 abbrev pub copied : ℕ → Region → Region → List Float → List Float → List Float
-copied n widened wanted set out = (result_outcome n (started (copy_setup widened wanted)) set set out).out
+copied planes widened wanted set out = (result_outcome (started (copy_setup planes widened wanted)) set set out).out
 
 -- all passes from state t, and the copy from the set that a next pass would read
-unfoldable pub passed_outcome : ℕ → ℕ → State → Region → Region → List Float → LoupeOutcome
-passed_outcome n passes t widened wanted out =
-    let u = after_passes n passes t in
+unfoldable pub passed_outcome : ℕ → State → Region → Region → List Float → LoupeOutcome
+passed_outcome passes t widened wanted out =
+    let u = after_passes passes t in
     record {
       number = 0;
       first = u.first;
       second = u.second;
       sigmas = u.sigmas;
-      out = copied n widened wanted (cond (eqb (passes % 2) 0) u.first u.second) out;
+      out = copied t.run.setup.planes widened wanted (cond (eqb (passes % 2) 0) u.first u.second) out;
     }

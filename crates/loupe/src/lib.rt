@@ -2,10 +2,11 @@
 // widened rectangle gives the samples; its calls are used by their contracts alone.
 #![tactic(auto)]
 
-ghost use Rattle.std.specs.Prelude.{◌≡◌, ◌*◌, T, eqb, length};
+ghost use Rattle.std.specs.Prelude.{◌≡◌, ◌&&◌, not, ◌*◌, T, eqb, length};
 ghost use Rattle.refusals.specs.Checks.{first_of};
 ghost use Rattle.refusals.specs.Refusals.{number, number_of, IsOutcome};
 ghost use Rattle.region.specs.Measures.{picture_fits};
+ghost use Rattle.planes.specs.Band.{planes_fit};
 ghost use Rattle.run_setup.specs.Makers.{setup_with};
 ghost use Rattle.run_record.specs.Record.{started};
 ghost use Rattle.run_outcomes.specs.Band.{State};
@@ -16,8 +17,8 @@ ghost use Rattle.loupe.specs.Whole.{WholeEqual};
 
 use frame::Frame;
 use limits::MAX_SIDE_U32;
-use loupe_region::{LoupeSetup, loupe_widened};
-use planes::PLANES;
+use loupe_region::{LoupeSetup, widened_rectangle};
+use planes::planes_fit;
 use refusals::Refusal;
 use region::Region;
 use run_advance::advance;
@@ -52,13 +53,17 @@ fn check_groups(frame: Frame, table: &[u32], grids: &[f32]) -> Result<(), Refusa
     check(NO, frame, one_block(), table, grids, 0)
 }
 
+// Whether a slice for the wanted samples has the wrong length; not if the number of planes is out of range.
 // Form: `run_outcomes::set_length` is the same product. Each asks for a size in range, which its callers have tested; one public function for
 // both could ask nothing, and would test it again, as `cut_file::sample_count` does.
-fn wanted_length(wanted: Region) -> usize
+fn wrong_slice(planes: u32, wanted: Region, out: &[f32]) -> bool
     requires { T (picture_fits wanted) }
-    ensures { result ≡ 3 * wanted.height * wanted.width }
+    ensures { result ≡ (planes_fit planes && not (eqb (length out.now) (planes * wanted.height * wanted.width))) }
 {
-    PLANES * wanted.height as usize * wanted.width as usize
+    if !planes_fit(planes) {
+        return false;
+    }
+    out.len() != planes as usize * wanted.height as usize * wanted.width as usize
 }
 
 // Whether a call is refused with this refusal.
@@ -96,10 +101,10 @@ fn checked_place(
     out: &[f32],
 ) -> Result<Region, Refusal>
     ensures { IsOutcome result
-        (first_of (early_checks 3 s frame table.now grids.now (length sigmas.now) (length out.now)))
+        (first_of (early_checks s frame table.now grids.now (length sigmas.now) (length out.now)))
         (widened_region s) }
 {
-    let place = loupe_widened(s);
+    let place = widened_rectangle(s);
     if is_refused(place, Refusal::OutOfLimits) {
         return place;
     }
@@ -113,7 +118,7 @@ fn checked_place(
     if is_refused(place, Refusal::NotOnBlocks) {
         return place;
     }
-    if out.len() != wanted_length(s.wanted) {
+    if wrong_slice(s.planes, s.wanted, out) {
         return Err(Refusal::WrongLength);
     }
     if place.is_ok() {
@@ -123,12 +128,13 @@ fn checked_place(
 }
 
 // A run over the widened rectangle, in one band.
-fn run_setup(widened: Region, filter: Region, settings: Settings) -> Setup
-    ensures { result ≡ setup_with widened filter 0 settings all_rows }
+fn run_setup(widened: Region, filter: Region, planes: u32, settings: Settings) -> Setup
+    ensures { result ≡ setup_with widened filter planes 0 settings all_rows }
 {
     Setup {
         image: widened,
         filter,
+        planes,
         preserve_outside: NO,
         settings,
         band_height: MAX_SIDE_U32,
@@ -143,7 +149,7 @@ fn one_pass(run: &mut Run, sigmas: &[f32], first: &mut [f32], second: &mut [f32]
       sigmas = sigmas.now;
       first = first.new;
       second = second.new;
-    }) (after_pass 3
+    }) (after_pass
         (record { run = run.old; sigmas = sigmas.now; first = first.old; second = second.old })) }
 {
     let _ = band(run, sigmas, first, second, 0);
@@ -158,7 +164,7 @@ fn all_passes(run: &mut Run, passes: u32, sigmas: &[f32], first: &mut [f32], sec
       sigmas = sigmas.now;
       first = first.new;
       second = second.new;
-    }) (after_passes 3 passes
+    }) (after_passes passes
         (record { run = run.old; sigmas = sigmas.now; first = first.old; second = second.old })) }
 {
     for _k in 0..passes {
@@ -167,17 +173,17 @@ fn all_passes(run: &mut Run, passes: u32, sigmas: &[f32], first: &mut [f32], sec
 }
 
 // A run without passes over the widened rectangle: its result is the wanted rectangle of a set.
-fn copy_run(widened: Region, wanted: Region) -> Run
-    ensures { result ≡ started (copy_setup widened wanted) }
+fn copy_run(planes: u32, widened: Region, wanted: Region) -> Run
+    ensures { result ≡ started (copy_setup planes widened wanted) }
 {
-    Run::started(run_setup(widened, wanted, Settings::default()))
+    Run::started(run_setup(widened, wanted, planes, Settings::default()))
 }
 
 // Copies the wanted rectangle from a set of the widened one.
-fn copy_wanted(widened: Region, wanted: Region, set: &[f32], out: &mut [f32])
-    ensures { out.new ≡ copied 3 widened wanted set.now out.old }
+fn copy_wanted(planes: u32, widened: Region, wanted: Region, set: &[f32], out: &mut [f32])
+    ensures { out.new ≡ copied planes widened wanted set.now out.old }
 {
-    let _ = result(&copy_run(widened, wanted), set, set, out);
+    let _ = result(&copy_run(planes, widened, wanted), set, set, out);
 }
 
 // All passes, and the copy from the set that a next pass would read.
@@ -199,17 +205,18 @@ fn finish(
       second = second.new;
       sigmas = sigmas.now;
       out = out.new;
-    }) (passed_outcome 3 passes
+    }) (passed_outcome passes
         (record { run = run; sigmas = sigmas.now; first = first.old; second = second.old })
         widened wanted out.old) }
 {
+    let planes = run.setup.planes;
     let mut run = run;
     all_passes(&mut run, passes, sigmas, first, second);
     if passes % 2 == 0 {
-        copy_wanted(widened, wanted, first, out);
+        copy_wanted(planes, widened, wanted, first, out);
         return;
     }
-    copy_wanted(widened, wanted, second, out);
+    copy_wanted(planes, widened, wanted, second, out);
 }
 
 // Filters the wanted rectangle. `first` has the samples of the widened rectangle
@@ -231,7 +238,7 @@ pub fn loupe_smooth(
       second = second.new;
       sigmas = sigmas.new;
       out = out.new;
-    }) (loupe_outcome 3 (record {
+    }) (loupe_outcome (record {
       setup = s;
       frame = frame;
       table = table.now;
@@ -241,7 +248,7 @@ pub fn loupe_smooth(
       sigmas = sigmas.old;
       out = out.old;
     })) }
-    ensures whole_equal { WholeEqual 3 (record {
+    ensures whole_equal { WholeEqual (record {
       setup = s;
       frame = frame;
       table = table.now;
@@ -253,9 +260,9 @@ pub fn loupe_smooth(
     }) (number_of result) out.new }
 {
     let widened = checked_place(s, frame, table, grids, sigmas, out)?;
-    let setup = run_setup(widened, widened, s.settings);
+    let setup = run_setup(widened, widened, s.planes, s.settings);
     let run = start(setup, frame, table, grids, first, second, sigmas)?;
-    let passes = s.settings.pass_count();
+    let passes = setup.pass_count();
     finish(run, passes, widened, s.wanted, sigmas, first, second, out);
     Ok(())
 }

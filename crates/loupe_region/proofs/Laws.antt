@@ -32,7 +32,7 @@ use Rattle.run_passes.specs.Plan.{gabor_fits, iterations_fit, margin_checks}
 use Rattle.loupe_region.specs.declared.LoupeSetup.{LoupeSetup}
 use Rattle.loupe_region.specs.Widened.{widened}
 use Rattle.loupe_region.specs.Fits.{WantedFits}
-use Rattle.loupe_region.specs.Outcome.{bad_wanted, widened_checks}
+use Rattle.loupe_region.specs.Outcome.{bad_wanted, rectangle_checks}
 use Rattle.loupe_region.proofs.Axis.{start-before, Clipped, clipped-facts, clipped-on-block}
 
 -- ---- the widened rectangle
@@ -180,11 +180,11 @@ wanted-of whole wanted p q e =
     let n = neither (is_empty wanted) (not (inside whole wanted)) e in
     record { whole-fits = p; wanted-fits = rectangle-picture wanted q n.0; wanted-inside = met (inside whole wanted) n.1 }
 
-module _ (s : LoupeSetup) (e : first_of (widened_checks s) ≡ 0) where
+module _ (s : LoupeSetup) (e : first_of (rectangle_checks s) ≡ 0) where
   pub accepted-gabor : T (gabor_fits s.settings)
-  unfolding widened_checks margin_checks
-  accepted-gabor = met (gabor_fits s.settings) (row-passed (widened_checks s) tt e (always out_of_range (not (gabor_fits s.settings))) (search (here, below) depth 20))
+  unfolding rectangle_checks margin_checks
+  accepted-gabor = met (gabor_fits s.settings) (row-passed (rectangle_checks s) tt e (always out_of_range (not (gabor_fits s.settings))) (search (here, below) depth 20))
 
   pub accepted-iterations : T (iterations_fit s.settings)
-  unfolding widened_checks margin_checks
-  accepted-iterations = met (iterations_fit s.settings) (row-passed (widened_checks s) tt e (always out_of_range (not (iterations_fit s.settings))) (search (here, below) depth 20))
+  unfolding rectangle_checks margin_checks
+  accepted-iterations = met (iterations_fit s.settings) (row-passed (rectangle_checks s) tt e (always out_of_range (not (iterations_fit s.settings))) (search (here, below) depth 20))

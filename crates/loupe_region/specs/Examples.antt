@@ -10,7 +10,7 @@ use Rattle.run_passes.specs.Makers.{gabor_of, even_weights, no_settings, with_ga
 use Rattle.planes.specs.Samples.{b0}
 use Rattle.loupe_region.specs.declared.LoupeSetup.{LoupeSetup}
 use Rattle.loupe_region.specs.Widened.{widened}
-use Rattle.loupe_region.specs.Outcome.{widened_checks}
+use Rattle.loupe_region.specs.Outcome.{rectangle_checks, widened_checks}
 
 abbrev region : ℤ → ℤ → ℕ → ℕ → Region
 region l t w h = record { left = l; top = t; width = w; height = h }
@@ -43,39 +43,47 @@ moved_down = refl
 -- ---- numbers, with three iterations
 
 abbrev three_of : Region → Region → LoupeSetup
-three_of whole wanted = record { whole = whole; wanted = wanted; settings = with_iters 3 no_settings }
+three_of whole wanted = record { whole = whole; wanted = wanted; planes = 3; settings = with_iters 3 no_settings }
 
 -- an empty wanted rectangle is within the limits: 15, not 4
 pub empty : first_of (widened_checks (three_of (region (pos 0) (pos 0) 8 8) (region (pos 3) (pos 3) 0 2))) ≡ 15
-unfolding widened_checks margin_checks picture_fits rectangle_fits bounds_fit corner_fits side_fits inside
+unfolding widened_checks rectangle_checks margin_checks picture_fits rectangle_fits bounds_fit corner_fits side_fits inside
 empty = refl
 
 -- a wanted rectangle that ends one column past the whole
 pub past : first_of (widened_checks (three_of (region (pos 0) (pos 0) 8 8) (region (pos 7) (pos 0) 2 1))) ≡ 15
-unfolding widened_checks margin_checks picture_fits rectangle_fits bounds_fit corner_fits side_fits inside
+unfolding widened_checks rectangle_checks margin_checks picture_fits rectangle_fits bounds_fit corner_fits side_fits inside
 past = refl
 
 -- a wanted area over the limit, and not inside the whole: 4 before 15
 pub large : first_of (widened_checks (three_of (region (pos 0) (pos 0) 8 8) (region (pos 0) (pos 0) 16384 16384))) ≡ 4
-unfolding widened_checks margin_checks picture_fits rectangle_fits bounds_fit corner_fits side_fits inside
+unfolding widened_checks rectangle_checks margin_checks picture_fits rectangle_fits bounds_fit corner_fits side_fits inside
 large = refl
 
 -- a whole that starts at column 4
 pub off-blocks : first_of (widened_checks (three_of (region (pos 4) (pos 0) 8 8) (region (pos 4) (pos 0) 1 1))) ≡ 6
-unfolding widened_checks margin_checks picture_fits rectangle_fits bounds_fit corner_fits side_fits inside
+unfolding widened_checks rectangle_checks margin_checks picture_fits rectangle_fits bounds_fit corner_fits side_fits inside
 off-blocks = refl
 
 -- and a wanted rectangle not inside it: 15 before 6
 pub outside-off-blocks : first_of (widened_checks (three_of (region (pos 4) (pos 0) 8 8) (region (pos 3) (pos 0) 1 1))) ≡ 15
-unfolding widened_checks margin_checks picture_fits rectangle_fits bounds_fit corner_fits side_fits inside
+unfolding widened_checks rectangle_checks margin_checks picture_fits rectangle_fits bounds_fit corner_fits side_fits inside
 outside-off-blocks = refl
 
 -- and Gabor's `enabled` is 2: 6 before 9
-pub flag-two : first_of (widened_checks (record { whole = region (pos 4) (pos 0) 8 8; wanted = region (pos 4) (pos 0) 1 1; settings = with_gabor (gabor_of 2 (even_weights b0 b0)) (with_iters 3 no_settings) })) ≡ 6
-unfolding widened_checks margin_checks picture_fits rectangle_fits bounds_fit corner_fits side_fits inside
+pub flag-two : first_of (widened_checks (record { whole = region (pos 4) (pos 0) 8 8; wanted = region (pos 4) (pos 0) 1 1; planes = 3; settings = with_gabor (gabor_of 2 (even_weights b0 b0)) (with_iters 3 no_settings) })) ≡ 6
+unfolding widened_checks rectangle_checks margin_checks picture_fits rectangle_fits bounds_fit corner_fits side_fits inside
 flag-two = refl
 
 -- and four iterations: 6 is passed over
-pub four-iterations : first_of (widened_checks (record { whole = region (pos 4) (pos 0) 8 8; wanted = region (pos 4) (pos 0) 1 1; settings = with_iters 4 no_settings })) ≡ 9
-unfolding widened_checks margin_checks picture_fits rectangle_fits bounds_fit corner_fits side_fits inside
+pub four-iterations : first_of (widened_checks (record { whole = region (pos 4) (pos 0) 8 8; wanted = region (pos 4) (pos 0) 1 1; planes = 3; settings = with_iters 4 no_settings })) ≡ 9
+unfolding widened_checks rectangle_checks margin_checks picture_fits rectangle_fits bounds_fit corner_fits side_fits inside
 four-iterations = refl
+
+-- the number of planes: 1 is accepted, 2 is not, and it is looked at after the rest
+abbrev planes_of : ℕ → Region → LoupeSetup
+planes_of planes wanted = record { whole = region (pos 0) (pos 0) 8 8; wanted = wanted; planes = planes; settings = with_iters 3 no_settings }
+
+pub planes : (first_of (widened_checks (planes_of 1 (region (pos 0) (pos 0) 1 1))) ≡ 0) × (first_of (widened_checks (planes_of 2 (region (pos 0) (pos 0) 1 1))) ≡ 9) × (first_of (widened_checks (planes_of 2 (region (pos 8) (pos 0) 1 1))) ≡ 15)
+unfolding widened_checks rectangle_checks margin_checks picture_fits rectangle_fits bounds_fit corner_fits side_fits inside
+planes = (refl, refl, refl)

@@ -1,12 +1,13 @@
 -- The checks of a wanted rectangle, and what `loupe_widened` returns (Specification 17.3). Definitions only.
-use Rattle.std.specs.Prelude.{Bool, cond, not, ◌&&◌, ◌||◌, List, ◌∷◌, eqb, ltb}
-use Rattle.refusals.specs.Numbers.{out_of_limits, not_on_blocks, wanted_outside}
+use Rattle.std.specs.Prelude.{Bool, cond, not, ◌&&◌, ◌||◌, List, [], ◌∷◌, ◌++◌, eqb, ltb}
+use Rattle.refusals.specs.Numbers.{out_of_limits, not_on_blocks, wanted_outside, out_of_range}
 use Rattle.refusals.specs.Checks.{Check, always, first_of}
 use Rattle.region.specs.declared.Region.{Region}
 use Rattle.region.specs.Measures.{picture_fits, rectangle_fits}
 use Rattle.region.specs.Regions.{zero_region, is_empty, inside}
 use Rattle.region_arithmetic.specs.declared.RegionAnswer.{RegionAnswer}
 use Rattle.region_placement.specs.Blocks.{on_blocks}
+use Rattle.planes.specs.Band.{planes_fit}
 use Rattle.run_passes.specs.Plan.{iterations_fit, margin, margin_checks}
 use Rattle.loupe_region.specs.declared.LoupeSetup.{LoupeSetup}
 use Rattle.loupe_region.specs.Widened.{widened}
@@ -33,8 +34,16 @@ whole_on_blocks s = always not_on_blocks (off_blocks s)
 
 -- ---- the outcome
 
+-- the checks on which the widened rectangle depends
+unfoldable pub rectangle_checks : LoupeSetup → List Check
+rectangle_checks s = regions_in_limits s ∷ wanted_inside s ∷ whole_on_blocks s ∷ margin_checks s.settings
+
+abbrev pub planes_one_or_three : LoupeSetup → Check
+planes_one_or_three s = always out_of_range (not (planes_fit s.planes))
+
+-- then the number of planes, on which it does not
 unfoldable pub widened_checks : LoupeSetup → List Check
-widened_checks s = regions_in_limits s ∷ wanted_inside s ∷ whole_on_blocks s ∷ margin_checks s.settings
+widened_checks s = rectangle_checks s ++ (planes_one_or_three s ∷ [])
 
 -- widened by the margin of the settings
 abbrev pub widened_region : LoupeSetup → Region

@@ -7,9 +7,10 @@ ghost use Rattle.refusals.specs.Refusals.{IsOutcome};
 ghost use Rattle.region_interval.specs.Interval.{span_of, reaching};
 ghost use Rattle.region_interval.specs.Overlap.{meet};
 ghost use Rattle.loupe_region.specs.Widened.{widened};
-ghost use Rattle.loupe_region.specs.Outcome.{bad_wanted, off_blocks, widened_checks, widened_region};
+ghost use Rattle.loupe_region.specs.Outcome.{bad_wanted, off_blocks, rectangle_checks, widened_checks, widened_region};
 ghost use Rattle.loupe_region.specs.Fits.{WantedFits};
 
+use planes::planes_fit;
 use refusals::Refusal;
 use region::Region;
 use region_axis::check_span;
@@ -18,13 +19,14 @@ use region_interval::{Axis, Span};
 use region_placement::on_blocks;
 use run_passes::Settings;
 
-// What the loupe shows: the filter region of a whole picture, the wanted rectangle of it, and the settings of the
-// filters.
+// What the loupe shows: the filter region of a whole picture, the wanted rectangle of it, the number of planes, 1 or 3,
+// and the settings of the filters.
 #[repr(C)]
 #[derive(Clone, Copy)]
 pub struct LoupeSetup {
     pub whole: Region,
     pub wanted: Region,
+    pub planes: u32,
     pub settings: Settings,
 }
 
@@ -65,9 +67,9 @@ impl LoupeSetup {
     }
 }
 
-// The rectangle whose planes `loupe_smooth` takes, or refusal 4, 15, 6 or 9.
-pub fn loupe_widened(s: LoupeSetup) -> Result<Region, Refusal>
-    ensures { IsOutcome result (first_of (widened_checks s)) (widened_region s) }
+// The rectangle whose planes `loupe_smooth` takes, whatever their number, or refusal 4, 15, 6 or 9.
+pub fn widened_rectangle(s: LoupeSetup) -> Result<Region, Refusal>
+    ensures { IsOutcome result (first_of (rectangle_checks s)) (widened_region s) }
 {
     if !s.whole.picture_fits() {
         return Err(Refusal::OutOfLimits);
@@ -83,4 +85,15 @@ pub fn loupe_widened(s: LoupeSetup) -> Result<Region, Refusal>
     }
     let margin = s.settings.margin()?;
     Ok(widened(s.whole, s.wanted, margin))
+}
+
+// The rectangle whose planes `loupe_smooth` takes, or refusal 4, 15, 6 or 9.
+pub fn loupe_widened(s: LoupeSetup) -> Result<Region, Refusal>
+    ensures { IsOutcome result (first_of (widened_checks s)) (widened_region s) }
+{
+    let region = widened_rectangle(s)?;
+    if !planes_fit(s.planes) {
+        return Err(Refusal::OutOfRange);
+    }
+    Ok(region)
 }

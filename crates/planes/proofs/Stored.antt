@@ -1,6 +1,6 @@
 -- The result of the loops over planes and rows is `passed`: the samples outside the filter region are copied, then the pass writes its rectangle. Assumes nothing.
 use mathlib.Core.Path.{◌≡◌, refl, sym, ◌∙◌}
-use mathlib.Core.Bool.{Bool, true, false, false≢true, cond, ◌&&◌}
+use mathlib.Core.Bool.{Bool, true, false, false≢true, cond, ◌&&◌, ◌||◌}
 use mathlib.Core.List.{List}
 use Prim.Native.Nat.{ℕ, ◌+◌, ◌-◌, ◌*◌, ◌<◌, ◌≤◌, min}
 use native.Mathlib.Omega.{arith}
@@ -16,7 +16,7 @@ use Rattle.planes.proofs.SetLaws.{sets-ext, of-set_of, length-set_of}
 use Rattle.planes.specs.Rect.{planes_fill}
 use Rattle.planes.proofs.Rect.{planes-at, length-planes_fill}
 use Rattle.planes.specs.Outside.{planes_outside_of}
-use Rattle.planes.specs.Band.{result_height, in_filter, written, inner, passed, layout_fits, set_fits, rows_fit, filter_row, copied_outside}
+use Rattle.planes.specs.Band.{result_height, in_filter, written, inner, passed, layout_fits, planes_fit, set_fits, rows_fit, filter_row, copied_outside}
 use Rattle.planes.specs.Fits.{LayoutFits, BandFits}
 
 -- ---- facts that the tests establish
@@ -29,6 +29,14 @@ pub and_second : (a b : Bool) → (a && b) ≡ true → b ≡ true
 and_second true b e = e
 and_second false true e = refl
 and_second false false e = e
+
+-- a picture has one plane at least, and three at most
+pub planes-few : (n : ℕ) → planes_fit n ≡ true → (1 ≤ n) × (n ≤ 3)
+planes-few n e = go (eqb n 1) refl e
+  where
+    go : (b : Bool) → eqb n 1 ≡ b → (b || eqb n 3) ≡ true → (1 ≤ n) × (n ≤ 3)
+    go true one e = let is : n ≡ 1 = eqb-true n 1 one in (omega arith, omega arith)
+    go false one e = let is : n ≡ 3 = eqb-true n 3 e in (omega arith, omega arith)
 
 pub layout-fits : (l : Layout) → layout_fits l ≡ true → LayoutFits l
 layout-fits l e =

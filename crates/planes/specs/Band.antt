@@ -1,6 +1,6 @@
 -- One pass over rows of the result region (Specification 9.2, 9.3): which samples it writes, and the set after it.
 -- Definitions only; the laws are in proofs/Stored.antt.
-use Rattle.std.specs.Prelude.{Bool, cond, ◌&&◌, List, ℕ, ◌+◌, ◌-◌, ◌*◌, min, leb, eqb, length, Float}
+use Rattle.std.specs.Prelude.{Bool, cond, ◌&&◌, ◌||◌, List, ℕ, ◌+◌, ◌-◌, ◌*◌, min, leb, eqb, length, Float}
 use Rattle.planes.specs.declared.Layout.{Layout}
 use Rattle.planes.specs.Picture.{Picture, in_rect}
 use Rattle.planes.specs.Sets.{of, set_of}
@@ -44,6 +44,10 @@ passed n l from to p src dst = set_of n l.image.width l.image.height (λ c x y.
 -- sides of at most 16,384 (Specification 4.1), and the filter region inside the image region
 abbrev pub layout_fits : Layout → Bool
 layout_fits l = (leb l.image.width 16384 && leb l.image.height 16384) && (leb (l.left + l.width) l.image.width && leb (l.top + l.height) l.image.height)
+
+-- a picture has one plane, if it is grey, or three (Specification 4.1)
+abbrev pub planes_fit : ℕ → Bool
+planes_fit n = eqb n 1 || eqb n 3
 
 -- a slice of length len is a set of n planes, at most three
 abbrev pub set_fits : Layout → ℕ → ℕ → Bool

@@ -4,11 +4,14 @@
 
 ghost use Rattle.std.specs.Prelude.{◌≡◌, ◌+◌, leb};
 ghost use Rattle.planes.specs.Copy.{copied_run};
-ghost use Rattle.planes.specs.Band.{layout_fits, set_fits, rows_fit, filter_row};
+ghost use Rattle.planes.specs.Band.{layout_fits, planes_fit, set_fits, rows_fit, filter_row};
 
 use limits::MAX_SIDE;
 
-// The largest number of planes of a set.
+// The number of planes of a grey picture.
+pub const GREY_PLANES: usize = 1;
+
+// The largest number of planes of a set: one for each channel.
 pub const PLANES: usize = 3;
 
 // The sides of a region, in samples.
@@ -48,6 +51,13 @@ pub fn layout_fits(l: Layout) -> bool
         && l.image.height <= MAX_SIDE
         && inside(l.left, l.width, l.image.width)
         && inside(l.top, l.height, l.image.height)
+}
+
+// Whether a picture may have n planes: one, if it is grey, or three.
+pub fn planes_fit(n: u32) -> bool
+    ensures { result ≡ planes_fit n }
+{
+    n as usize == GREY_PLANES || n as usize == PLANES
 }
 
 // Whether a slice of this length is a set of n planes.

@@ -1,12 +1,11 @@
 -- An accepted layout fits: the filter region lies inside the image region. Assumes nothing.
-use mathlib.Core.Path.{◌≡◌, refl, sym, ap, ◌∙◌}
+use mathlib.Core.Path.{◌≡◌, refl, sym, ◌∙◌}
 use mathlib.Core.Bool.{Bool, true, false, ◌&&◌, not}
 use mathlib.Core.List.{List, [], ◌∷◌, ◌++◌}
 use Prim.Native.Nat.{ℕ, ◌+◌, ◌*◌, ◌<◌, ◌≤◌}
 use borrow.Author.Tests.{le-leb, ne_eqb}
 use lib.Dec.{eqb}
 use lib.ListN.{length}
-use lib.IntN.{nat_abs, ◌-ℤ◌}
 use lib.Ieee.{Float}
 use Rattle.refusals.specs.Numbers.{wrong_length, out_of_range}
 use Rattle.refusals.specs.Checks.{Check, applies, first_of}
@@ -18,9 +17,10 @@ use Rattle.region.proofs.Regions.{width_fits, height-fits}
 use Rattle.region_placement.specs.Placed.{placed_checks}
 use Rattle.region_placement.proofs.PlacedLaws.{placed-fits}
 use Rattle.planes.specs.declared.Layout.{Layout}
-use Rattle.planes.specs.Band.{layout_fits, set_fits, rows_fit}
+use Rattle.planes.specs.Band.{layout_fits, planes_fit, set_fits, rows_fit}
 use Rattle.planes.specs.Fits.{LayoutFits}
-use Rattle.planes_layout.specs.Outcome.{layout_of, lengths_check, flag_check, rows_check, pass_checks, PassOutcome, pass_outcome}
+use Rattle.planes.proofs.Stored.{planes-few}
+use Rattle.planes_layout.specs.Outcome.{layout_of, lengths_check, planes_check, flag_check, rows_check, pass_checks, PassOutcome, pass_outcome}
 
 -- ---- the layout of regions with number 0
 
@@ -73,22 +73,33 @@ not-second : (a b : Bool) → b ≡ false → not (a && b) ≡ true
 not-second true b e = rw e
 not-second false b e = refl
 
-module _ (image filter : Region) (full n from to : ℕ) (src dst : List Float) where
+module _ (image filter : Region) (n full from to : ℕ) (src dst : List Float) where
   abbrev at-full : Layout
   at-full = layout_of image filter (flag_set full)
 
   -- the rows after 4 and 5
   abbrev own : List Check
-  own = lengths_check image n src dst ∷ flag_check full ∷ rows_check image filter full from to ∷ []
+  own = lengths_check image n src dst ∷ planes_check n ∷ flag_check full ∷ rows_check image filter full from to ∷ []
 
   abbrev Number : ℕ → Type 0
-  Number k = k ≡ first_of (pass_checks image filter full n from to src dst)
+  Number k = k ≡ first_of (pass_checks image filter n full from to src dst)
 
   pub not-placed : (k : ℕ) → k ≡ first_of (placed_checks image filter) → (k ≡ 0 → ⊥) → Number k
   unfolding pass_checks
   not-placed k e h = placed_first image filter own k e h
 
-  module _ (ok : first_of (placed_checks image filter) ≡ 0) (few : n ≤ 3) where
+  -- the number of planes is wrong: the lengths are not checked
+  pub wrong-planes : first_of (placed_checks image filter) ≡ 0 → planes_fit n ≡ false → Number out_of_range
+  unfolding pass_checks
+  wrong-planes ok e =
+      let lengths : applies (lengths_check image n src dst) ≡ false = rw e in
+      let fails : applies (planes_check n) ≡ true = rw e in
+      placed-then image filter own ok out_of_range (sym (first-number own (planes_check n) (search (found, after, lengths, fails) depth 20)))
+
+  module _ (ok : first_of (placed_checks image filter) ≡ 0) (right : planes_fit n ≡ true) where
+    few : n ≤ 3
+    few = (planes-few n right).1
+
     own-number : (k : ℕ) → first_of own ≡ k → Number k
     unfolding pass_checks
     own-number k e = placed-then image filter own ok k (sym e)
@@ -103,19 +114,22 @@ module _ (image filter : Region) (full n from to : ℕ) (src dst : List Float) w
     wrong-lengths e = own-number wrong_length (first-number own (lengths_check image n src dst) (search (found, after, e) depth 20))
 
     pub wrong-source : set_fits at-full n (length src) ≡ false → Number wrong_length
-    wrong-source e = wrong-lengths (not_first _ (eqb (length dst) (n * image.height * image.width)) (source_is false e))
+    wrong-source e = wrong-lengths (rw right (not_first _ (eqb (length dst) (n * image.height * image.width)) (source_is false e)))
 
     pub wrong_target : set_fits at-full n (length dst) ≡ false → Number wrong_length
-    wrong_target e = wrong-lengths (not-second (eqb (length src) (n * image.height * image.width)) _ (target_is false e))
+    wrong_target e = wrong-lengths (rw right (not-second (eqb (length src) (n * image.height * image.width)) _ (target_is false e)))
 
     module _ (s : set_fits at-full n (length src) ≡ true) (t : set_fits at-full n (length dst) ≡ true) where
       lengths : applies (lengths_check image n src dst) ≡ false
-      lengths = rw (source_is true s, target_is true t)
+      lengths = rw (right, source_is true s, target_is true t)
+
+      planes : applies (planes_check n) ≡ false
+      planes = rw right
 
       pub wrong-flag : flag_fits full ≡ false → Number out_of_range
       wrong-flag e =
           let fails : applies (flag_check full) ≡ true = rw e in
-          own-number out_of_range (first-number own (flag_check full) (search (found, after, lengths, fails) depth 20))
+          own-number out_of_range (first-number own (flag_check full) (search (found, after, lengths, planes, fails) depth 20))
 
       module _ (f : flag_fits full ≡ true) where
         flag : applies (flag_check full) ≡ false
@@ -124,12 +138,12 @@ module _ (image filter : Region) (full n from to : ℕ) (src dst : List Float) w
         pub wrong-rows : rows_fit at-full from to ≡ false → Number out_of_range
         wrong-rows e =
             let fails : applies (rows_check image filter full from to) ≡ true = rw (f, e) in
-            own-number out_of_range (first-number own (rows_check image filter full from to) (search (found, after, lengths, flag, fails) depth 20))
+            own-number out_of_range (first-number own (rows_check image filter full from to) (search (found, after, lengths, planes, flag, fails) depth 20))
 
         pub pass-accepted : rows_fit at-full from to ≡ true → Number 0
         pass-accepted e =
             let passed : applies (rows_check image filter full from to) ≡ false = rw (f, e) in
-            own-number 0 (same_number own [] (search (none, drop, lengths, flag, passed) depth 20))
+            own-number 0 (same_number own [] (search (none, drop, lengths, planes, flag, passed) depth 20))
 
 -- ---- for passes: the number and the written set of the pass
 

@@ -11,7 +11,8 @@ use Rattle.run_passes.specs.Plan.{gabor_on, one_if}
 use Rattle.run_passes.proofs.PlanLaws.{plan-length}
 use Rattle.run_setup.specs.declared.Setup.{Setup}
 use Rattle.run_record.specs.declared.Run.{Run}
-use Rattle.run_record.specs.Record.{pass_count, none_done, run_of, advanced}
+use Rattle.run_record.specs.Record.{none_done, run_of, advanced}
+use Rattle.run_setup.specs.Setup.{pass_count}
 use Rattle.run_record.proofs.Laws.{pass-left}
 use Rattle.run_outcomes.specs.declared.RunAnswer.{RunAnswer}
 use Rattle.run_outcomes.specs.Band.{advance_number, advance_outcome}
@@ -19,7 +20,7 @@ use Rattle.run_outcomes.proofs.Laws.{advance-fits}
 
 -- at most four passes
 few-passes : (s : Setup) → pass_count s ≤ 4
-few-passes s = omega (arith, plan-length 3 s.settings, one (gabor_on s.settings))
+few-passes s = omega (arith, plan-length s.planes s.settings, one (gabor_on s.settings))
   where
     one : (b : Bool) → one_if b ≤ 1
     one true = omega arith

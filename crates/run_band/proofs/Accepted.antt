@@ -9,9 +9,10 @@ use borrow.Author.Tests.{ne_eqb, le-leb}
 use lib.Dec.{T, eqb, eqb→eq}
 use lib.ListN.{length}
 use lib.Ieee.{Float}
-use lib.Ieee.Fits.{and_l, and_r}
+use lib.Ieee.Fits.{and_l, and_r, and_i}
 use Rattle.region.proofs.Laws.{picture-bounds, bounds-height}
 use Rattle.planes_layout.specs.Outcome.{layout_of}
+use Rattle.planes.specs.Band.{planes_fit}
 use Rattle.run_setup.specs.declared.Setup.{Setup}
 use Rattle.run_setup.specs.Setup.{max_bands, full_planes, epf_on, row_count, band_count, band_from, band_to, size_fits, iters_fit, set_length, sigma_length}
 use Rattle.run_record.specs.Record.{marked}
@@ -27,27 +28,28 @@ use Rattle.run_band.specs.Rows.{RowsFit, passed_rows, band_written}
 
 -- ---- an accepted band
 
-module _ (t : State) (k : ℕ) (e : band_number 3 t k ≡ 0) where
+module _ (t : State) (k : ℕ) (e : band_number t k ≡ 0) where
   abbrev s : Setup
   s = t.run.setup
 
-  fits : BandFits 3 t k
-  fits = band-fits 3 t k e
+  fits : BandFits t k
+  fits = band-fits t k e
 
   setup : SetupFits s
   setup = setup-fits s fits.run.setup
 
-  sets : T (eqb (length t.first) (set_length 3 s) && eqb (length t.second) (set_length 3 s))
+  sets : T (eqb (length t.first) (set_length s) && eqb (length t.second) (set_length s))
   unfolding band_checks
   sets =
-      met-given (size_fits s.image) (eqb (length t.first) (set_length 3 s) && eqb (length t.second) (set_length 3 s))
-      (row-passed (band_checks 3 t k) tt e (set_check 3 s (length t.first) (length t.second)) (search (here, below) depth 20)) (of-true (size_fits s.image) (image-size s setup))
+      met-given (size_fits s.image && planes_fit s.planes) (eqb (length t.first) (set_length s) && eqb (length t.second) (set_length s))
+      (row-passed (band_checks t k) tt e (set_check s (length t.first) (length t.second)) (search (here, below) depth 20))
+      (and_i (size_fits s.image) (planes_fit s.planes) (of-true (size_fits s.image) (image-size s setup)) setup.planes)
 
-  first-length : length t.first ≡ set_length 3 s
-  first-length = eqb→eq _ _ (and_l (eqb (length t.first) (set_length 3 s)) (eqb (length t.second) (set_length 3 s)) sets)
+  first-length : length t.first ≡ set_length s
+  first-length = eqb→eq _ _ (and_l (eqb (length t.first) (set_length s)) (eqb (length t.second) (set_length s)) sets)
 
-  second-length : length t.second ≡ set_length 3 s
-  second-length = eqb→eq _ _ (and_r (eqb (length t.first) (set_length 3 s)) (eqb (length t.second) (set_length 3 s)) sets)
+  second-length : length t.second ≡ set_length s
+  second-length = eqb→eq _ _ (and_r (eqb (length t.first) (set_length s)) (eqb (length t.second) (set_length s)) sets)
 
   sigma-known : T (iters_fit s && (not (epf_on s) || size_fits s.filter))
   sigma-known =
@@ -60,7 +62,7 @@ module _ (t : State) (k : ℕ) (e : band_number 3 t k ≡ 0) where
   sigma-length : length t.sigmas ≡ sigma_length s
   unfolding band_checks
   sigma-length =
-      eqb→eq _ _ (met-given (iters_fit s && (not (epf_on s) || size_fits s.filter)) (eqb (length t.sigmas) (sigma_length s)) (row-passed (band_checks 3 t k) tt e (sigma_check 3 s (length t.sigmas)) (search (here, below) depth 20)) sigma-known)
+      eqb→eq _ _ (met-given (iters_fit s && (not (epf_on s) || size_fits s.filter)) (eqb (length t.sigmas) (sigma_length s)) (row-passed (band_checks t k) tt e (sigma_check s (length t.sigmas)) (search (here, below) depth 20)) sigma-known)
 
   -- bounds in machine integers
   pub record Room : Type 0 where
@@ -118,28 +120,28 @@ module _ (t : State) (k : ℕ) (e : band_number 3 t k ≡ 0) where
 
 module _ (t : State) (k : ℕ) where
   abbrev Written : List Float → List Float → Type 0
-  Written first second = ◌≡◌ {A = State} (record { run = t.run; sigmas = t.sigmas; first = first; second = second }) (band_written 3 t k)
+  Written first second = ◌≡◌ {A = State} (record { run = t.run; sigmas = t.sigmas; first = first; second = second }) (band_written t k)
 
-  pub second-written : eqb (t.run.pass % 2) 0 ≡ true → (b : List Float) → b ≡ passed_rows 3 t.run t.sigmas (band_from t.run.setup k) (band_to t.run.setup k) t.first t.second
+  pub second-written : eqb (t.run.pass % 2) 0 ≡ true → (b : List Float) → b ≡ passed_rows t.run t.sigmas (band_from t.run.setup k) (band_to t.run.setup k) t.first t.second
       → Written t.first b
   unfolding banded reads_first
   second-written e b h = rw (e, h)
 
-  pub first-written : eqb (t.run.pass % 2) 0 ≡ false → (b : List Float) → b ≡ passed_rows 3 t.run t.sigmas (band_from t.run.setup k) (band_to t.run.setup k) t.second t.first
+  pub first-written : eqb (t.run.pass % 2) 0 ≡ false → (b : List Float) → b ≡ passed_rows t.run t.sigmas (band_from t.run.setup k) (band_to t.run.setup k) t.second t.first
       → Written b t.second
   unfolding banded reads_first
   first-written e b h = rw (e, h)
 
-  pub band-refused : (n : ℕ) → n ≡ band_number 3 t k → (n ≡ 0 → ⊥) → ◌≡◌ {A = BandOutcome} (record { number = n; state = t }) (band_outcome 3 t k)
+  pub band-refused : (n : ℕ) → n ≡ band_number t k → (n ≡ 0 → ⊥) → ◌≡◌ {A = BandOutcome} (record { number = n; state = t }) (band_outcome t k)
   unfolding band_outcome
   band-refused n e h =
-      let z : eqb (band_number 3 t k) 0 ≡ false = ne_eqb (band_number 3 t k) 0 (λ q. h (e ∙ q)) in
+      let z : eqb (band_number t k) 0 ≡ false = ne_eqb (band_number t k) 0 (λ q. h (e ∙ q)) in
       rw (z, e)
 
-  pub band-done : band_number 3 t k ≡ 0 → (a b : List Float) → Written a b
-      → ◌≡◌ {A = BandOutcome} (record { number = 0; state = record { run = marked t.run k; sigmas = t.sigmas; first = a; second = b } }) (band_outcome 3 t k)
+  pub band-done : band_number t k ≡ 0 → (a b : List Float) → Written a b
+      → ◌≡◌ {A = BandOutcome} (record { number = 0; state = record { run = marked t.run k; sigmas = t.sigmas; first = a; second = b } }) (band_outcome t k)
   unfolding band_outcome
   band-done z a b w =
-      let f : a ≡ cond (reads_first t.run) t.first (banded 3 t k) = ap (λ (u : State). u.first) w in
-      let g : b ≡ cond (reads_first t.run) (banded 3 t k) t.second = ap (λ (u : State). u.second) w in
+      let f : a ≡ cond (reads_first t.run) t.first (banded t k) = ap (λ (u : State). u.first) w in
+      let g : b ≡ cond (reads_first t.run) (banded t k) t.second = ap (λ (u : State). u.second) w in
       rw (z, f, g)

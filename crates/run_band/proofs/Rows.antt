@@ -12,7 +12,7 @@ use lib.Ieee.{Float}
 use Rattle.refusals.specs.Checks.{first_of}
 use Rattle.region.specs.Regions.{inside}
 use Rattle.region.specs.Measures.{picture_fits}
-use Rattle.planes.specs.Band.{rows_fit}
+use Rattle.planes.specs.Band.{planes_fit, rows_fit}
 use Rattle.planes.proofs.Stored.{and_first, and_second}
 use Rattle.planes_layout.specs.Outcome.{layout_of, pass_checks, PassOutcome, pass_outcome}
 use Rattle.gabor.specs.Outcome.{gabor_outcome}
@@ -51,33 +51,34 @@ module _ (r : Run) (sigmas src dst : List Float) (from to : ℕ) (fits : RowsFit
   rows_true : rows_fit (layout s) from to ≡ true
   rows_true = rw (le-leb from to fits.order, le-leb to (row_count s) fits.rows)
 
-  gabor-number : first_of (pass_checks s.image s.filter s.preserve_outside 3 from to src dst) ≡ 0
+  gabor-number : first_of (pass_checks s.image s.filter s.planes s.preserve_outside from to src dst) ≡ 0
   unfolding pass_checks
   gabor-number = rw (
     is_true (picture_fits s.image) setup.image,
     is_true (picture_fits s.filter) setup.filter,
     is_true (inside s.image s.filter) setup.contained,
-    eq-eqb (length src) (set_length 3 s) fits.source,
-    eq-eqb (length dst) (set_length 3 s) fits.target,
+    is_true (planes_fit s.planes) setup.planes,
+    eq-eqb (length src) (set_length s) fits.source,
+    eq-eqb (length dst) (set_length s) fits.target,
     is_true (full_fits s) setup.full,
     rows_true,
   )
 
   -- a Gabor pass
   pub gabor-rows : gabor_at s.settings r.pass ≡ true → (ws : List (List Float)) → ws ≡ s.settings.gabor.weights → (k : ℕ) (a : List Float)
-      → ◌≡◌ {A = PassOutcome} (record { number = k; target = a }) (gabor_outcome s.image s.filter s.preserve_outside ws from to src dst)
-      → a ≡ passed_rows 3 r sigmas from to src dst
+      → ◌≡◌ {A = PassOutcome} (record { number = k; target = a }) (gabor_outcome s.image s.filter s.planes s.preserve_outside ws from to src dst)
+      → a ≡ passed_rows r sigmas from to src dst
   unfolding gabor_outcome pass layout_of
   gabor-rows g ws w k a e =
       accepted-target k a _ dst _ gabor-number e
-      ∙ rw (plan-gabor 3 s.settings r.pass (gabor_like []) g, w)
+      ∙ rw (plan-gabor s.planes s.settings r.pass (gabor_like []) g, w)
 
   -- a step of the EPF
   module _ (g : gabor_at s.settings r.pass ≡ false) where
     -- the EPF is on, since the next pass is not Gabor's
     some-iters : 0 < s.settings.epf.iters
     unfolding gabor_at
-    some-iters = go (gabor_on s.settings) g (omega (arith, fits.left, plan-length 3 s.settings))
+    some-iters = go (gabor_on s.settings) g (omega (arith, fits.left, plan-length s.planes s.settings))
       where
         go : (on : Bool) → (on && eqb r.pass 0) ≡ false → r.pass < one_if on + min s.settings.epf.iters 3 → 0 < s.settings.epf.iters
         go true e h = after (ℕ_discrete r.pass 0)
@@ -96,7 +97,7 @@ module _ (r : Run) (sigmas src dst : List Float) (from to : ℕ) (fits : RowsFit
     corner : on_blocks s.filter ≡ true
     corner = is_true (on_blocks s.filter) (setup.blocks (rw on tt))
 
-    step-number : first_of (epf_checks s.image s.filter s.preserve_outside (step_of s.settings (step_index s.settings r.pass)) sigmas from to src dst) ≡ 0
+    step-number : first_of (epf_checks s.image s.filter s.planes s.preserve_outside (step_of s.settings (step_index s.settings r.pass)) sigmas from to src dst) ≡ 0
     unfolding epf_checks step_checks step_of layout_of
     step-number = rw (
       is_true (picture_fits s.image) setup.image,
@@ -104,8 +105,9 @@ module _ (r : Run) (sigmas src dst : List Float) (from to : ℕ) (fits : RowsFit
       is_true (inside s.image s.filter) setup.contained,
       and_first (on_block s.filter.left) (on_block s.filter.top) corner,
       and_second (on_block s.filter.left) (on_block s.filter.top) corner,
-      eq-eqb (length src) (set_length 3 s) fits.source,
-      eq-eqb (length dst) (set_length 3 s) fits.target,
+      is_true (planes_fit s.planes) setup.planes,
+      eq-eqb (length src) (set_length s) fits.source,
+      eq-eqb (length dst) (set_length s) fits.target,
       eq-eqb (length sigmas) (block_rows (layout s) * block_columns (layout s)) sigma-count,
       le-ltb 2 (step_index s.settings r.pass) (index-most s.settings r.pass),
       is_true (full_fits s) setup.full,
@@ -113,9 +115,9 @@ module _ (r : Run) (sigmas src dst : List Float) (from to : ℕ) (fits : RowsFit
     )
 
     pub step-rows : (step : EpfStep) → step ≡ step_of s.settings (step_index s.settings r.pass) → (k : ℕ) (a : List Float)
-        → ◌≡◌ {A = PassOutcome} (record { number = k; target = a }) (epf_outcome s.image s.filter s.preserve_outside step sigmas from to src dst)
-        → a ≡ passed_rows 3 r sigmas from to src dst
+        → ◌≡◌ {A = PassOutcome} (record { number = k; target = a }) (epf_outcome s.image s.filter s.planes s.preserve_outside step sigmas from to src dst)
+        → a ≡ passed_rows r sigmas from to src dst
     unfolding epf_outcome pass layout_of
     step-rows step p k a e =
         accepted-target k a _ dst _ step-number (rw p at e)
-        ∙ rw (plan-step 3 s.settings r.pass (gabor_like []) g fits.left)
+        ∙ rw (plan-step s.planes s.settings r.pass (gabor_like []) g fits.left)

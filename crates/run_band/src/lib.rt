@@ -16,7 +16,7 @@ use run_record::Run;
 // Refuses a band call: for the sets, the block sigmas, then the record.
 // Form: record and sets are what C hands; `result`, of another crate, takes them too, but no sigmas, so a struct would serve one of the two.
 fn check(run: &Run, sigmas: &[f32], first: &[f32], second: &[f32], k: u32) -> Result<(), Refusal>
-    ensures { number_of result ≡ band_number 3 (record {
+    ensures { number_of result ≡ band_number (record {
       run = run.now;
       sigmas = sigmas.now;
       first = first.now;
@@ -33,17 +33,21 @@ fn check(run: &Run, sigmas: &[f32], first: &[f32], second: &[f32], k: u32) -> Re
 fn pass_rows(run: &Run, sigmas: &[f32], src: &[f32], dst: &mut [f32], from: u32, to: u32)
     requires { RowsFit run.now (length sigmas.now) (length src.now) (length dst.old) from to }
     ensures { dst.new
-        ≡ passed_rows 3 run.now sigmas.now from to src.now dst.old }
+        ≡ passed_rows run.now sigmas.now from to src.now dst.old }
 {
     let s = &run.setup;
     match s.settings.pass_at(run.pass) {
         Pass::Gabor(weights) => {
             let full = s.preserve_outside;
-            let _ = gabor_pass(s.image, s.filter, full, weights, from, to, src, dst);
+            let _ = gabor_pass(
+                s.image, s.filter, s.planes, full, weights, from, to, src, dst,
+            );
         }
         Pass::Edge(step) => {
             let full = s.preserve_outside;
-            let _ = epf_pass(s.image, s.filter, full, step, sigmas, from, to, src, dst);
+            let _ = epf_pass(
+                s.image, s.filter, s.planes, full, step, sigmas, from, to, src, dst,
+            );
         }
     }
 }
@@ -52,7 +56,7 @@ fn pass_rows(run: &Run, sigmas: &[f32], src: &[f32], dst: &mut [f32], from: u32,
 // Form: here and in `band` the sets and the sigmas come apart, as C hands them; a struct of them would be made in `band` and taken apart
 // here, as a pass reads one set and writes the other.
 fn filter_band(run: &Run, sigmas: &[f32], first: &mut [f32], second: &mut [f32], k: u32)
-    requires { band_number 3 (record {
+    requires { band_number (record {
       run = run.now;
       sigmas = sigmas.now;
       first = first.old;
@@ -63,7 +67,7 @@ fn filter_band(run: &Run, sigmas: &[f32], first: &mut [f32], second: &mut [f32],
       sigmas = sigmas.now;
       first = first.new;
       second = second.new;
-    }) (band_written 3 (record {
+    }) (band_written (record {
       run = run.now;
       sigmas = sigmas.now;
       first = first.old;
@@ -97,7 +101,7 @@ pub fn band(
         first = first.new;
         second = second.new;
       };
-    }) (band_outcome 3 (record {
+    }) (band_outcome (record {
       run = run.old;
       sigmas = sigmas.now;
       first = first.old;

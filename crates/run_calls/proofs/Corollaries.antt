@@ -38,24 +38,24 @@ use Rattle.run_calls.proofs.Theorem.{rectangle-theorem}
 
 -- ---- a picture is cut from itself, and has no cut edge
 
-from_itself : (n : ℕ) (h : Handed) → StartAccepted n h → CutFrom n h h
-from_itself n h e = record { unrefused = start-unrefused n h e; contained = inside-itself h.setup.filter; same-passes = refl; inputs-agree = λ c x y p q. refl; sigmas-alike = λ on x y q. refl }
+from_itself : (h : Handed) → StartAccepted h → CutFrom h h
+from_itself h e = record { unrefused = start-unrefused h e; contained = inside-itself h.setup.filter; same-passes = refl; inputs-agree = λ c x y p q. refl; sigmas-alike = λ on x y q. refl }
 
 no-cut-edge : (m : ℕ) (r : Region) (x y : ℤ) → Clear m r r x y
 no-cut-edge m r x y = record { left = λ f. absurd (f refl); right = λ f. absurd (f refl); top = λ f. absurd (f refl); bottom = λ f. absurd (f refl) }
 
-module _ (n : ℕ) (K : Calls n) (E : Effects n K) where
+module _ (K : Calls) (E : Effects K) where
   -- the theorem on rectangles for a finished run
-  cut-run : (h large : Handed) (r : FinishedRun n K h) → CutFrom n h large → Delivers n h large (handed_over n K h r)
-  cut-run h large r from = rectangle-theorem n K E h large r.calls r.slice (record { start-accepted = r.accepted; cut-from-larger = from; buffers-unaltered = r.unaltered; run-finished = r.ended; slice_fits = r.room })
+  cut-run : (h large : Handed) (r : FinishedRun K h) → CutFrom h large → Delivers h large (handed_over K h r)
+  cut-run h large r from = rectangle-theorem K E h large r.calls r.slice (record { start-accepted = r.accepted; cut-from-larger = from; buffers-unaltered = r.unaltered; run-finished = r.ended; slice_fits = r.room })
 
-  pub whole-picture : WholePicture n K
+  pub whole-picture : WholePicture K
   whole-picture h r =
-      let d = cut-run h h r (from_itself n h r.accepted) in
+      let d = cut-run h h r (from_itself h r.accepted) in
       (d.accepted, λ c x y p q. d.samples c x y p q (no-cut-edge _ h.setup.filter x y))
 
-  pub two-cuts-agree : TwoCutsAgree n K
-  two-cuts-agree a b large from too r q c x y h i j clear clear_too = (cut-run a large r from).samples c x y h i clear ∙ sym ((cut-run b large q too).samples c x y h j clear_too)
+  pub two-cuts-agree : TwoCutsAgree K
+  two-cuts-agree a b large from too r q c x y h k i j clear clear_too = (cut-run a large r from).samples c x y h i clear ∙ sym ((cut-run b large q too).samples c x y k j clear_too)
 
 -- ---- outside the filter region
 
@@ -77,23 +77,23 @@ not-in-filter s fits x y held out =
     go (inl a) (inr b) = rw (a.2, b.1)
     go (inr a) b = rw a.1
 
-module _ (n : ℕ) (K : Calls n) (E : Effects n K) (h : Handed) (r : FinishedRun n K h) where
+module _ (K : Calls) (E : Effects K) (h : Handed) (r : FinishedRun K h) where
   abbrev state : State
-  state = end n K (start_state n h) r.calls
+  state = end K (start_state h) r.calls
 
   fits : SetupFits h.setup
-  fits = setup-fits h.setup (picture-accepted n h r.accepted).setup
+  fits = setup-fits h.setup (picture-accepted h r.accepted).setup
 
-  kept : KeptFrom n h state
-  kept = after-start n K E h r.accepted r.calls r.unaltered
+  kept : KeptFrom h state
+  kept = after-start K E h r.accepted r.calls r.unaltered
 
   -- the slice after the result call
-  out-is : (handed_over n K h r).out ≡ result_of n (layout h.setup) (source state)
-  out-is = (handed-over n h state kept r.ended r.slice r.room).1
+  out-is : (handed_over K h r).out ≡ result_of h.setup.planes (layout h.setup) (source state)
+  out-is = (handed-over h state kept r.ended r.slice r.room).1
 
-  out-length : length (handed_over n K h r).out ≡ result_length n h.setup
+  out-length : length (handed_over K h r).out ≡ result_length h.setup
   unfolding result_of layout_of
-  out-length = rw out-is (length-set_of n _ _ _ ∙ go (full_planes h.setup))
+  out-length = rw out-is (length-set_of h.setup.planes _ _ _ ∙ go (full_planes h.setup))
     where
       image : Region
       image = h.setup.image
@@ -101,26 +101,26 @@ module _ (n : ℕ) (K : Calls n) (E : Effects n K) (h : Handed) (r : FinishedRun
       filter : Region
       filter = h.setup.filter
 
-      go : (full : Bool) → n * cond full image.height filter.height * cond full image.width filter.width ≡ n * (cond full image filter).height * (cond full image filter).width
+      go : (full : Bool) → h.setup.planes * cond full image.height filter.height * cond full image.width filter.width ≡ h.setup.planes * (cond full image filter).height * (cond full image filter).width
       go true = refl
       go false = refl
 
-  kept-outside : (c : ℕ) (x y : ℤ) → c < n → Holds (result_region h.setup) x y → (Holds h.setup.filter x y → ⊥)
-      → result_at h.setup (handed_over n K h r).out c x y ≡ first_at n h c x y
+  kept-outside : (c : ℕ) (x y : ℤ) → c < h.setup.planes → Holds (result_region h.setup) x y → (Holds h.setup.filter x y → ⊥)
+      → result_at h.setup (handed_over K h r).out c x y ≡ first_at h c x y
   unfolding layout_of
-  kept-outside c x y p held out = rw out-is (result-sample n s fits (source state) c x y p held ∙ go (full_planes s) refl held)
+  kept-outside c x y p held out = rw out-is (result-sample s fits (source state) c x y p held ∙ go (full_planes s) refl held)
     where
       s : Setup
       s = h.setup
 
       go : (full : Bool) → full_planes s ≡ full → Holds (cond full s.image s.filter) x y
-          → of s.image.width s.image.height (source state) c (nat_abs (x -ℤ s.image.left)) (nat_abs (y -ℤ s.image.top)) ≡ first_at n h c x y
+          → of s.image.width s.image.height (source state) c (nat_abs (x -ℤ s.image.left)) (nat_abs (y -ℤ s.image.top)) ≡ first_at h c x y
       go true e held =
-          run-outside n h state kept c _ _ p (image-in-result (layout s) _ _ e (column-below s.image x y held) (row_below s.image x y held)) (not-in-filter s fits x y held out)
+          run-outside h state kept c _ _ p (image-in-result (layout s) _ _ e (column-below s.image x y held) (row_below s.image x y held)) (not-in-filter s fits x y held out)
       go false e held = absurd (out held)
 
-pub outside_kept : (n : ℕ) (K : Calls n) → Effects n K → OutsideKept n K
-outside_kept n K E h r = kept-outside n K E h r
+pub outside_kept : (K : Calls) → Effects K → OutsideKept K
+outside_kept K E h r = kept-outside K E h r
 
 -- ---- any order of bands and any band height
 
@@ -128,48 +128,48 @@ cond-second : (b : Bool) (u v w : List Float) → (b ≡ false → v ≡ w) → 
 cond-second true u v w f = refl
 cond-second false u v w f = f refl
 
-module _ (n : ℕ) (a b : Handed) (same : SameButBands a b) where
+module _ (a b : Handed) (same : SameButBands a b) where
   region-same : result_region a.setup ≡ result_region b.setup
   region-same = rw (same.image, same.filter, same.full)
 
-  first-same : (c : ℕ) (x y : ℤ) → first_at n a c x y ≡ first_at n b c x y
-  first-same c x y = rw (leaves-same n a b same.first, same.image)
+  first-same : (c : ℕ) (x y : ℤ) → first_at a c x y ≡ first_at b c x y
+  first-same c x y = rw (leaves-same a b same.first, same.image)
 
-  module _ (p : PictureFits n a) (q : PictureFits n b) where
+  module _ (p : PictureFits a) (q : PictureFits b) where
     -- if the EPF is off there are no block sigmas
-    sigmas-same : sigmas_filled n a ≡ sigmas_filled n b
+    sigmas-same : sigmas_filled a ≡ sigmas_filled b
     unfolding sigmas_filled
     sigmas-same = rw (same.settings, same.filter, same.frame, same.table, same.grids) (cond-second (epf_on b.setup) _ a.sigmas b.sigmas (λ off.
         let none : length a.sigmas ≡ 0 = rw (same.settings, off) at p.sigmas in
         let too : length b.sigmas ≡ 0 = rw off at q.sigmas in
         ext_get_or nan a.sigmas b.sigmas (none ∙ sym too) (λ k h. absurd (omega (arith, none)))))
 
-    sample-same : (c : ℕ) (x y : ℤ) → sample_at n a c x y ≡ sample_at n b c x y
-    sample-same c x y = rw (leaves-same n a b same.first, sigmas-same, same.image, same.filter, same.full, same.settings)
+    sample-same : (c : ℕ) (x y : ℤ) → sample_at a c x y ≡ sample_at b c x y
+    sample-same c x y = rw (leaves-same a b same.first, sigmas-same, same.image, same.filter, same.planes, same.full, same.settings)
 
-module _ (n : ℕ) (K : Calls n) (E : Effects n K) (a b : Handed) (same : SameButBands a b) (r : FinishedRun n K a) (q : FinishedRun n K b) where
-  each_same : (c : ℕ) (x y : ℤ) → c < n → Holds (result_region a.setup) x y → result_at a.setup (handed_over n K a r).out c x y ≡ result_at b.setup (handed_over n K b q).out c x y
+module _ (K : Calls) (E : Effects K) (a b : Handed) (same : SameButBands a b) (r : FinishedRun K a) (q : FinishedRun K b) where
+  each_same : (c : ℕ) (x y : ℤ) → c < a.setup.planes → Holds (result_region a.setup) x y → result_at a.setup (handed_over K a r).out c x y ≡ result_at b.setup (handed_over K b q).out c x y
   each_same c x y h held = go (holds-or-not a.setup.filter x y)
     where
-      go : Dec (Holds a.setup.filter x y) → result_at a.setup (handed_over n K a r).out c x y ≡ result_at b.setup (handed_over n K b q).out c x y
+      go : Dec (Holds a.setup.filter x y) → result_at a.setup (handed_over K a r).out c x y ≡ result_at b.setup (handed_over K b q).out c x y
       go (yes i) =
-          (whole-picture n K E a r).1 c x y h i ∙ sample-same n a b same (picture-accepted n a r.accepted) (picture-accepted n b q.accepted) c x y
-          ∙ sym ((whole-picture n K E b q).1 c x y h (rw same.filter at i))
+          (whole-picture K E a r).1 c x y h i ∙ sample-same a b same (picture-accepted a r.accepted) (picture-accepted b q.accepted) c x y
+          ∙ sym ((whole-picture K E b q).1 c x y (rw same.planes at h) (rw same.filter at i))
       go (no o) =
-          outside_kept n K E a r c x y h held o ∙ first-same n a b same c x y
-          ∙ sym (outside_kept n K E b q c x y h (rw (region-same n a b same) at held) (rw same.filter at o))
+          outside_kept K E a r c x y h held o ∙ first-same a b same c x y
+          ∙ sym (outside_kept K E b q c x y (rw same.planes at h) (rw (region-same a b same) at held) (rw same.filter at o))
 
-  bands-same : (handed_over n K a r).out ≡ (handed_over n K b q).out
-  bands-same = sets-ext n region.width region.height (handed_over n K a r).out (handed_over n K b q).out (out-length n K E a r) (rw (region-same n a b same) (out-length n K E b q)) each
+  bands-same : (handed_over K a r).out ≡ (handed_over K b q).out
+  bands-same = sets-ext a.setup.planes region.width region.height (handed_over K a r).out (handed_over K b q).out (out-length K E a r) (rw (region-same a b same, same.planes) (out-length K E b q)) each
     where
       region : Region
       region = result_region a.setup
 
-      each : (c x y : ℕ) → c < n → x < region.width → y < region.height
-          → of region.width region.height (handed_over n K a r).out c x y ≡ of region.width region.height (handed_over n K b q).out c x y
+      each : (c x y : ℕ) → c < a.setup.planes → x < region.width → y < region.height
+          → of region.width region.height (handed_over K a r).out c x y ≡ of region.width region.height (handed_over K b q).out c x y
       each c x y h i j =
-          rw (← region-same n a b same, nth-offset region.left x, nth-offset region.top y) at
+          rw (← region-same a b same, nth-offset region.left x, nth-offset region.top y) at
           (each_same c (region.left +ℤ pos x) (region.top +ℤ pos y) h (nth-holds region x y i j))
 
-pub bands-alike : (n : ℕ) (K : Calls n) → Effects n K → BandsAlike n K
-bands-alike n K E a b same r q = bands-same n K E a b same r q
+pub bands-alike : (K : Calls) → Effects K → BandsAlike K
+bands-alike K E a b same r q = bands-same K E a b same r q

@@ -12,8 +12,8 @@ use lib.ListN.{length}
 use lib.Ieee.{Float}
 use Rattle.run_setup.specs.declared.Setup.{Setup}
 use Rattle.run_record.specs.declared.Run.{Run}
-use Rattle.run_setup.specs.Setup.{band_count}
-use Rattle.run_record.specs.Record.{pass_count, is_done, started, marked, advanced, finished, count_below}
+use Rattle.run_setup.specs.Setup.{pass_count, band_count}
+use Rattle.run_record.specs.Record.{is_done, started, marked, advanced, finished, count_below}
 use Rattle.run_record.proofs.Counts.{count-more, count-all, count-none, left-counted}
 use Rattle.run_record.proofs.Done.{started_none, marked-same, marked_other, advanced-none}
 use Rattle.refusals.proofs.Tables.{is_true}
@@ -42,9 +42,9 @@ record Counted (r q : Run) (a b : ℕ) : Type 0 where
   bands : bands_done q ≡ bands_done r + a
   advances : q.pass ≡ r.pass + b
 
-band-counted : (n : ℕ) (t : State) (k : ℕ) (f : BandFits n t k) → length t.run.done ≡ 256 → Counted t.run (marked t.run k) 1 0
+band-counted : (t : State) (k : ℕ) (f : BandFits t k) → length t.run.done ≡ 256 → Counted t.run (marked t.run k) 1 0
 unfolding marked
-band-counted n t k f l =
+band-counted t k f l =
     let c : band_count t.run.setup ≤ 256 = (setup-fits t.run.setup f.run.setup).count in
     let more = count-more 256 k (is_done t.run) (is_done (marked t.run k)) (omega (arith, f.band.below)) f.band.fresh (marked-same t.run k (omega (arith, f.band.below))) (λ j z. marked_other t.run k j z) in
     record { bands = omega (arith, more); advances = omega arith }
@@ -56,14 +56,14 @@ advance-counted r f =
     let all = count-all (band_count r.setup) 256 (is_done r) c f.pass.done (λ k l o. f.run.none-past-count k l (rw f.pass.unfinished o)) in
     record { bands = omega (arith, all, none-counted (is_done (advanced r)) (advanced-none r), suc-mul r.pass (band_count r.setup)); advances = omega arith }
 
-effect-counted : {n : ℕ} {t : State} {a b : ℕ} {u : State} → Effect n t a b u → length t.run.done ≡ 256 → Counted t.run u.run a b
-effect-counted {n} {t} (one_band k e) l = rw (band-leaves n t k e) (band-counted n t k (band-fits n t k (sym (band-number n t k) ∙ e)) l)
-effect-counted {n} {t} (one_advance e) l = rw (advance-leaves t.run e) (advance-counted t.run (advance-fits t.run (sym (advance-number t.run) ∙ e)))
-effect-counted {n} {t} nothing l = record { bands = omega arith; advances = omega arith }
+effect-counted : {t : State} {a b : ℕ} {u : State} → Effect t a b u → length t.run.done ≡ 256 → Counted t.run u.run a b
+effect-counted {t} (one_band k e) l = rw (band-leaves t k e) (band-counted t k (band-fits t k (sym (band-number t k) ∙ e)) l)
+effect-counted {t} (one_advance e) l = rw (advance-leaves t.run e) (advance-counted t.run (advance-fits t.run (sym (advance-number t.run) ∙ e)))
+effect-counted {t} nothing l = record { bands = omega arith; advances = omega arith }
 
-module _ (n : ℕ) (K : Calls n) (E : Effects n K) (first : List Float) where
-  next-counted : (t : State) (c : K.Call) → Sound n first t → (K.number (K.answer c) ≡ 0 → K.Lent t c)
-      → Counted t.run (state_after n K t c).run (cond (eqb (K.number (K.answer c)) 0) (K.bands c) 0) (cond (eqb (K.number (K.answer c)) 0) (K.advances c) 0)
+module _ (K : Calls) (E : Effects K) (first : List Float) where
+  next-counted : (t : State) (c : K.Call) → Sound first t → (K.number (K.answer c) ≡ 0 → K.Lent t c)
+      → Counted t.run (state_after K t c).run (cond (eqb (K.number (K.answer c)) 0) (K.bands c) 0) (cond (eqb (K.number (K.answer c)) 0) (K.advances c) 0)
   unfolding state_after
   next-counted t c i l = go (eqb (K.number (K.answer c)) 0) refl
     where
@@ -71,12 +71,12 @@ module _ (n : ℕ) (K : Calls n) (E : Effects n K) (first : List Float) where
       go true e = let z = eqb-true (K.number (K.answer c)) 0 e in effect-counted (E t c z (l z)) i.flags
       go false e = record { bands = omega arith; advances = omega arith }
 
-  end-counted : (t : State) (cs : List K.Call) → Sound n first t → Unaltered n K t cs → Counted t.run (end n K t cs).run (bands_in n K cs) (advances_in n K cs)
+  end-counted : (t : State) (cs : List K.Call) → Sound first t → Unaltered K t cs → Counted t.run (end K t cs).run (bands_in K cs) (advances_in K cs)
   unfolding end bands_in advances_in
   end-counted t [] i u = record { bands = omega arith; advances = omega arith }
   end-counted t (c ∷ cs) i u =
       let s = next-counted t c i u.0 in
-      let r = end-counted (state_after n K t c) cs (after_kept n K E first t c i u.0).sound u.1 in
+      let r = end-counted (state_after K t c) cs (after_kept K E first t c i u.0).sound u.1 in
       record { bands = omega (arith, r.bands, s.bands); advances = omega (arith, r.advances, s.advances) }
 
 -- a finished run has no done band
@@ -91,13 +91,13 @@ started-bands_done : (s : Setup) → (bands_done (started s) ≡ 0) × ((started
 unfolding started
 started-bands_done s = (omega (arith, none-counted (is_done (started s)) (started_none s)), refl)
 
-pub count-rule : (n : ℕ) (K : Calls n) → Effects n K → CountRule n K
-count-rule n K E h e cs u =
+pub count-rule : (K : Calls) → Effects K → CountRule K
+count-rule K E h e cs u =
     let s : Setup = h.setup in
-    let kept = after-start n K E h e cs u in
-    let first : (bands_done (start_state n h).run ≡ 0) × ((start_state n h).run.pass ≡ 0) = rw (start-state n h e) (started-bands_done s) in
-    let c = end-counted n K E (start_leaves n h) (start_state n h) cs (start-sound n h e) u in
-    let r : Run = (end n K (start_state n h) cs).run in
+    let kept = after-start K E h e cs u in
+    let first : (bands_done (start_state h).run ≡ 0) × ((start_state h).run.pass ≡ 0) = rw (start-state h e) (started-bands_done s) in
+    let c = end-counted K E (start_leaves h) (start_state h) cs (start-sound h e) u in
+    let r : Run = (end K (start_state h) cs).run in
     let p : pass_count r.setup ≡ pass_count s = ap pass_count kept.setup in (
       λ z.
           let over : r.pass ≡ pass_count s = eqb→eq r.pass (pass_count r.setup) z ∙ p in
@@ -107,11 +107,11 @@ count-rule n K E h e cs u =
     )
 
 pub library-count-rule : LibraryCountRule
-library-count-rule = count-rule 3 (library_calls 3) (library_effect 3)
+library-count-rule = count-rule library_calls library_effect
 
 -- the number of bands left in the record
-pub left-counts : (n : ℕ) (K : Calls n) → Effects n K → LeftCounts n K
-left-counts n K E h e cs u =
-    let k = after-start n K E h e cs u in
-    let r : Run = (end n K (start_state n h) cs).run in
+pub left-counts : (K : Calls) → Effects K → LeftCounts K
+left-counts K E h e cs u =
+    let k = after-start K E h e cs u in
+    let r : Run = (end K (start_state h) cs).run in
     left-counted r k.sound.run ∙ ap (λ (s : Setup). cond (finished r) 0 (band_count s - count_below 256 (is_done r))) k.setup

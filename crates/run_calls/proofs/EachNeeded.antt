@@ -60,7 +60,7 @@ row left width = record { left = pos left; top = pos 0; width = width; height = 
 -- columns 0 to 2; no group has a grid
 abbrev handed : Region → Settings → List Float → List Float → Handed
 handed filter settings first second = record {
-  setup = record { image = row 0 3; filter = filter; preserve_outside = 0; settings = settings; band_height = 1 };
+  setup = record { image = row 0 3; filter = filter; planes = 3; preserve_outside = 0; settings = settings; band_height = 1 };
   frame = record { width = 8; height = 8; upsampling = 1; lf_level = 0; group_size_shift = 0 };
   table = 0 ∷ 0 ∷ 0 ∷ [];
   grids = [];
@@ -103,7 +103,7 @@ start-others buffers-unaltered n = tt
 start-others run-finished n = tt
 start-others slice_fits n = refl
 
-no_record : (result_after 3 (library_calls 3) unstarted [] zeros).number ≡ 9
+no_record : (result_after library_calls unstarted [] zeros).number ≡ 9
 unfolding start_outcome start_checks picture_checks picture_fits bounds_fit corner_fits side_fits inside bad_sides bad_settings sizes_of table_fits grids_fit grid_start cells some_below bad_grid band_count layout_of set_of tab started end result_outcome result_checks size_fits run_fits setup_fits
 no_record = refl
 
@@ -121,7 +121,7 @@ finish-others buffers-unaltered n = tt
 finish-others run-finished n = absurd (n refl)
 finish-others slice_fits n = refl
 
-unfinished : (result_after 3 (library_calls 3) blurred [] zeros).number ≡ 11
+unfinished : (result_after library_calls blurred [] zeros).number ≡ 11
 unfolding start_outcome start_checks start_leaves picture_checks picture_fits bounds_fit corner_fits side_fits inside bad_sides bad_settings sizes_of table_fits grids_fit grid_start cells some_below bad_grid band_count layout_of set_of tab started end plan steps result_outcome result_checks run_fits bad_done bands_left_in count_below is_done numbers_fit setup_fits size_fits
 unfinished = refl
 
@@ -139,7 +139,7 @@ slice-others buffers-unaltered n = tt
 slice-others run-finished n = tt
 slice-others slice_fits n = absurd (n refl)
 
-no_room : (result_after 3 (library_calls 3) plain [] []).number ≡ 7
+no_room : (result_after library_calls plain [] []).number ≡ 7
 unfolding start_outcome start_checks start_leaves picture_checks picture_fits bounds_fit corner_fits side_fits inside bad_sides bad_settings sizes_of table_fits grids_fit grid_start cells some_below bad_grid band_count layout_of set_of tab started end result_outcome result_checks size_fits
 no_room = refl
 
@@ -157,18 +157,18 @@ passes-others buffers-unaltered n = tt
 passes-others run-finished n = tt
 passes-others slice_fits n = refl
 
-plain-run : FinishedRun 3 (library_calls 3) plain
+plain-run : FinishedRun library_calls plain
 unfolding start_outcome start_checks picture_checks picture_fits bounds_fit corner_fits side_fits inside bad_sides bad_settings sizes_of table_fits grids_fit grid_start cells some_below bad_grid band_count layout_of set_of tab started plan steps end
 plain-run = record { accepted = refl; calls = []; unaltered = tt; ended = tt; slice = zeros; room = refl }
 
 middle-held : Holds (row 0 3) (pos 1) (pos 0)
 middle-held = record { column = record { from = tt; before = tt }; row = record { from = tt; before = tt } }
 
-passes-seen : lt (sample_at 3 blurred 0 (pos 1) (pos 0)) (sample_at 3 plain 0 (pos 1) (pos 0)) ≡ true
+passes-seen : lt (sample_at blurred 0 (pos 1) (pos 0)) (sample_at plain 0 (pos 1) (pos 0)) ≡ true
 unfolding start_leaves of_bits lt add sub mul div mirror around of set_of tab inner layout_of pass passes plan steps gabor_pass gabor_by alone stands evaluate formula sigmas_filled
 passes-seen = refl
 
-passes-itself : lt (sample_at 3 plain 0 (pos 1) (pos 0)) (sample_at 3 plain 0 (pos 1) (pos 0)) ≡ false
+passes-itself : lt (sample_at plain 0 (pos 1) (pos 0)) (sample_at plain 0 (pos 1) (pos 0)) ≡ false
 unfolding start_leaves of_bits lt of set_of tab inner layout_of passes plan steps sigmas_filled
 passes-itself = refl
 
@@ -179,10 +179,10 @@ abbrev sides : Picture
 sides = λ c x y. cond (eqb x 2) b0 (bits 0x4180_0000)
 
 abbrev alone-there : Handed
-alone-there = handed (row 1 1) gabor (smaller sides weights).first zeros
+alone-there = handed (row 1 1) gabor (smaller 3 sides weights).first zeros
 
 -- counted from the middle column, both sides have the same index and so the same sample
-same-sides : (c : ℕ) (x y : ℤ) → c < 3 → Holds (smaller sides weights).setup.filter x y → input_at 3 (smaller sides weights) c x y ≡ input_at 3 alone-there c x y
+same-sides : (c : ℕ) (x y : ℤ) → c < 3 → Holds (smaller 3 sides weights).setup.filter x y → input_at (smaller 3 sides weights) c x y ≡ input_at alone-there c x y
 unfolding start_leaves inner layout_of
 same-sides c x (pos (suc j)) h held = absurd (omega (arith, lt-to (pos (suc j)) (pos 1) held.row.before))
 same-sides c x (negsuc j) h held = absurd held.row.from
@@ -192,26 +192,26 @@ same-sides c (pos (suc zero)) (pos zero) h held = refl
 same-sides c (pos (suc (suc zero))) (pos zero) h held = refl
 same-sides c (pos (suc (suc (suc i)))) (pos zero) h held = absurd (omega (arith, lt-to (pos (suc (suc (suc i)))) (pos 3) held.column.before))
 
-contained-others : (p : Premise) → (p ≡ contained → ⊥) → Says p (smaller sides weights) alone-there (calls sides weights) (slice sides weights)
-unfolding picture_checks picture_fits bounds_fit corner_fits side_fits inside bad_sides bad_settings sizes_of table_fits grids_fit grid_start cells some_below bad_grid band_count layout_of set_of tab
-contained-others start-accepted n = (premises-met sides weights).start-accepted
+contained-others : (p : Premise) → (p ≡ contained → ⊥) → Says p (smaller 3 sides weights) alone-there (calls 3 sides weights) (slice 3 sides weights)
+unfolding picture_checks picture_fits bounds_fit corner_fits side_fits inside bad_sides bad_settings sizes_of table_fits grids_fit grid_start cells some_below bad_grid band_count layout_of set_of tab plan steps
+contained-others start-accepted n = (premises-met 3 tt sides weights).start-accepted
 contained-others unrefused n = refl
 contained-others contained n = absurd (n refl)
 contained-others same-passes n = refl
 contained-others inputs-agree n = same-sides
 contained-others sigmas-alike n = λ on. absurd on
-contained-others buffers-unaltered n = (premises-met sides weights).buffers-unaltered
-contained-others run-finished n = (premises-met sides weights).run-finished
-contained-others slice_fits n = (premises-met sides weights).slice_fits
+contained-others buffers-unaltered n = (premises-met 3 tt sides weights).buffers-unaltered
+contained-others run-finished n = (premises-met 3 tt sides weights).run-finished
+contained-others slice_fits n = (premises-met 3 tt sides weights).slice_fits
 
 middle-clear : Clear 1 (row 0 3) (row 1 1) (pos 1) (pos 0)
 middle-clear = record { left = λ f. tt; right = λ f. tt; top = λ f. absurd (f refl); bottom = λ f. absurd (f refl) }
 
-contained-seen : lt (sample_at 3 alone-there 0 (pos 1) (pos 0)) (sample_at 3 (smaller sides weights) 0 (pos 1) (pos 0)) ≡ true
+contained-seen : lt (sample_at alone-there 0 (pos 1) (pos 0)) (sample_at (smaller 3 sides weights) 0 (pos 1) (pos 0)) ≡ true
 unfolding start_leaves of_bits lt add sub mul div mirror around of set_of tab inner layout_of pass passes plan steps gabor_pass gabor_by alone stands evaluate formula sigmas_filled
 contained-seen = refl
 
-contained-itself : lt (sample_at 3 (smaller sides weights) 0 (pos 1) (pos 0)) (sample_at 3 (smaller sides weights) 0 (pos 1) (pos 0)) ≡ false
+contained-itself : lt (sample_at (smaller 3 sides weights) 0 (pos 1) (pos 0)) (sample_at (smaller 3 sides weights) 0 (pos 1) (pos 0)) ≡ false
 unfolding start_leaves of_bits lt add sub mul div mirror around of set_of tab inner layout_of pass passes plan steps gabor_pass gabor_by alone stands evaluate formula sigmas_filled
 contained-itself = refl
 
@@ -229,7 +229,7 @@ off-blocks =
     let whole : Handed = larger_edge dot ones b0 sigma64 in
     let region : Region = record { left = pos 4; top = pos 0; width = 8; height = 2 } in
     record {
-      setup = record { image = region; filter = region; preserve_outside = 0; settings = whole.setup.settings; band_height = 64 };
+      setup = record { image = region; filter = region; planes = 3; preserve_outside = 0; settings = whole.setup.settings; band_height = 64 };
       frame = whole.frame;
       table = whole.table;
       grids = whole.grids;
@@ -248,14 +248,14 @@ module _ (x y : ℤ) (held : Holds small-edge.setup.filter x y) where
   line : nat_abs (y -ℤ pos 0) < 2
   line = offset-below (pos 0) 2 y held.row
 
-  same_inputs : (c : ℕ) → c < 3 → input_at 3 small-edge c x y ≡ input_at 3 off-blocks c x y
+  same_inputs : (c : ℕ) → c < 3 → input_at small-edge c x y ≡ input_at off-blocks c x y
   unfolding start_leaves inner layout_of
   same_inputs c h =
       let e : 7 + (1 + nat_abs (x -ℤ pos 8)) ≡ 4 + (0 + nat_abs (x -ℤ pos 4)) = omega (arith, further) in
       of-set_of 3 5 2 _ c (1 + nat_abs (x -ℤ pos 8)) (0 + nat_abs (y -ℤ pos 0)) h (omega (arith, column)) (omega (arith, line))
       ∙ rw e (sym (of-set_of 3 8 2 (λ c x y. dot c (4 + x) y) c (0 + nat_abs (x -ℤ pos 4)) (0 + nat_abs (y -ℤ pos 0)) h (omega (arith, column, further)) (omega (arith, line))))
 
-  same-sigmas : sigma_at 3 small-edge x y ≡ sigma_at 3 off-blocks x y
+  same-sigmas : sigma_at small-edge x y ≡ sigma_at off-blocks x y
   unfolding layout_of sigmas_filled block_sigmas tab block_sigma frame_sigma sigma_in sizes_of grid_start cells
   same-sigmas =
       let a : nat_abs (x -ℤ pos 8) / 8 ≡ 0 = omega (arith, column) in
@@ -281,11 +281,11 @@ dot-held = record { column = record { from = tt; before = tt }; row = record { f
 dot-clear : Clear 2 small-edge.setup.filter off-blocks.setup.filter (pos 11) (pos 1)
 dot-clear = record { left = λ f. tt; right = λ f. absurd (f refl); top = λ f. absurd (f refl); bottom = λ f. absurd (f refl) }
 
-blocks-seen : lt (sample_at 3 off-blocks 0 (pos 11) (pos 1)) (sample_at 3 small-edge 0 (pos 11) (pos 1)) ≡ true
+blocks-seen : lt (sample_at off-blocks 0 (pos 11) (pos 1)) (sample_at small-edge 0 (pos 11) (pos 1)) ≡ true
 unfolding start_leaves of_bits lt add sub mul div mirror around of set_of tab inner layout_of pass passes plan steps step_of scale_of sigmas_filled block_sigmas block_sigma frame_sigma sigma_in sizes_of grid_start cells magnitude kernel dists along scaled_from apart distance positive weight_by copied weight_at blend divisor epf border multiplier epf_pass
 blocks-seen = refl
 
-blocks-itself : lt (sample_at 3 small-edge 0 (pos 11) (pos 1)) (sample_at 3 small-edge 0 (pos 11) (pos 1)) ≡ false
+blocks-itself : lt (sample_at small-edge 0 (pos 11) (pos 1)) (sample_at small-edge 0 (pos 11) (pos 1)) ≡ false
 unfolding start_leaves of_bits lt add sub mul div mirror around of set_of tab inner layout_of pass passes plan steps step_of scale_of sigmas_filled block_sigmas block_sigma frame_sigma sigma_in sizes_of grid_start cells magnitude kernel dists along scaled_from apart distance positive weight_by copied weight_at blend divisor epf border multiplier epf_pass
 blocks-itself = refl
 
@@ -318,8 +318,8 @@ each_needed unrefused claim =
     not-delivered _ small-edge off-blocks (run_of (edge-premises-met dot ones b0 sigma64)) (pos 11) (pos 1) dot-held dot-clear (λ e. less-unlike _ _ blocks-seen blocks-itself (sym e))
     (claim small-edge off-blocks (calls_edge dot ones b0 sigma64) (slice_edge dot ones b0 sigma64) blocks-others tt)
 each_needed contained claim =
-    not-delivered _ (smaller sides weights) alone-there (run_of (premises-met sides weights)) (pos 1) (pos 0) middle-held middle-clear (λ e. less-unlike _ _ contained-seen contained-itself (sym e))
-    (claim (smaller sides weights) alone-there (calls sides weights) (slice sides weights) contained-others tt)
+    not-delivered _ (smaller 3 sides weights) alone-there (run_of (premises-met 3 tt sides weights)) (pos 1) (pos 0) middle-held middle-clear (λ e. less-unlike _ _ contained-seen contained-itself (sym e))
+    (claim (smaller 3 sides weights) alone-there (calls 3 sides weights) (slice 3 sides weights) contained-others tt)
 each_needed same-passes claim =
     let clear : Clear 0 (row 0 3) (row 0 3) (pos 1) (pos 0) = record { left = λ f. tt; right = λ f. tt; top = λ f. tt; bottom = λ f. tt } in
     not-delivered _ plain blurred plain-run (pos 1) (pos 0) middle-held clear (λ e. less-unlike _ _ passes-seen passes-itself (sym e)) (claim plain blurred [] zeros passes-others tt)

@@ -33,11 +33,11 @@ use Rattle.run_calls.specs.EdgeExample.{larger, smaller, calls, slice, EdgePremi
 use Rattle.run_calls.proofs.Lists.{start-state}
 
 module _ (p : Picture) (scales : List Float) (border sigma : Float) where
-  accepted : StartAccepted 3 (smaller p scales border sigma)
+  accepted : StartAccepted (smaller p scales border sigma)
   unfolding start_outcome start_checks picture_checks picture_fits bounds_fit corner_fits side_fits inside bad_sides bad_settings sizes_of table_fits grids_fit grid_start cells some_below bad_grid some_not_held not_held grid_lacks_block band_count layout_of set_of tab
   accepted = refl
 
-  unrefused : Unrefused 3 (larger p scales border sigma)
+  unrefused : Unrefused (larger p scales border sigma)
   unfolding picture_checks picture_fits bounds_fit corner_fits side_fits inside bad_sides bad_settings sizes_of table_fits grids_fit grid_start cells some_below bad_grid some_not_held not_held grid_lacks_block band_count layout_of set_of tab
   unrefused = refl
 
@@ -51,14 +51,14 @@ module _ (p : Picture) (scales : List Float) (border sigma : Float) where
     row : nat_abs (y -ℤ pos 0) < 2
     row = offset-below (pos 0) 2 y held.row
 
-    inputs : (c : ℕ) → c < 3 → input_at 3 (smaller p scales border sigma) c x y ≡ input_at 3 (larger p scales border sigma) c x y
+    inputs : (c : ℕ) → c < 3 → input_at (smaller p scales border sigma) c x y ≡ input_at (larger p scales border sigma) c x y
     unfolding start_leaves inner layout_of
     inputs c h =
         let e : 7 + (1 + nat_abs (x -ℤ pos 8)) ≡ 0 + nat_abs (x -ℤ pos 0) = omega (arith, further) in
         of-set_of 3 5 2 _ c (1 + nat_abs (x -ℤ pos 8)) (0 + nat_abs (y -ℤ pos 0)) h (omega (arith, column)) (omega (arith, row))
         ∙ rw e (sym (of-set_of 3 12 2 p c (0 + nat_abs (x -ℤ pos 0)) (0 + nat_abs (y -ℤ pos 0)) h (omega (arith, column, further)) (omega (arith, row))))
 
-    sigmas : sigma_at 3 (smaller p scales border sigma) x y ≡ sigma_at 3 (larger p scales border sigma) x y
+    sigmas : sigma_at (smaller p scales border sigma) x y ≡ sigma_at (larger p scales border sigma) x y
     unfolding layout_of sigmas_filled block_sigmas tab block_sigma frame_sigma sigma_in sizes_of grid_start cells
     sigmas =
         let a : nat_abs (x -ℤ pos 8) / 8 ≡ 0 = omega (arith, column) in
@@ -66,7 +66,7 @@ module _ (p : Picture) (scales : List Float) (border sigma : Float) where
         let c : nat_abs (y -ℤ pos 0) / 8 ≡ 0 = omega (arith, row) in
         rw (a, b, c)
 
-  from : CutFrom 3 (smaller p scales border sigma) (larger p scales border sigma)
+  from : CutFrom (smaller p scales border sigma) (larger p scales border sigma)
   unfolding inside plan steps step_of scale_of
   from = record { unrefused = unrefused; contained = tt; same-passes = refl; inputs-agree = λ c x y h held. inputs x y held c h; sigmas-alike = λ on x y held. sigmas x y held }
 
@@ -74,15 +74,15 @@ module _ (p : Picture) (scales : List Float) (border sigma : Float) where
   abbrev after : State → List LibraryCall
   after t = band t 0 ∷ advance (marked (started (smaller p scales border sigma).setup) 0) ∷ []
 
-  premises : Premises 3 (library_calls 3) (smaller p scales border sigma) (larger p scales border sigma) (calls p scales border sigma) (slice p scales border sigma)
+  premises : Premises library_calls (smaller p scales border sigma) (larger p scales border sigma) (calls p scales border sigma) (slice p scales border sigma)
   unfolding start_leaves band_outcome advance_outcome sigmas_filled block_sigmas tab state_after end started marked advanced band_checks run_fits bad_done bands_left_in count_below band_missing is_done numbers_fit setup_fits band_count size_fits some_below picture_fits bounds_fit corner_fits side_fits inside layout_of plan steps set_of
   premises =
-      let begins = sym (start-state 3 (smaller p scales border sigma) accepted) in
+      let begins = sym (start-state (smaller p scales border sigma) accepted) in
       record {
         start-accepted = accepted;
         cut-from-larger = from;
-        buffers-unaltered = subst (λ (t : State). Unaltered 3 (library_calls 3) t (after t)) begins (λ e. refl, (λ e. refl, tt));
-        run-finished = subst (λ (t : State). T (finished (end 3 (library_calls 3) t (after t)).run)) begins tt;
+        buffers-unaltered = subst (λ (t : State). Unaltered library_calls t (after t)) begins (λ e. refl, (λ e. refl, tt));
+        run-finished = subst (λ (t : State). T (finished (end library_calls t (after t)).run)) begins tt;
         slice_fits = refl;
       }
 
@@ -104,7 +104,7 @@ edge-sides p scales border sigma zero l t = absurd t
 edge-sides p scales border sigma (suc k) l t = absurd (omega arith)
 
 pub edge-sources-met : (p : Picture) (scales : List Float) (border sigma : Float)
-    → PremisesWith 3 (library_calls 3) SameSources (smaller p scales border sigma) (larger p scales border sigma) (calls p scales border sigma) (slice p scales border sigma)
+    → PremisesWith library_calls SameSources (smaller p scales border sigma) (larger p scales border sigma) (calls p scales border sigma) (slice p scales border sigma)
 edge-sources-met p scales border sigma =
     let m = edge-premises-met p scales border sigma in
     record {

@@ -46,24 +46,24 @@ use Rattle.run_calls.proofs.Theorem.{library-theorem, sources-premises}
 
 -- a state of the run that satisfies the invariant, with this record
 record Here (first : List Float) (t : State) (r : Run) : Type 0 where
-  sound : Sound 3 first t
+  sound : Sound first t
   run : t.run ≡ r
 
 abbrev next : State → LibraryCall → State
-next t c = state_after 3 (library_calls 3) t c
+next t c = state_after library_calls t c
 
-after-accepted : (t : State) (c : LibraryCall) → number_in (answer 3 c) ≡ 0 → next t c ≡ left_by t (answer 3 c)
+after-accepted : (t : State) (c : LibraryCall) → number_in (answer c) ≡ 0 → next t c ≡ left_by t (answer c)
 unfolding state_after
-after-accepted t c e = rw (eq-eqb (number_in (answer 3 c)) 0 e)
+after-accepted t c e = rw (eq-eqb (number_in (answer c)) 0 e)
 
 -- a band that can run
 band-here : (first : List Float) (t : State) (r : Run) (k : ℕ) → Here first t r → not_open r k ≡ false → Here first (next t (band t k)) (marked r k)
 band-here first t r k h o =
     let i = h.sound in
-    let taken = band-number 3 t k ∙ band-accepted 3 t k i.first-length i.second-length i.sigma-length i.run (rw h.run (band-open r k o)) in
+    let taken = band-number t k ∙ band-accepted t k i.first-length i.second-length i.sigma-length i.run (rw h.run (band-open r k o)) in
     record {
-      sound = (after_kept 3 (library_calls 3) (library_effect 3) first t (band t k) i (λ e. refl)).sound;
-      run = ap (λ (u : State). u.run) (after-accepted t (band t k) taken ∙ band-leaves 3 t k taken) ∙ ap (λ (q : Run). marked q k) h.run;
+      sound = (after_kept library_calls library_effect first t (band t k) i (λ e. refl)).sound;
+      run = ap (λ (u : State). u.run) (after-accepted t (band t k) taken ∙ band-leaves t k taken) ∙ ap (λ (q : Run). marked q k) h.run;
     }
 
 -- an advance after all bands are done
@@ -72,38 +72,38 @@ advance-here first t r h o =
     let i = h.sound in
     let taken = advance-number t.run ∙ advance-accepted t.run i.run (rw h.run (pass-over r o)) in
     record {
-      sound = (after_kept 3 (library_calls 3) (library_effect 3) first t (advance t.run) i (λ e. refl)).sound;
+      sound = (after_kept library_calls library_effect first t (advance t.run) i (λ e. refl)).sound;
       run = ap (λ (u : State). u.run) (after-accepted t (advance t.run) taken) ∙ advance-leaves t.run taken ∙ ap advanced h.run;
     }
 
 -- a refused call before a list
-refused-first : (t : State) (c : LibraryCall) → (number_in (answer 3 c) ≡ 0 → ⊥) → next t c ≡ t
+refused-first : (t : State) (c : LibraryCall) → (number_in (answer c) ≡ 0 → ⊥) → next t c ≡ t
 unfolding state_after
-refused-first t c e = rw (ne_eqb (number_in (answer 3 c)) 0 e)
+refused-first t c e = rw (ne_eqb (number_in (answer c)) 0 e)
 
-module _ (t : State) (c : LibraryCall) (cs : List LibraryCall) (e : number_in (answer 3 c) ≡ 0 → ⊥) where
-  unaltered-after : Unaltered 3 (library_calls 3) t cs → Unaltered 3 (library_calls 3) t (c ∷ cs)
-  unaltered-after u = (λ z. absurd (e z), subst (λ (s : State). Unaltered 3 (library_calls 3) s cs) (sym (refused-first t c e)) u)
+module _ (t : State) (c : LibraryCall) (cs : List LibraryCall) (e : number_in (answer c) ≡ 0 → ⊥) where
+  unaltered-after : Unaltered library_calls t cs → Unaltered library_calls t (c ∷ cs)
+  unaltered-after u = (λ z. absurd (e z), subst (λ (s : State). Unaltered library_calls s cs) (sym (refused-first t c e)) u)
 
-  end_after : end 3 (library_calls 3) t (c ∷ cs) ≡ end 3 (library_calls 3) t cs
+  end_after : end library_calls t (c ∷ cs) ≡ end library_calls t cs
   unfolding end
-  end_after = ap (λ (s : State). end 3 (library_calls 3) s cs) (refused-first t c e)
+  end_after = ap (λ (s : State). end library_calls s cs) (refused-first t c e)
 
 module _ (g : Given) where
-  accepted : StartAccepted 3 (smaller g)
+  accepted : StartAccepted (smaller g)
   unfolding start_outcome start_checks picture_checks picture_fits bounds_fit corner_fits side_fits inside bad_sides bad_settings sizes_of table_fits grids_fit grid_start cells some_below bad_grid some_not_held not_held grid_lacks_block band_count layout_of set_of tab
   accepted = refl
 
-  unrefused : Unrefused 3 (larger g)
+  unrefused : Unrefused (larger g)
   unfolding picture_checks picture_fits bounds_fit corner_fits side_fits inside bad_sides bad_settings sizes_of table_fits grids_fit grid_start cells some_below bad_grid some_not_held not_held grid_lacks_block band_count layout_of set_of tab
   unrefused = refl
 
-  start-refused : (start_outcome 3 (empty g)).answer.number ≡ 4
+  start-refused : (start_outcome (empty g)).answer.number ≡ 4
   unfolding start_outcome start_checks picture_checks picture_fits bounds_fit corner_fits side_fits
   start-refused = refl
 
   abbrev leaves : List Float
-  leaves = start_leaves 3 (smaller g)
+  leaves = start_leaves (smaller g)
 
   -- the records in order
   abbrev r0 : Run
@@ -128,7 +128,7 @@ module _ (g : Given) where
   at-end = refl
 
   here-0 : Here leaves (begun g) r0
-  here-0 = record { sound = start-sound 3 (smaller g) accepted; run = ap (λ (t : State). t.run) (start-state 3 (smaller g) accepted) }
+  here-0 = record { sound = start-sound (smaller g) accepted; run = ap (λ (t : State). t.run) (start-state (smaller g) accepted) }
 
   here-3 : Here leaves (three g) r3
   here-3 =
@@ -143,7 +143,7 @@ module _ (g : Given) where
       band-here leaves (five g) (marked (marked (advanced r3) 1) 2) 0
       (band-here leaves (four g) (marked (advanced r3) 1) 2 (band-here leaves (turned g) (advanced r3) 1 here-4 open-1.0) open-1.1) open-1.2
 
-  ends : (end 3 (library_calls 3) (begun g) (accepted-calls g)).run ≡ advanced r6
+  ends : (end library_calls (begun g) (accepted-calls g)).run ≡ advanced r6
   unfolding end
   ends = (advance-here leaves (six g) r6 here-6 open-1.3).run
 
@@ -162,7 +162,7 @@ module _ (g : Given) where
     lower : nat_abs (y -ℤ pos 0) ≡ 8 + nat_abs (y -ℤ pos 8)
     lower = offsets-add (pos 8) (pos 0) y tt held.row.from
 
-    inputs : (c : ℕ) → c < 3 → input_at 3 (smaller g) c x y ≡ input_at 3 (larger g) c x y
+    inputs : (c : ℕ) → c < 3 → input_at (smaller g) c x y ≡ input_at (larger g) c x y
     unfolding start_leaves inner layout_of
     inputs c h =
         let e : 8 + (1 + nat_abs (x -ℤ pos 8)) ≡ 1 + nat_abs (x -ℤ pos 0) = omega (arith, further) in
@@ -184,7 +184,7 @@ module _ (g : Given) where
   sides (suc (suc k)) l t = absurd (omega arith)
 
   -- if the EPF is on, both have the same sources of block sigmas
-  from : CutFromSources 3 (smaller g) (larger g)
+  from : CutFromSources (smaller g) (larger g)
   unfolding inside
   from = record {
     unrefused = unrefused;
@@ -196,16 +196,16 @@ module _ (g : Given) where
 
   -- ---- all premises
 
-  start-taken : number_in (answer 3 (start (empty g))) ≡ 0 → ⊥
+  start-taken : number_in (answer (start (empty g))) ≡ 0 → ⊥
   start-taken e = omega (arith, sym start-refused ∙ e)
 
-  other-taken : number_in (answer 3 (other 9)) ≡ 0 → ⊥
+  other-taken : number_in (answer (other 9)) ≡ 0 → ⊥
   other-taken e = omega (arith, e)
 
-  unaltered : Unaltered 3 (library_calls 3) (begun g) (accepted-calls g)
+  unaltered : Unaltered library_calls (begun g) (accepted-calls g)
   unaltered = (λ e. refl, (λ e. refl, (λ e. refl, (λ e. refl, (λ e. refl, (λ e. refl, (λ e. refl, (λ e. refl, tt))))))))
 
-  premises : PremisesWith 3 (library_calls 3) SameSources (smaller g) (larger g) (calls g) (slice g)
+  premises : PremisesWith library_calls SameSources (smaller g) (larger g) (calls g) (slice g)
   unfolding layout_of set_of tab
   premises =
       let same = end_after (begun g) (start (empty g)) (other 9 ∷ accepted-calls g) start-taken ∙ end_after (begun g) (other 9) (accepted-calls g) other-taken in
@@ -221,7 +221,7 @@ pub four-edges-sources : FourEdgesSources
 four-edges-sources g = premises g
 
 pub four-edges-met : FourEdgesMet
-four-edges-met g = sources-premises 3 (library_calls 3) (smaller g) (larger g) (calls g) (slice g) (premises g)
+four-edges-met g = sources-premises library_calls (smaller g) (larger g) (calls g) (slice g) (premises g)
 
 -- ---- the positions that are clear
 

@@ -10,7 +10,7 @@ use Rattle.epf_step.proofs.Bounds.{distance-not-negative, slope-not-positive, we
 use Rattle.epf_offsets.proofs.Offsets.{kernel-packed, distances-packed}
 use Rattle.epf_lanes.proofs.Divisors.{lane-divisor-bounds}
 use Rattle.run_passes.proofs.Bounds.{step-bounds, settings-bounds, bounds-reached}
-use Rattle.run_passes.proofs.Statements.{pass-near, cut-same, plan-reach}
+use Rattle.run_passes.proofs.Statements.{pass-near, cut-same, plan-reach, plan-reads}
 use Rattle.run_calls.specs.Promises.{Promises}
 use Rattle.run_calls.proofs.Theorem.{library-theorem, rectangle-theorem, rectangle-theorem-at, library-sources-theorem, sources-theorem}
 use Rattle.run_calls.proofs.Sources.{sources-give-sigmas}
@@ -74,6 +74,7 @@ promises = record {
   pass-near = pass-near;
   cut-same = cut-same;
   plan-reach = plan-reach;
+  plan-reads = plan-reads;
   weight-bounds = weight-bounds;
   divisor-bounds = divisor-bounds;
   multiplier-not-negative = multiplier-not-negative;

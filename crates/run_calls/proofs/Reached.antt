@@ -14,8 +14,8 @@ use lib.Seq.{get_or-set_same, get_or-set_other, ext_get_or}
 use Rattle.refusals.specs.Flags.{flag_set}
 use Rattle.run_setup.specs.declared.Setup.{Setup}
 use Rattle.run_record.specs.declared.Run.{Run}
-use Rattle.run_setup.specs.Setup.{band_count, setup_fits}
-use Rattle.run_record.specs.Record.{pass_count, is_done, none_done, run_of as at, started, marked, advanced, finished, Reached, at_start, by_band, by_advance}
+use Rattle.run_setup.specs.Setup.{pass_count, band_count, setup_fits}
+use Rattle.run_record.specs.Record.{is_done, none_done, run_of as at, started, marked, advanced, finished, Reached, at_start, by_band, by_advance}
 use Rattle.run_setup.specs.SetupFits.{SetupFits}
 use Rattle.run_setup.proofs.Laws.{setup-fits}
 use Rattle.run_record.specs.RunFits.{RunFits}
@@ -152,67 +152,67 @@ fits-reached r e t = subst (λ (q : Run). Reached r.setup q) same (go (finished 
 -- ---- lists of accepted calls
 
 -- one more call
-module _ (n : ℕ) (K : Calls n) (c : K.Call) (ok : K.number (K.answer c) ≡ 0) where
-  after-accepted : (t : State) → state_after n K t c ≡ K.leaves t (K.answer c)
+module _ (K : Calls) (c : K.Call) (ok : K.number (K.answer c) ≡ 0) where
+  after-accepted : (t : State) → state_after K t c ≡ K.leaves t (K.answer c)
   unfolding state_after
   after-accepted t = rw (eq-eqb (K.number (K.answer c)) 0 ok)
 
-  end_more : (t : State) (cs : List K.Call) → end n K t (cs ++ (c ∷ [])) ≡ K.leaves (end n K t cs) (K.answer c)
+  end_more : (t : State) (cs : List K.Call) → end K t (cs ++ (c ∷ [])) ≡ K.leaves (end K t cs) (K.answer c)
   unfolding end
   end_more t [] = after-accepted t
-  end_more t (d ∷ cs) = end_more (state_after n K t d) cs
+  end_more t (d ∷ cs) = end_more (state_after K t d) cs
 
-  unaltered-more : (t : State) (cs : List K.Call) → Unaltered n K t cs → K.Lent (end n K t cs) c → Unaltered n K t (cs ++ (c ∷ []))
+  unaltered-more : (t : State) (cs : List K.Call) → Unaltered K t cs → K.Lent (end K t cs) c → Unaltered K t (cs ++ (c ∷ []))
   unfolding end
   unaltered-more t [] u l = (λ e. l, tt)
-  unaltered-more t (d ∷ cs) u l = (u.0, unaltered-more (state_after n K t d) cs u.1 l)
+  unaltered-more t (d ∷ cs) u l = (u.0, unaltered-more (state_after K t d) cs u.1 l)
 
-  accepted-more : (cs : List K.Call) → AllAccepted n K cs → AllAccepted n K (cs ++ (c ∷ []))
+  accepted-more : (cs : List K.Call) → AllAccepted K cs → AllAccepted K (cs ++ (c ∷ []))
   accepted-more [] a = (ok, tt)
   accepted-more (d ∷ cs) a = (a.0, accepted-more cs a.1)
 
-module _ (n : ℕ) (h : Handed) (start : StartAccepted n h) where
-  more : (cs : List LibraryCall) (q : Run) (c : LibraryCall) (r : Run) → LeadsTo n h cs q → (library_calls n).number ((library_calls n).answer c) ≡ 0
-      → (library_calls n).Lent (end n (library_calls n) (start_state n h) cs) c → ((library_calls n).leaves (end n (library_calls n) (start_state n h) cs) ((library_calls n).answer c)).run ≡ r
-      → (ds : List LibraryCall) × LeadsTo n h ds r
+module _ (h : Handed) (start : StartAccepted h) where
+  more : (cs : List LibraryCall) (q : Run) (c : LibraryCall) (r : Run) → LeadsTo h cs q → library_calls.number (library_calls.answer c) ≡ 0
+      → library_calls.Lent (end library_calls (start_state h) cs) c → (library_calls.leaves (end library_calls (start_state h) cs) (library_calls.answer c)).run ≡ r
+      → (ds : List LibraryCall) × LeadsTo h ds r
   more cs q c r l ok lent ends = (
     cs ++ (c ∷ []),
     record {
-      accepted = accepted-more n (library_calls n) c ok cs l.accepted;
-      unaltered = unaltered-more n (library_calls n) c ok (start_state n h) cs l.unaltered lent;
-      ends = ap (λ (t : State). t.run) (end_more n (library_calls n) c ok (start_state n h) cs) ∙ ends;
+      accepted = accepted-more library_calls c ok cs l.accepted;
+      unaltered = unaltered-more library_calls c ok (start_state h) cs l.unaltered lent;
+      ends = ap (λ (t : State). t.run) (end_more library_calls c ok (start_state h) cs) ∙ ends;
     },
   )
 
-  leads : (r : Run) → Reached h.setup r → (cs : List LibraryCall) × LeadsTo n h cs r
+  leads : (r : Run) → Reached h.setup r → (cs : List LibraryCall) × LeadsTo h cs r
   unfolding end
-  leads r at_start = ([], record { accepted = tt; unaltered = tt; ends = ap (λ (t : State). t.run) (start-state n h start) })
+  leads r at_start = ([], record { accepted = tt; unaltered = tt; ends = ap (λ (t : State). t.run) (start-state h start) })
   leads r (by_band q k w e) =
       let l = leads q w in
-      let t : State = end n (library_calls n) (start_state n h) l.0 in
-      let i : Sound n (start_leaves n h) t = (after-start n (library_calls n) (library_effect n) h start l.0 l.1.unaltered).sound in
+      let t : State = end library_calls (start_state h) l.0 in
+      let i : Sound (start_leaves h) t = (after-start library_calls library_effect h start l.0 l.1.unaltered).sound in
       let same : t.run ≡ q = l.1.ends in
       let o : Open t.run k = rw same (band-open q k e) in
-      let taken = band-number n t k ∙ band-accepted n t k i.first-length i.second-length i.sigma-length i.run o in
-      more l.0 q (band t k) (marked q k) l.1 taken refl (ap (λ (u : State). u.run) (band-leaves n t k taken) ∙ ap (λ (z : Run). marked z k) same)
+      let taken = band-number t k ∙ band-accepted t k i.first-length i.second-length i.sigma-length i.run o in
+      more l.0 q (band t k) (marked q k) l.1 taken refl (ap (λ (u : State). u.run) (band-leaves t k taken) ∙ ap (λ (z : Run). marked z k) same)
   leads r (by_advance q w e) =
       let l = leads q w in
-      let t : State = end n (library_calls n) (start_state n h) l.0 in
-      let i : Sound n (start_leaves n h) t = (after-start n (library_calls n) (library_effect n) h start l.0 l.1.unaltered).sound in
+      let t : State = end library_calls (start_state h) l.0 in
+      let i : Sound (start_leaves h) t = (after-start library_calls library_effect h start l.0 l.1.unaltered).sound in
       let same : t.run ≡ q = l.1.ends in
       let o : Over t.run = rw same (pass-over q e) in
       let taken = advance-number t.run ∙ advance-accepted t.run i.run o in
       more l.0 q (advance t.run) (advanced q) l.1 taken refl (advance-leaves t.run taken ∙ ap advanced same)
 
 pub each-reached : EachReached
-each-reached n h start r e t l = leads n h start r (subst (λ (s : Setup). Reached s r) e (fits-reached r l t))
+each-reached h start r e t l = leads h start r (subst (λ (s : Setup). Reached s r) e (fits-reached r l t))
 
 -- the record of a finished run
 pub can-finish : CanFinish
 unfolding is_done
-can-finish n h start =
+can-finish h start =
     let s : Setup = h.setup in
     let r : Run = at s (pass_count s) none_done in
-    let fits : RunFits r = record { setup = (picture-accepted n h start).setup; pass = omega arith; flag = λ k l. rw (none_done_lem k) (omega arith); none-past-count = λ k l o. rw (none_done_lem k); left = refl } in
-    let w = each-reached n h start r refl (fits-run r fits) (length-replicate {A = ℕ} 256 0) in
+    let fits : RunFits r = record { setup = (picture-accepted h start).setup; pass = omega arith; flag = λ k l. rw (none_done_lem k) (omega arith); none-past-count = λ k l o. rw (none_done_lem k); left = refl } in
+    let w = each-reached h start r refl (fits-run r fits) (length-replicate {A = ℕ} 256 0) in
     (w.0, w.1.unaltered, rw w.1.ends (eqb_refl (pass_count s)))

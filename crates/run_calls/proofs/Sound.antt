@@ -24,11 +24,9 @@ use Rattle.run_passes.proofs.Near.{pass-cong}
 use Rattle.run_passes.specs.Cut.{AllSound}
 use Rattle.run_passes.proofs.Cut.{plan-sound}
 use Rattle.run_passes.proofs.Stages.{stage}
-use Rattle.run_passes.specs.Plan.{plan}
-use Rattle.run_passes.proofs.PlanLaws.{plan-length}
 use Rattle.run_setup.specs.declared.Setup.{Setup}
-use Rattle.run_setup.specs.Setup.{layout, area, band_from, band_to, set_length, sigma_length}
-use Rattle.run_record.specs.Record.{pass_count, is_done, started, marked, advanced}
+use Rattle.run_setup.specs.Setup.{passes_of, layout, area, band_from, band_to, set_length, sigma_length}
+use Rattle.run_record.specs.Record.{is_done, started, marked, advanced}
 use Rattle.run_record.proofs.Done.{started_none, started-flags, marked_other, marked-flags, advanced-none, advanced-flags}
 use Rattle.run_setup.proofs.Laws.{setup-fits, setup-layout, band-of}
 use Rattle.run_record.specs.RunFits.{RunFits}
@@ -42,26 +40,26 @@ abbrev area_of : State → Area
 area_of t = area t.run.setup t.sigmas
 
 -- the input after its first k passes, with the first set's samples outside the filter region; `first` is the first set after start
-abbrev pub staged : ℕ → List Float → State → ℕ → Picture
-staged n first t k =
+abbrev pub staged : List Float → State → ℕ → Picture
+staged first t k =
     let l = layout t.run.setup in
-    filtered l (stage (area_of t) (plan n t.run.setup.settings) (inner l first) k) first
+    filtered l (stage (area_of t) (passes_of t.run.setup) (inner l first) k) first
 
 -- column x and row y of the image lie in the rows of band k
 abbrev in_band : Setup → ℕ → ℕ → ℕ → Bool
 in_band s k x y = written (layout s) (band_from s k) (band_to s k) x y
 
-pub record Sound (n : ℕ) (first : List Float) (t : State) : Type 0 where
+pub record Sound (first : List Float) (t : State) : Type 0 where
   pub run : RunFits t.run
   pub flags : length t.run.done ≡ 256
-  pub first-length : length t.first ≡ set_length n t.run.setup
-  pub second-length : length t.second ≡ set_length n t.run.setup
+  pub first-length : length t.first ≡ set_length t.run.setup
+  pub second-length : length t.second ≡ set_length t.run.setup
   pub sigma-length : length t.sigmas ≡ sigma_length t.run.setup
   -- the set that is read
-  pub reads : (c x y : ℕ) → c < n → InResult (layout t.run.setup) x y → sample_of (layout t.run.setup) (source t) c x y ≡ staged n first t t.run.pass c x y
+  pub reads : (c x y : ℕ) → c < t.run.setup.planes → InResult (layout t.run.setup) x y → sample_of (layout t.run.setup) (source t) c x y ≡ staged first t t.run.pass c x y
   -- the rows of bands that are done, in the other set
-  pub done : (k : ℕ) → is_done t.run k ≡ true → (c x y : ℕ) → c < n → InResult (layout t.run.setup) x y → in_band t.run.setup k x y ≡ true
-      → sample_of (layout t.run.setup) (target t) c x y ≡ staged n first t (suc t.run.pass) c x y
+  pub done : (k : ℕ) → is_done t.run k ≡ true → (c x y : ℕ) → c < t.run.setup.planes → InResult (layout t.run.setup) x y → in_band t.run.setup k x y ≡ true
+      → sample_of (layout t.run.setup) (target t) c x y ≡ staged first t (suc t.run.pass) c x y
 
 -- ---- positions of the filter region, as columns and rows of the image
 
@@ -101,19 +99,19 @@ none-staged l first c x y = go (in_filter l x y) refl
     go false e = refl
 
 -- the state after an accepted start
-abbrev pub begun : ℕ → Handed → State
-begun n h = record { run = started h.setup; sigmas = sigmas_filled n h; first = start_leaves n h; second = h.second }
+abbrev pub begun : Handed → State
+begun h = record { run = started h.setup; sigmas = sigmas_filled h; first = start_leaves h; second = h.second }
 
-pub sound-start : (n : ℕ) (h : Handed) → PictureFits n h → Sound n (start_leaves n h) (begun n h)
+pub sound-start : (h : Handed) → PictureFits h → Sound (start_leaves h) (begun h)
 unfolding started reads_first stage
-sound-start n h f =
+sound-start h f =
     record {
       run = started-fits h.setup f.setup;
       flags = started-flags h.setup;
-      first-length = leaves-length n h ∙ f.first;
+      first-length = leaves-length h ∙ f.first;
       second-length = f.second;
-      sigma-length = sigmas-length n h f;
-      reads = λ c x y p i. none-staged (layout h.setup) (start_leaves n h) c x y;
+      sigma-length = sigmas-length h f;
+      reads = λ c x y p i. none-staged (layout h.setup) (start_leaves h) c x y;
       done = λ k d. absurd (false≢true (sym (started_none h.setup k) ∙ d));
     }
 
@@ -131,9 +129,9 @@ cond-length : (e : Bool) (a b : List Float) (m : ℕ) → length a ≡ m → len
 cond-length true a b m p q = p
 cond-length false a b m p q = q
 
-length-banded : (n : ℕ) (t : State) (k : ℕ) → length (banded n t k) ≡ set_length n t.run.setup
+length-banded : (t : State) (k : ℕ) → length (banded t k) ≡ set_length t.run.setup
 unfolding banded passed layout_of
-length-banded n t k = length-set_of n t.run.setup.image.width t.run.setup.image.height _
+length-banded t k = length-set_of t.run.setup.planes t.run.setup.image.width t.run.setup.image.height _
 
 -- a pass of the plan is a valid one
 sound-at : (n : ℕ) (ps : List Pass) (k : ℕ) → AllSound n ps → k < length ps → IsSound n (get_or ps k (gabor_like []))
@@ -141,11 +139,7 @@ sound-at n [] k a h = absurd (omega arith)
 sound-at n (p ∷ ps) zero a h = a.0
 sound-at n (p ∷ ps) (suc k) a h = sound-at n ps k a.1 (omega arith)
 
--- the number of passes does not depend on the number of planes
-pub pass-count : (n : ℕ) (s : Setup) → length (plan n s.settings) ≡ pass_count s
-pass-count n s = plan-length n s.settings ∙ sym (plan-length 3 s.settings)
-
-module _ (n : ℕ) (first : List Float) (t : State) (k : ℕ) (keeps : Sound n first t) (free : Open t.run k) where
+module _ (first : List Float) (t : State) (k : ℕ) (keeps : Sound first t) (free : Open t.run k) where
   abbrev setup : Setup
   setup = t.run.setup
 
@@ -156,47 +150,47 @@ module _ (n : ℕ) (first : List Float) (t : State) (k : ℕ) (keeps : Sound n f
   abbrev reading : Picture
   reading = inner (layout setup) (source t)
 
-  reading-is : (c x y : ℕ) → c < n → x < setup.filter.width → y < setup.filter.height
-      → reading c x y ≡ stage (area_of t) (plan n setup.settings) (inner (layout setup) first) t.run.pass c x y
+  reading-is : (c x y : ℕ) → c < t.run.setup.planes → x < setup.filter.width → y < setup.filter.height
+      → reading c x y ≡ stage (area_of t) (passes_of setup) (inner (layout setup) first) t.run.pass c x y
   unfolding inner layout_of
   reading-is c x y h i j =
       let l = layout setup in
-      keeps.reads c (l.left + x) (l.top + y) h (filter-in-result l lies x y i j) ∙ filtered-inside l lies (stage (area_of t) (plan n setup.settings) (inner l first) t.run.pass) first c x y i j
+      keeps.reads c (l.left + x) (l.top + y) h (filter-in-result l lies x y i j) ∙ filtered-inside l lies (stage (area_of t) (passes_of setup) (inner l first) t.run.pass) first c x y i j
 
   -- the pass turns it into one more pass, at each position of the result region
-  given_is : (c x y : ℕ) → c < n → InResult (layout setup) x y
-      → filtered (layout setup) (pass (area_of t) (next_pass n t.run) reading) (source t) c x y ≡ staged n first t (suc t.run.pass) c x y
+  given_is : (c x y : ℕ) → c < t.run.setup.planes → InResult (layout setup) x y
+      → filtered (layout setup) (pass (area_of t) (next_pass t.run) reading) (source t) c x y ≡ staged first t (suc t.run.pass) c x y
   unfolding stage layout_of
   given_is c x y h i =
-      let ps : List Pass = plan n setup.settings in
-      let more : t.run.pass < length ps = omega (arith, pass-left t.run keeps.run free.unfinished, pass-count n setup) in
+      let ps : List Pass = passes_of setup in
+      let more : t.run.pass < length ps = pass-left t.run keeps.run free.unfinished in
       let so_far : Picture = stage (area_of t) ps (inner (layout setup) first) t.run.pass in
-      filtered-same (layout setup) (pass (area_of t) (next_pass n t.run) reading) (pass (area_of t) (next_pass n t.run) so_far) (source t) first c x y
-      (λ f. pass-cong n (next_pass n t.run) (sound-at n ps t.run.pass (plan-sound n setup.settings) more) (area_of t) reading so_far reading-is c _ _ h f.column f.row)
+      filtered-same (layout setup) (pass (area_of t) (next_pass t.run) reading) (pass (area_of t) (next_pass t.run) so_far) (source t) first c x y
+      (λ f. pass-cong setup.planes (next_pass t.run) (sound-at setup.planes ps t.run.pass (plan-sound setup.planes setup.settings) more) (area_of t) reading so_far reading-is c _ _ h f.column f.row)
       (λ o. keeps.reads c x y h i ∙ rw o)
 
   -- after the band its own rows hold that, and all others are unchanged
-  done-after : (j : ℕ) → is_done (marked t.run k) j ≡ true → (c x y : ℕ) → c < n → InResult (layout setup) x y → in_band setup j x y ≡ true
-      → sample_of (layout setup) (banded n t k) c x y ≡ staged n first t (suc t.run.pass) c x y
+  done-after : (j : ℕ) → is_done (marked t.run k) j ≡ true → (c x y : ℕ) → c < t.run.setup.planes → InResult (layout setup) x y → in_band setup j x y ≡ true
+      → sample_of (layout setup) (banded t k) c x y ≡ staged first t (suc t.run.pass) c x y
   unfolding banded
-  done-after j d c x y h i b = sample-after (layout setup) lies x y i n (band_from setup k) (band_to setup k) (pass (area_of t) (next_pass n t.run) reading) (source t) (target t) c h ∙ go (in_band setup k x y) refl
+  done-after j d c x y h i b = sample-after (layout setup) lies x y i setup.planes (band_from setup k) (band_to setup k) (pass (area_of t) (next_pass t.run) reading) (source t) (target t) c h ∙ go (in_band setup k x y) refl
     where
       go : (wrote : Bool) → in_band setup k x y ≡ wrote
-          → cond wrote (filtered (layout setup) (pass (area_of t) (next_pass n t.run) reading) (source t) c x y) (sample_of (layout setup) (target t) c x y) ≡ staged n first t (suc t.run.pass) c x y
+          → cond wrote (filtered (layout setup) (pass (area_of t) (next_pass t.run) reading) (source t) c x y) (sample_of (layout setup) (target t) c x y) ≡ staged first t (suc t.run.pass) c x y
       go true e = given_is c x y h i
       go false e = keeps.done j (sym (marked_other t.run k j (λ (z : j ≡ k). false≢true (sym e ∙ (rw z at b)))) ∙ d) c x y h i b
 
-  pub sound-band : Sound n first (band_accepted n t k)
+  pub sound-band : Sound first (band_accepted t k)
   unfolding marked reads_first
   sound-band =
       let e : Bool = eqb (t.run.pass % 2) 0 in
-      let src : source (band_accepted n t k) ≡ source t = kept-source e t.first t.second (banded n t k) in
-      let dst : target (band_accepted n t k) ≡ banded n t k = new-target e t.first t.second (banded n t k) in
+      let src : source (band_accepted t k) ≡ source t = kept-source e t.first t.second (banded t k) in
+      let dst : target (band_accepted t k) ≡ banded t k = new-target e t.first t.second (banded t k) in
       record {
         run = marked-fits t.run k keeps.run free;
         flags = marked-flags t.run k ∙ keeps.flags;
-        first-length = cond-length e t.first (banded n t k) (set_length n setup) keeps.first-length (length-banded n t k);
-        second-length = cond-length e (banded n t k) t.second (set_length n setup) (length-banded n t k) keeps.second-length;
+        first-length = cond-length e t.first (banded t k) (set_length setup) keeps.first-length (length-banded t k);
+        second-length = cond-length e (banded t k) t.second (set_length setup) (length-banded t k) keeps.second-length;
         sigma-length = keeps.sigma-length;
         reads = λ c x y h i. rw src (keeps.reads c x y h i);
         done = λ j d c x y h i b. rw dst (done-after j d c x y h i b);
@@ -219,9 +213,9 @@ cond-not false a b = refl
 abbrev pub turned_over : State → State
 turned_over t = record { run = advanced t.run; sigmas = t.sigmas; first = t.first; second = t.second }
 
-module _ (n : ℕ) (first : List Float) (t : State) (keeps : Sound n first t) (over : Over t.run) where
+module _ (first : List Float) (t : State) (keeps : Sound first t) (over : Over t.run) where
   -- every row of the result region lies in a band that is done
-  all_done : (c x y : ℕ) → c < n → InResult (layout t.run.setup) x y → sample_of (layout t.run.setup) (target t) c x y ≡ staged n first t (suc t.run.pass) c x y
+  all_done : (c x y : ℕ) → c < t.run.setup.planes → InResult (layout t.run.setup) x y → sample_of (layout t.run.setup) (target t) c x y ≡ staged first t (suc t.run.pass) c x y
   all_done c x y h i =
       let s : Setup = t.run.setup in
       let fits = setup-fits s keeps.run.setup in
@@ -229,7 +223,7 @@ module _ (n : ℕ) (first : List Float) (t : State) (keeps : Sound n first t) (o
       let b = band-of s fits row (omega (arith, i.top, i.bottom)) in
       keeps.done (row / s.band_height) (over.done (row / s.band_height) b.0) c x y h i (written_at (layout s) (setup-layout s fits).fits x y i _ _ b.1.from b.1.to)
 
-  pub sound-advance : Sound n first (turned_over t)
+  pub sound-advance : Sound first (turned_over t)
   unfolding advanced reads_first
   sound-advance =
       let src : source (turned_over t) ≡ target t = rw (turned t.run.pass) (cond-not (eqb (t.run.pass % 2) 0) t.first t.second) in

@@ -11,7 +11,7 @@ use borrow.Author.Tests.{not-false, le-leb}
 use lib.Arith.{digits_lt}
 use lib.Dec.{T, ltb→lt, lt→ltb, eqb→eq}
 use lib.Ieee.{nan}
-use lib.ListN.{get_or}
+use lib.ListN.{take, get_or}
 use lib.Ieee.Fits.{and_l, and_r}
 use lib.IntN.{ℤ, pos, negsuc, nat_abs, ◌-ℤ◌}
 use lib.Signed.{le_z}
@@ -39,7 +39,7 @@ use Rattle.run_passes.specs.Near.{IsStep}
 use Rattle.run_passes.specs.Cut.{SomeStep}
 use Rattle.run_passes.specs.Plan.{gabor_on, steps, plan}
 use Rattle.run_passes.proofs.Cut.{plan-some-step}
-use Rattle.run_setup.specs.Setup.{epf_on, iters_fit}
+use Rattle.run_setup.specs.Setup.{passes_of, epf_on, iters_fit}
 use Rattle.run_setup.specs.SetupFits.{SetupFits}
 use Rattle.run_setup.proofs.Laws.{setup-fits}
 use Rattle.run_outcomes.specs.Start.{Handed, blocks_of, blocks_held, picture_checks, sigmas_filled}
@@ -59,9 +59,9 @@ place (pos i) (negsuc k) p h = absurd h
 place (negsuc i) x p h = absurd p
 
 -- The sigma at a position of the filter region is that of its block in the frame.
-module _ (n : ℕ) (h : Handed) (u : Unrefused n h) (on : T (epf_on h.setup)) (x y : ℤ) (inner : Holds h.setup.filter x y) where
+module _ (h : Handed) (u : Unrefused h) (on : T (epf_on h.setup)) (x y : ℤ) (inner : Holds h.setup.filter x y) where
   fits : SetupFits h.setup
-  fits = setup-fits h.setup (picture-fits n h u).setup
+  fits = setup-fits h.setup (picture-fits h u).setup
 
   abbrev bx : ℕ
   bx = nat_abs (x -ℤ h.setup.filter.left) / 8
@@ -81,7 +81,7 @@ module _ (n : ℕ) (h : Handed) (u : Unrefused n h) (on : T (epf_on h.setup)) (x
   row : (blocks_of h.setup).top + by ≡ nat_abs y / 8
   row = place h.setup.filter.top y (and_r (on_block h.setup.filter.left) (on_block h.setup.filter.top) (fits.blocks on)) inner.row.from
 
-  placed : sigma_at n h x y ≡ frame_sigma h.frame h.table h.grids h.setup.settings.epf.sigma_for_modular (nat_abs x / 8) (nat_abs y / 8)
+  placed : sigma_at h x y ≡ frame_sigma h.frame h.table h.grids h.setup.settings.epf.sigma_for_modular (nat_abs x / 8) (nat_abs y / 8)
   unfolding sigmas_filled layout_of block_sigma
   placed =
       rw (is_true (epf_on h.setup) on)
@@ -92,7 +92,7 @@ module _ (n : ℕ) (h : Handed) (u : Unrefused n h) (on : T (epf_on h.setup)) (x
   all_held : some_not_held h.frame (blocks_of h.setup) h.table ≡ false
   unfolding picture_checks
   all_held =
-      let passed = row-passed (picture_checks n h) tt u in
+      let passed = row-passed (picture_checks h) tt u in
       let sides : bad_sides h.frame ≡ false = passed (frame_sides h.frame) (search (here, below) depth 20) in
       let settings : bad_settings h.frame ≡ false = passed (frame_settings h.frame) (search (here, below) depth 20) in
       let table : table_fits h.frame h.table ≡ true = not-false (table_fits h.frame h.table) (rw (sides, settings) at (passed (table_length h.frame h.table) (search (here, below) depth 20))) in
@@ -162,25 +162,25 @@ plan-has-step : (n : ℕ) (s : Settings) → 0 < s.epf.iters → SomeStep (plan 
 unfolding plan
 plan-has-step n s l = go (gabor_on s)
   where
-    go : (on : Bool) → SomeStep (cond on (gabor_like s.gabor.weights ∷ steps n s s.epf.iters) (steps n s s.epf.iters))
+    go : (on : Bool) → SomeStep (cond on (gabor_like (take n s.gabor.weights) ∷ steps n s s.epf.iters) (steps n s s.epf.iters))
     go true = inr (some-step n s s.epf.iters l)
     go false = some-step n s s.epf.iters l
 
-both-on : (n : ℕ) (small large : Handed) → plan n small.setup.settings ≡ plan n large.setup.settings → T (epf_on small.setup) → T (epf_on large.setup)
-both-on n small large e on =
+both-on : (small large : Handed) → passes_of small.setup ≡ passes_of large.setup → T (epf_on small.setup) → T (epf_on large.setup)
+both-on small large e on =
     lt→ltb 0 large.setup.settings.epf.iters
-    (plan-some-step n large.setup.settings (rw e at (plan-has-step n small.setup.settings (ltb→lt 0 small.setup.settings.epf.iters on))))
+    (plan-some-step large.setup.planes large.setup.settings (rw e at (plan-has-step small.setup.planes small.setup.settings (ltb→lt 0 small.setup.settings.epf.iters on))))
 
 -- ---- equal block sigmas
 
 pub sources-give-sigmas : SourcesGiveSigmas
-sources-give-sigmas n small large u from = record {
+sources-give-sigmas small large u from = record {
   unrefused = from.unrefused;
   contained = from.contained;
   same-passes = from.same-passes;
   inputs-agree = from.inputs-agree;
   sigmas-alike = λ on x y inner.
-      placed n small u on x y inner
-      ∙ same-block small large (from.sigmas-alike on) (nat_abs x / 8) (nat_abs y / 8) (in_frame n small u on x y inner)
-      ∙ sym (placed n large from.unrefused (both-on n small large from.same-passes on) x y (holds-in-larger large.setup.filter small.setup.filter from.contained x y inner));
+      placed small u on x y inner
+      ∙ same-block small large (from.sigmas-alike on) (nat_abs x / 8) (nat_abs y / 8) (in_frame small u on x y inner)
+      ∙ sym (placed large from.unrefused (both-on small large from.same-passes on) x y (holds-in-larger large.setup.filter small.setup.filter from.contained x y inner));
 }

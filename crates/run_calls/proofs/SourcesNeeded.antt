@@ -75,7 +75,7 @@ settings modular = with_gabor (gabor_of 0 (even_weights b0 b0)) (with_epf (epf_o
 
 abbrev handed : Frame → List ℕ → List Float → Float → Handed
 handed f t grids modular = record {
-  setup = setup_with place place 0 (settings modular) 1;
+  setup = setup_with place place 3 0 (settings modular) 1;
   frame = f;
   table = t;
   grids = grids;
@@ -90,7 +90,7 @@ bare = handed (record { width = 0; height = 0; upsampling = 0; lf_level = 0; gro
 
 -- the first smoothed sample, if the only block has sigma s
 abbrev smoothed_by : Float → Float
-smoothed_by s = passes (area bare.setup (s ∷ [])) (plan 3 (settings b0)) (input 3 bare) 0 0 0
+smoothed_by s = passes (area bare.setup (s ∷ [])) (plan 3 (settings b0)) (input bare) 0 0 0
 
 -- with sigma 64 it is less than 1, and with 1/4 it is copied
 seen : lt (smoothed_by sigma64) (smoothed_by quarter) ≡ true
@@ -103,16 +103,16 @@ seen-itself = refl
 
 -- the starts of two pictures are accepted, and their blocks have sigmas 64 and 1/4
 record Differ (small large : Handed) : Type 0 where
-  small-accepted : StartAccepted 3 small
-  large-accepted : StartAccepted 3 large
-  small-sigma : sigmas_filled 3 small ≡ sigma64 ∷ []
-  large-sigma : sigmas_filled 3 large ≡ quarter ∷ []
+  small-accepted : StartAccepted small
+  large-accepted : StartAccepted large
+  small-sigma : sigmas_filled small ≡ sigma64 ∷ []
+  large-sigma : sigmas_filled large ≡ quarter ∷ []
 
 -- such a picture has that sample, whatever its sources
 module _ (f : Frame) (t : List ℕ) (grids : List Float) (modular : Float) where
-  sample : (s : Float) → sigmas_filled 3 (handed f t grids modular) ≡ s ∷ [] → sample_at 3 (handed f t grids modular) 0 (pos 0) (pos 1024) ≡ smoothed_by s
+  sample : (s : Float) → sigmas_filled (handed f t grids modular) ≡ s ∷ [] → sample_at (handed f t grids modular) 0 (pos 0) (pos 1024) ≡ smoothed_by s
   unfolding start_leaves plan steps step_of scale_of
-  sample s e = ap (λ (l : List Float). passes (area bare.setup l) (plan 3 (settings b0)) (input 3 bare) 0 0 0) e
+  sample s e = ap (λ (l : List Float). passes (area bare.setup l) (plan 3 (settings b0)) (input bare) 0 0 0) e
 
 held : Holds place (pos 0) (pos 1024)
 held = record { column = record { from = tt; before = tt }; row = record { from = tt; before = tt } }
@@ -133,18 +133,18 @@ module _ (q : Source) (f g : Frame) (t u : List ℕ) (grids others : List Float)
   same-plans = refl
 
   refuted : Differ small large → SourcesBut q small large
-      → ((a b : Handed) (cs : List LibraryCall) (out : List Float) → PremisesWith 3 (library_calls 3) (SourcesBut q) a b cs out → Delivers 3 a b (result_after 3 (library_calls 3) a cs out)) → ⊥
+      → ((a b : Handed) (cs : List LibraryCall) (out : List Float) → PremisesWith library_calls (SourcesBut q) a b cs out → Delivers a b (result_after library_calls a cs out)) → ⊥
   unfolding inside set_of tab start_leaves
   refuted differ same claim =
-      let calls = can-finish 3 small differ.small-accepted in
+      let calls = can-finish small differ.small-accepted in
       let out : List Float = set_of 3 2 1 (λ c x y. b0) in
-      let run : FinishedRun 3 (library_calls 3) small = record { accepted = differ.small-accepted; calls = calls.0; unaltered = calls.1; ended = calls.2; slice = out; room = refl } in
+      let run : FinishedRun library_calls small = record { accepted = differ.small-accepted; calls = calls.0; unaltered = calls.1; ended = calls.2; slice = out; room = refl } in
       not-delivered _ small large run (pos 0) (pos 1024) held (clear _)
       (λ e. less-unlike _ _ seen seen-itself (sym (sample f t grids modular sigma64 differ.small-sigma) ∙ e ∙ sample g u others other quarter differ.large-sigma))
       (claim small large calls.0 out (record {
         start-accepted = differ.small-accepted;
         cut-from-larger = record {
-          unrefused = start-unrefused 3 large differ.large-accepted;
+          unrefused = start-unrefused large differ.large-accepted;
           contained = tt;
           same-passes = same-plans;
           inputs-agree = λ c x y l inner. refl;

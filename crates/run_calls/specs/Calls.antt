@@ -9,16 +9,16 @@ use Rattle.run_outcomes.specs.Result.{ResultOutcome, result_outcome}
 
 -- ---- the start
 
--- start accepts the arguments h, with n planes in each set (3 in the Specification)
-abbrev pub StartAccepted : ℕ → Handed → Type 0
-StartAccepted n h = (start_outcome n h).answer.number ≡ 0
+-- start accepts the arguments h
+abbrev pub StartAccepted : Handed → Type 0
+StartAccepted h = (start_outcome h).answer.number ≡ 0
 
 -- the state after a start: record, block sigmas and first set from its outcome; the second set, which start only reads, is unchanged
 abbrev pub left_by_start : StartOutcome → List Float → State
 left_by_start o second = record { run = o.answer.run; sigmas = o.sigmas; first = o.first; second = second }
 
-abbrev pub start_state : ℕ → Handed → State
-start_state n h = left_by_start (start_outcome n h) h.second
+abbrev pub start_state : Handed → State
+start_state h = left_by_start (start_outcome h) h.second
 
 -- ---- the calls after it (Specification 13.7)
 
@@ -31,7 +31,8 @@ pub data LibraryCall : Type 0 where
   start : Handed → LibraryCall
   other : ℕ → LibraryCall
 
--- everything that a call returns and writes: the outcome that its contract cites
+-- everything that a call returns and writes: the outcome that its contract cites. The number of planes is that of the call's own record: a
+-- refused call may be given the record of another run.
 pub data LibraryAnswer : Type 0 where
   of_band : BandOutcome → LibraryAnswer
   of_advance : RunAnswer → LibraryAnswer
@@ -39,12 +40,12 @@ pub data LibraryAnswer : Type 0 where
   of_start : StartOutcome → LibraryAnswer
   of_other : ℕ → LibraryAnswer
 
-abbrev pub answer : ℕ → LibraryCall → LibraryAnswer
-answer n (band t k) = of_band (band_outcome n t k)
-answer n (advance r) = of_advance (advance_outcome r)
-answer n (result r first second out) = of_result (result_outcome n r first second out)
-answer n (start h) = of_start (start_outcome n h)
-answer n (other k) = of_other k
+abbrev pub answer : LibraryCall → LibraryAnswer
+answer (band t k) = of_band (band_outcome t k)
+answer (advance r) = of_advance (advance_outcome r)
+answer (result r first second out) = of_result (result_outcome r first second out)
+answer (start h) = of_start (start_outcome h)
+answer (other k) = of_other k
 
 -- the number in an answer
 abbrev pub number_in : LibraryAnswer → ℕ
@@ -89,14 +90,14 @@ as_advances (other k) = 0
 
 -- What an accepted call may do to the state: complete a band, advance, or nothing. The two numbers count accepted bands and accepted
 -- advances.
-pub data Effect (n : ℕ) (t : State) : ℕ → ℕ → State → Type 0 where
-  one_band : (k : ℕ) → (band_outcome n t k).number ≡ 0 → Effect n t 1 0 (band_outcome n t k).state
-  one_advance : (advance_outcome t.run).number ≡ 0 → Effect n t 0 1 (left_by t (of_advance (advance_outcome t.run)))
-  nothing : Effect n t 0 0 t
+pub data Effect (t : State) : ℕ → ℕ → State → Type 0 where
+  one_band : (k : ℕ) → (band_outcome t k).number ≡ 0 → Effect t 1 0 (band_outcome t k).state
+  one_advance : (advance_outcome t.run).number ≡ 0 → Effect t 0 1 (left_by t (of_advance (advance_outcome t.run)))
+  nothing : Effect t 0 0 t
 
 -- A kind of calls, each with its answer. The answer determines the number and, for an accepted call that was given a state, the state after
 -- it. `Lent` says which calls were given a state; `Effects` says what those do to it.
-pub record Calls (n : ℕ) : Type 1 where
+pub record Calls : Type 1 where
   pub Call : Type 0
   pub Answer : Type 0
   pub answer : Call → Answer
@@ -107,14 +108,14 @@ pub record Calls (n : ℕ) : Type 1 where
   pub advances : Call → ℕ
 
 -- each accepted call that was given a state has one of these effects on it, and counts as the bands and advances of that effect
-abbrev pub Effects : (n : ℕ) → Calls n → Type 0
-Effects n K = (t : State) (c : K.Call) → K.number (K.answer c) ≡ 0 → K.Lent t c → Effect n t (K.bands c) (K.advances c) (K.leaves t (K.answer c))
+abbrev pub Effects : Calls → Type 0
+Effects K = (t : State) (c : K.Call) → K.number (K.answer c) ≡ 0 → K.Lent t c → Effect t (K.bands c) (K.advances c) (K.leaves t (K.answer c))
 
-abbrev pub library_calls : (n : ℕ) → Calls n
-library_calls n = record {
+abbrev pub library_calls : Calls
+library_calls = record {
   Call = LibraryCall;
   Answer = LibraryAnswer;
-  answer = answer n;
+  answer = answer;
   number = number_in;
   leaves = left_by;
   Lent = PassesState;
@@ -122,9 +123,9 @@ library_calls n = record {
   advances = as_advances;
 }
 
--- ---- lists of calls of kind K, in runs of n planes
+-- ---- lists of calls of kind K
 
-module _ (n : ℕ) (K : Calls n) where
+module _ (K : Calls) where
   -- the state after a call; a refused call changes nothing
   unfoldable pub state_after : State → K.Call → State
   state_after t c = cond (eqb (K.number (K.answer c)) 0) (K.leaves t (K.answer c)) t

@@ -12,23 +12,24 @@ use Rattle.run_calls.specs.Calls.{StartAccepted, start_state, Calls, end, Unalte
 use Rattle.run_calls.specs.Places.{Clear, at, sample_at, result_at}
 use Rattle.run_calls.specs.Theorem.{CutFrom, result_after}
 
--- a finished run of n planes: an accepted start, unaltered calls after it that finish the run, and a slice for the result
-pub record FinishedRun (n : ℕ) (K : Calls n) (h : Handed) : Type 0 where
-  pub accepted : StartAccepted n h
+-- a finished run: an accepted start, unaltered calls after it that finish the run, and a slice for the result
+pub record FinishedRun (K : Calls) (h : Handed) : Type 0 where
+  pub accepted : StartAccepted h
   pub calls : List K.Call
-  pub unaltered : Unaltered n K (start_state n h) calls
-  pub ended : T (finished (end n K (start_state n h) calls).run)
+  pub unaltered : Unaltered K (start_state h) calls
+  pub ended : T (finished (end K (start_state h) calls).run)
   pub slice : List Float
-  pub room : length slice ≡ result_length n h.setup
+  pub room : length slice ≡ result_length h.setup
 
 -- the sample of the first set, as it is after start, at a position of the image region
-abbrev pub first_at : ℕ → Handed → ℕ → ℤ → ℤ → Float
-first_at n h = at h.setup.image (of h.setup.image.width h.setup.image.height (start_leaves n h))
+abbrev pub first_at : Handed → ℕ → ℤ → ℤ → Float
+first_at h = at h.setup.image (of h.setup.image.width h.setup.image.height (start_leaves h))
 
 -- Two starts that differ at most in the band height and in the old contents of the second set and of the block sigmas.
 pub record SameButBands (a b : Handed) : Type 0 where
   pub image : a.setup.image ≡ b.setup.image
   pub filter : a.setup.filter ≡ b.setup.filter
+  pub planes : a.setup.planes ≡ b.setup.planes
   pub full : a.setup.preserve_outside ≡ b.setup.preserve_outside
   pub settings : a.setup.settings ≡ b.setup.settings
   pub frame : a.frame ≡ b.frame
@@ -36,30 +37,30 @@ pub record SameButBands (a b : Handed) : Type 0 where
   pub grids : a.grids ≡ b.grids
   pub first : a.first ≡ b.first
 
--- n is the number of planes, K the kind of calls.
-module _ (n : ℕ) (K : Calls n) where
+-- K is the kind of calls.
+module _ (K : Calls) where
   -- the result call that ends a finished run
-  abbrev pub handed_over : (h : Handed) → FinishedRun n K h → ResultOutcome
-  handed_over h r = result_after n K h r.calls r.slice
+  abbrev pub handed_over : (h : Handed) → FinishedRun K h → ResultOutcome
+  handed_over h r = result_after K h r.calls r.slice
 
   -- A rectangle that is the whole picture: every filtered sample of the result is the smoothed sample; no margin is needed.
   abbrev pub WholePicture : Type 0
-  WholePicture = (h : Handed) (r : FinishedRun n K h) → ((handed_over h r).number ≡ 0)
-      × ((c : ℕ) (x y : ℤ) → c < n → Holds h.setup.filter x y → result_at h.setup (handed_over h r).out c x y ≡ sample_at n h c x y)
+  WholePicture = (h : Handed) (r : FinishedRun K h) → ((handed_over h r).number ≡ 0)
+      × ((c : ℕ) (x y : ℤ) → c < h.setup.planes → Holds h.setup.filter x y → result_at h.setup (handed_over h r).out c x y ≡ sample_at h c x y)
 
   -- Two rectangles of one picture agree wherever both are clear of their cut edges by the margin.
   abbrev pub TwoCutsAgree : Type 0
-  TwoCutsAgree = (a b large : Handed) → CutFrom n a large → CutFrom n b large → (r : FinishedRun n K a) (q : FinishedRun n K b)
-      → (c : ℕ) (x y : ℤ) → c < n → Holds a.setup.filter x y → Holds b.setup.filter x y
+  TwoCutsAgree = (a b large : Handed) → CutFrom a large → CutFrom b large → (r : FinishedRun K a) (q : FinishedRun K b)
+      → (c : ℕ) (x y : ℤ) → c < a.setup.planes → c < b.setup.planes → Holds a.setup.filter x y → Holds b.setup.filter x y
       → Clear (margin a.setup.settings) a.setup.filter large.setup.filter x y
       → Clear (margin b.setup.settings) b.setup.filter large.setup.filter x y
       → result_at a.setup (handed_over a r).out c x y ≡ result_at b.setup (handed_over b q).out c x y
 
   -- Outside the filter region, which the result covers only if `preserve_outside` is 1, every sample is that of the first set.
   abbrev pub OutsideKept : Type 0
-  OutsideKept = (h : Handed) (r : FinishedRun n K h) (c : ℕ) (x y : ℤ) → c < n → Holds (result_region h.setup) x y → (Holds h.setup.filter x y → ⊥)
-      → result_at h.setup (handed_over h r).out c x y ≡ first_at n h c x y
+  OutsideKept = (h : Handed) (r : FinishedRun K h) (c : ℕ) (x y : ℤ) → c < h.setup.planes → Holds (result_region h.setup) x y → (Holds h.setup.filter x y → ⊥)
+      → result_at h.setup (handed_over h r).out c x y ≡ first_at h c x y
 
   -- Any order of bands and any band height give the same result.
   abbrev pub BandsAlike : Type 0
-  BandsAlike = (a b : Handed) → SameButBands a b → (r : FinishedRun n K a) (q : FinishedRun n K b) → (handed_over a r).out ≡ (handed_over b q).out
+  BandsAlike = (a b : Handed) → SameButBands a b → (r : FinishedRun K a) (q : FinishedRun K b) → (handed_over a r).out ≡ (handed_over b q).out

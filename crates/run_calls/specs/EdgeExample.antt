@@ -28,7 +28,7 @@ module _ (p : Picture) (scales : List Float) (border sigma : Float) where
   -- columns 0 to 11; the filter region is the image region. No group has a grid, so each block has `sigma_for_modular`.
   abbrev pub larger : Handed
   larger = record {
-    setup = setup_with (rows_from 0 12) (rows_from 0 12) 0 (settings_of b0) 64;
+    setup = setup_with (rows_from 0 12) (rows_from 0 12) 3 0 (settings_of b0) 64;
     frame = record { width = 12; height = 2; upsampling = 1; lf_level = 0; group_size_shift = 0 };
     table = 0 ∷ 0 ∷ 0 ∷ [];
     grids = [];
@@ -40,7 +40,7 @@ module _ (p : Picture) (scales : List Float) (border sigma : Float) where
   -- columns 8 to 11 of it in an image region of columns 7 to 11: the left edge of the filter region is cut
   abbrev pub smaller : Handed
   smaller = record {
-    setup = setup_with (rows_from 7 5) (rows_from 8 4) 1 (settings_of b1) 2;
+    setup = setup_with (rows_from 7 5) (rows_from 8 4) 3 1 (settings_of b1) 2;
     frame = record { width = 12; height = 2; upsampling = 1; lf_level = 0; group_size_shift = 0 };
     table = 0 ∷ 5 ∷ 5 ∷ [];
     grids = [];
@@ -50,14 +50,14 @@ module _ (p : Picture) (scales : List Float) (border sigma : Float) where
   }
 
   abbrev pub calls : List LibraryCall
-  calls = band (start_state 3 smaller) 0 ∷ advance (marked (started smaller.setup) 0) ∷ []
+  calls = band (start_state smaller) 0 ∷ advance (marked (started smaller.setup) 0) ∷ []
 
   abbrev pub slice : List Float
   slice = set_of 3 5 2 (λ c x y. b0)
 
 abbrev pub EdgePremisesMet : Type 0
 EdgePremisesMet = (p : Picture) (scales : List Float) (border sigma : Float)
-    → Premises 3 (library_calls 3) (smaller p scales border sigma) (larger p scales border sigma) (calls p scales border sigma) (slice p scales border sigma)
+    → Premises library_calls (smaller p scales border sigma) (larger p scales border sigma) (calls p scales border sigma) (slice p scales border sigma)
 
 -- column 10 is clear of the cut edge, column 9 is not
 abbrev pub EdgePlaceClear : Type 0

@@ -38,7 +38,7 @@ module _ (g : Given) where
   -- columns and rows 0 to 23, in an image region of −1 to 24
   abbrev pub larger : Handed
   larger = record {
-    setup = setup_with (record { left = negsuc 0; top = negsuc 0; width = 26; height = 26 }) (record { left = pos 0; top = pos 0; width = 24; height = 24 }) 0 settings 5;
+    setup = setup_with (record { left = negsuc 0; top = negsuc 0; width = 26; height = 26 }) (record { left = pos 0; top = pos 0; width = 24; height = 24 }) 3 0 settings 5;
     frame = frame;
     table = 1 ∷ 3 ∷ 3 ∷ 0 ∷ 5 ∷ 7 ∷ [];
     grids = tab 9 g.grid;
@@ -50,7 +50,7 @@ module _ (g : Given) where
   -- columns and rows 8 to 15 of it, in an image region of 7 to 16; the result has ten rows, in bands of four
   abbrev pub smaller : Handed
   smaller = record {
-    setup = setup_with (record { left = pos 7; top = pos 7; width = 10; height = 10 }) (record { left = pos 8; top = pos 8; width = 8; height = 8 }) 1 settings 4;
+    setup = setup_with (record { left = pos 7; top = pos 7; width = 10; height = 10 }) (record { left = pos 8; top = pos 8; width = 8; height = 8 }) 3 1 settings 4;
     frame = frame;
     table = 1 ∷ 3 ∷ 3 ∷ 0 ∷ 0 ∷ 9 ∷ [];
     grids = tab 9 g.grid;
@@ -64,11 +64,11 @@ module _ (g : Given) where
   empty = record { setup = no_setup; frame = frame; table = []; grids = []; first = smaller.first; second = smaller.second; sigmas = smaller.sigmas }
 
   abbrev next : State → LibraryCall → State
-  next t c = state_after 3 (library_calls 3) t c
+  next t c = state_after library_calls t c
 
   -- the states in order
   abbrev pub begun : State
-  begun = start_state 3 smaller
+  begun = start_state smaller
 
   abbrev pub one : State
   one = next begun (band begun 2)
@@ -102,11 +102,11 @@ module _ (g : Given) where
   slice = set_of 3 10 10 (λ c x y. b0)
 
 abbrev pub FourEdgesMet : Type 0
-FourEdgesMet = (g : Given) → Premises 3 (library_calls 3) (smaller g) (larger g) (calls g) (slice g)
+FourEdgesMet = (g : Given) → Premises library_calls (smaller g) (larger g) (calls g) (slice g)
 
 -- and with equal sources of block sigmas
 abbrev pub FourEdgesSources : Type 0
-FourEdgesSources = (g : Given) → PremisesWith 3 (library_calls 3) SameSources (smaller g) (larger g) (calls g) (slice g)
+FourEdgesSources = (g : Given) → PremisesWith library_calls SameSources (smaller g) (larger g) (calls g) (slice g)
 
 -- columns and rows 11 and 12: three samples lie between them and each of the four edges
 abbrev pub middle : Region
@@ -121,4 +121,4 @@ FourEdgesClear = (g : Given) → let small = (smaller g).setup in
 
 -- the theorem's conclusion for this example
 abbrev pub FourEdgesDelivered : Type 0
-FourEdgesDelivered = (g : Given) → Delivers 3 (smaller g) (larger g) (result_after 3 (library_calls 3) (smaller g) (calls g) (slice g))
+FourEdgesDelivered = (g : Given) → Delivers (smaller g) (larger g) (result_after library_calls (smaller g) (calls g) (slice g))

@@ -6,8 +6,8 @@ use Rattle.region.specs.declared.Region.{Region}
 use Rattle.region.specs.Regions.{inside, Holds}
 use Rattle.frame.specs.Sizes.{sizes_of}
 use Rattle.sigma_grids.specs.Table.{present, grid_width, grid_height}
-use Rattle.run_passes.specs.Plan.{plan, margin}
-use Rattle.run_setup.specs.Setup.{epf_on, result_length}
+use Rattle.run_passes.specs.Plan.{margin}
+use Rattle.run_setup.specs.Setup.{passes_of, epf_on, result_length}
 use Rattle.run_record.specs.Record.{finished}
 use Rattle.run_outcomes.specs.Start.{Handed}
 use Rattle.run_outcomes.specs.Band.{State}
@@ -23,26 +23,26 @@ pub data Premise : Type 0 where
 
 -- each premise, of a smaller and a larger picture, a list of the library's calls and a slice
 abbrev pub Says : Premise → Handed → Handed → List LibraryCall → List Float → Type 0
-Says start-accepted small large cs out = StartAccepted 3 small
-Says unrefused small large cs out = Unrefused 3 large
+Says start-accepted small large cs out = StartAccepted small
+Says unrefused small large cs out = Unrefused large
 Says contained small large cs out = T (inside large.setup.filter small.setup.filter)
-Says same-passes small large cs out = plan 3 small.setup.settings ≡ plan 3 large.setup.settings
-Says inputs-agree small large cs out = (c : ℕ) (x y : ℤ) → c < 3 → Holds small.setup.filter x y → input_at 3 small c x y ≡ input_at 3 large c x y
-Says sigmas-alike small large cs out = T (epf_on small.setup) → SigmasAgree 3 small large
-Says buffers-unaltered small large cs out = Unaltered 3 (library_calls 3) (start_state 3 small) cs
-Says run-finished small large cs out = T (finished (end 3 (library_calls 3) (start_state 3 small) cs).run)
-Says slice_fits small large cs out = length out ≡ result_length 3 small.setup
+Says same-passes small large cs out = passes_of small.setup ≡ passes_of large.setup
+Says inputs-agree small large cs out = (c : ℕ) (x y : ℤ) → c < small.setup.planes → Holds small.setup.filter x y → input_at small c x y ≡ input_at large c x y
+Says sigmas-alike small large cs out = T (epf_on small.setup) → SigmasAgree small large
+Says buffers-unaltered small large cs out = Unaltered library_calls (start_state small) cs
+Says run-finished small large cs out = T (finished (end library_calls (start_state small) cs).run)
+Says slice_fits small large cs out = length out ≡ result_length small.setup
 
 -- together they are the premises of the theorem
 abbrev pub PremisesSay : Type 0
 PremisesSay = (small large : Handed) (cs : List LibraryCall) (out : List Float)
-    → Premises 3 (library_calls 3) small large cs out ↔ ((p : Premise) → Says p small large cs out)
+    → Premises library_calls small large cs out ↔ ((p : Premise) → Says p small large cs out)
 
 -- the theorem on rectangles with another condition in place of one premise
 abbrev pub TheoremBut : Premise → (Handed → Handed → List LibraryCall → List Float → Type 0) → Type 0
 TheoremBut q Instead = (small large : Handed) (cs : List LibraryCall) (out : List Float)
     → ((p : Premise) → (p ≡ q → ⊥) → Says p small large cs out) → Instead small large cs out
-    → Delivers 3 small large (result_after 3 (library_calls 3) small cs out)
+    → Delivers small large (result_after library_calls small cs out)
 
 -- without any one of the premises the theorem is false
 abbrev pub EachNeeded : Type 0
@@ -57,7 +57,7 @@ UnrefusedNeeded = TheoremBut unrefused (λ small large cs out. SameSources small
 -- if the margin is m + 1, being clear by m is not enough, even with equal sources of block sigmas
 abbrev pub MarginNeeded : ℕ → Type 0
 MarginNeeded m = ((small large : Handed) (cs : List LibraryCall) (out : List Float) → margin small.setup.settings ≡ suc m
-    → PremisesWith 3 (library_calls 3) SameSources small large cs out → DeliversBeyond m 3 small large (result_after 3 (library_calls 3) small cs out)) → ⊥
+    → PremisesWith library_calls SameSources small large cs out → DeliversBeyond m small large (result_after library_calls small cs out)) → ⊥
 
 -- the Gabor-like filter alone has margin 1
 abbrev pub GaborMarginNeeded : Type 0
@@ -71,8 +71,8 @@ StepMarginNeeded = MarginNeeded 1
 
 -- inputs agree except in the first channel at column 1 and row 0
 abbrev pub OneInputUnlike : Handed → Handed → List LibraryCall → List Float → Type 0
-OneInputUnlike small large cs out = (c : ℕ) (x y : ℤ) → c < 3 → Holds small.setup.filter x y → ((c ≡ 0) × (x ≡ pos 1) × (y ≡ pos 0) → ⊥)
-    → input_at 3 small c x y ≡ input_at 3 large c x y
+OneInputUnlike small large cs out = (c : ℕ) (x y : ℤ) → c < small.setup.planes → Holds small.setup.filter x y → ((c ≡ 0) × (x ≡ pos 1) × (y ≡ pos 0) → ⊥)
+    → input_at small c x y ≡ input_at large c x y
 
 abbrev pub InputsNeeded : Type 0
 InputsNeeded = TheoremBut inputs-agree OneInputUnlike → ⊥
@@ -82,7 +82,7 @@ block = record { left = pos 8; top = pos 0; width = 8; height = 8 }
 
 -- sigmas agree except in the block at column 8 and row 0
 abbrev pub OneSigmaUnlike : Handed → Handed → List LibraryCall → List Float → Type 0
-OneSigmaUnlike small large cs out = (x y : ℤ) → Holds small.setup.filter x y → (Holds block x y → ⊥) → sigma_at 3 small x y ≡ sigma_at 3 large x y
+OneSigmaUnlike small large cs out = (x y : ℤ) → Holds small.setup.filter x y → (Holds block x y → ⊥) → sigma_at small x y ≡ sigma_at large x y
 
 abbrev pub SigmasNeeded : Type 0
 SigmasNeeded = TheoremBut sigmas-alike OneSigmaUnlike → ⊥
@@ -112,7 +112,7 @@ SourcesBut q small large = (s : Source) → (s ≡ q → ⊥) → SourceSays s s
 -- with any one of them left out, the theorem is false
 abbrev pub EachSourceNeeded : Type 0
 EachSourceNeeded = (q : Source) → ((small large : Handed) (cs : List LibraryCall) (out : List Float)
-    → PremisesWith 3 (library_calls 3) (SourcesBut q) small large cs out → Delivers 3 small large (result_after 3 (library_calls 3) small cs out)) → ⊥
+    → PremisesWith library_calls (SourcesBut q) small large cs out → Delivers small large (result_after library_calls small cs out)) → ⊥
 
 -- the state with another sample at index 1 of the first set: the first channel, column 1 of the image region
 abbrev pub altered : Float → State → State
@@ -123,8 +123,8 @@ pub record OneSampleAltered (small large : Handed) (cs : List LibraryCall) (out 
   pub sample : Float
   pub number : ℕ
   pub later : List LibraryCall
-  pub calls : cs ≡ band (altered sample (start_state 3 small)) number ∷ later
-  pub then-unaltered : Unaltered 3 (library_calls 3) (state_after 3 (library_calls 3) (start_state 3 small) (band (altered sample (start_state 3 small)) number)) later
+  pub calls : cs ≡ band (altered sample (start_state small)) number ∷ later
+  pub then-unaltered : Unaltered library_calls (state_after library_calls (start_state small) (band (altered sample (start_state small)) number)) later
 
 abbrev pub UnalteredNeeded : Type 0
 UnalteredNeeded = TheoremBut buffers-unaltered OneSampleAltered → ⊥

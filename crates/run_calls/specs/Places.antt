@@ -7,24 +7,23 @@ use Rattle.planes.specs.Picture.{Picture}
 use Rattle.planes.specs.Sets.{of}
 use Rattle.planes.specs.Band.{inner}
 use Rattle.run_passes.specs.Pass.{passes}
-use Rattle.run_passes.specs.Plan.{plan}
 use Rattle.run_setup.specs.declared.Setup.{Setup}
-use Rattle.run_setup.specs.Setup.{layout, area, result_region}
+use Rattle.run_setup.specs.Setup.{passes_of, layout, area, result_region}
 use Rattle.run_outcomes.specs.Start.{Handed, start_leaves, sigmas_filled}
 
 -- the sample at a position, of a picture whose corner is the region's
 abbrev pub at : Region → Picture → ℕ → ℤ → ℤ → Float
 at r g c x y = g c (nat_abs (x -ℤ r.left)) (nat_abs (y -ℤ r.top))
 
--- n is the number of planes, h the arguments of start
-module _ (n : ℕ) (h : Handed) where
+-- h are the arguments of start
+module _ (h : Handed) where
   -- the filter region of the first set, as it is after start
   abbrev pub input : Picture
-  input = inner (layout h.setup) (start_leaves n h)
+  input = inner (layout h.setup) (start_leaves h)
 
   -- the smoothed samples (Specification 12.3): the input after all passes
   abbrev pub smoothed : Picture
-  smoothed = passes (area h.setup (sigmas_filled n h)) (plan n h.setup.settings) input
+  smoothed = passes (area h.setup (sigmas_filled h)) (passes_of h.setup) input
 
   -- the input at a position of the filter region
   abbrev pub input_at : ℕ → ℤ → ℤ → Float
@@ -36,7 +35,7 @@ module _ (n : ℕ) (h : Handed) where
 
   -- the sigma of the block at a position of the filter region
   abbrev pub sigma_at : ℤ → ℤ → Float
-  sigma_at x y = (area h.setup (sigmas_filled n h)).sigma (nat_abs (x -ℤ h.setup.filter.left) / 8) (nat_abs (y -ℤ h.setup.filter.top) / 8)
+  sigma_at x y = (area h.setup (sigmas_filled h)).sigma (nat_abs (x -ℤ h.setup.filter.left) / 8) (nat_abs (y -ℤ h.setup.filter.top) / 8)
 
 -- the sample of the result at a position of the result region
 abbrev pub result_at : Setup → List Float → ℕ → ℤ → ℤ → Float

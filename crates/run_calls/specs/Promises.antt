@@ -1,5 +1,4 @@
 -- All promises besides the contracts (Specification 13), each by its name. proofs/Promises.antt proves them.
-use Rattle.std.specs.Prelude.{ℕ}
 use Rattle.mirror.specs.Statements.{MirrorInside, MirrorPeriodic, MirrorLow, MirrorHigh, MirrorCut}
 use Rattle.region_arithmetic.specs.Laws.{IntersectionInside, IntersectionGreatest, AlignedContains, AlignedLeast, ShrunkHas, ShrunkTouched}
 use Rattle.header_fields.specs.Order.{TooLong, RunsOut}
@@ -10,7 +9,7 @@ use Rattle.epf_step.specs.Offsets.{KernelOffsets, DistanceOffsets}
 use Rattle.epf_step.specs.Bounds.{DistanceNotNegative, SlopeNotPositive, WeightBounds, DivisorBounds, MultiplierNotNegative, PassBounds}
 use Rattle.epf_offsets.specs.Offsets.{KernelPacked, DistancesPacked}
 use Rattle.epf_lanes.specs.Divisors.{LaneDivisorBounds}
-use Rattle.run_passes.specs.Statements.{PassNear, CutSame, PlanReach}
+use Rattle.run_passes.specs.Statements.{PassNear, CutSame, PlanReach, PlanReads}
 use Rattle.run_passes.specs.Bounds.{StepBounds, SettingsBounds, BoundsReached}
 use Rattle.run_calls.specs.Calls.{Calls, Effects}
 use Rattle.run_calls.specs.Theorem.{SourcesGiveSigmas, RectangleTheorem, SourcesTheorem, LibraryTheorem, LibrarySourcesTheorem}
@@ -23,18 +22,17 @@ use Rattle.run_calls.specs.FourEdges.{FourEdgesMet, FourEdgesSources, FourEdgesC
 use Rattle.run_calls.specs.Needed.{PremisesSay, EachNeeded, UnrefusedNeeded, GaborMarginNeeded, StepMarginNeeded, InputsNeeded, SigmasNeeded, UnalteredNeeded, SourcesSay, EachSourceNeeded}
 
 pub record Promises : Type 1 where
-  -- the theorem on rectangles (Specification 13.6): for three planes and the calls of 13.7, and for any number of planes and any kind of
-  -- calls
+  -- the theorem on rectangles (Specification 13.6): for the calls of 13.7, and for any kind of calls
   pub library-theorem : LibraryTheorem
-  pub rectangle-theorem : (n : ℕ) (K : Calls n) → Effects n K → RectangleTheorem n K
+  pub rectangle-theorem : (K : Calls) → Effects K → RectangleTheorem K
   -- the same from equal sources of block sigmas, which give equal block sigmas
   pub library-sources-theorem : LibrarySourcesTheorem
-  pub sources-theorem : (n : ℕ) (K : Calls n) → Effects n K → SourcesTheorem n K
+  pub sources-theorem : (K : Calls) → Effects K → SourcesTheorem K
   pub sources-give-sigmas : SourcesGiveSigmas
   -- the theorem for a state, however it was reached, and that lists of calls reach such states
   pub rectangle-theorem-at : RectangleTheoremAt
   pub result-at-state : ResultAt
-  pub end-reached : (n : ℕ) (K : Calls n) → Effects n K → EndReached n K
+  pub end-reached : (K : Calls) → Effects K → EndReached K
   -- examples meet the premises, one of them with four cut edges
   pub premises-met : PremisesMet
   pub unlike-sources-met : UnlikeSourcesMet
@@ -58,21 +56,21 @@ pub record Promises : Type 1 where
   pub sources-say : SourcesSay
   pub each-source-needed : EachSourceNeeded
   -- corollaries
-  pub whole-picture : (n : ℕ) (K : Calls n) → Effects n K → WholePicture n K
-  pub two-cuts-agree : (n : ℕ) (K : Calls n) → Effects n K → TwoCutsAgree n K
-  pub outside_kept : (n : ℕ) (K : Calls n) → Effects n K → OutsideKept n K
-  pub bands-alike : (n : ℕ) (K : Calls n) → Effects n K → BandsAlike n K
+  pub whole-picture : (K : Calls) → Effects K → WholePicture K
+  pub two-cuts-agree : (K : Calls) → Effects K → TwoCutsAgree K
+  pub outside_kept : (K : Calls) → Effects K → OutsideKept K
+  pub bands-alike : (K : Calls) → Effects K → BandsAlike K
   -- the calls of a run, and how many finish it
   pub start-tied : StartTied
   pub calls-tied : CallsTied
   pub refused-untouched : RefusedUntouched
   pub library-count-rule : LibraryCountRule
-  pub count-rule : (n : ℕ) (K : Calls n) → Effects n K → CountRule n K
+  pub count-rule : (K : Calls) → Effects K → CountRule K
   pub can-finish : CanFinish
   -- how many bands are left
-  pub left-counts : (n : ℕ) (K : Calls n) → Effects n K → LeftCounts n K
+  pub left-counts : (K : Calls) → Effects K → LeftCounts K
   -- the records of runs: which are valid, which are reached
-  pub end_fits : (n : ℕ) (K : Calls n) → Effects n K → EndFits n K
+  pub end_fits : (K : Calls) → Effects K → EndFits K
   pub reached-fits : ReachedFits
   pub fits-reached : FitsReached
   pub each-reached : EachReached
@@ -80,6 +78,7 @@ pub record Promises : Type 1 where
   pub pass-near : PassNear
   pub cut-same : CutSame
   pub plan-reach : PlanReach
+  pub plan-reads : PlanReads
   -- bounds of weights and divisors
   pub weight-bounds : WeightBounds
   pub divisor-bounds : DivisorBounds

@@ -12,6 +12,7 @@ use Rattle.sigma_groups.specs.Outcome.{table_read, frame_sides, grid_sides, tabl
 use Rattle.sigma.specs.Sigma.{block_sigmas}
 use Rattle.region_placement.specs.Placed.{picture_check, inside_check}
 use Rattle.region_placement.specs.Blocks.{clamp_to_zero, on_blocks}
+use Rattle.planes.specs.Band.{planes_fit}
 use Rattle.run_passes.specs.Plan.{gabor_fits}
 use Rattle.run_setup.specs.declared.Setup.{Setup}
 use Rattle.run_setup.specs.Makers.{no_setup}
@@ -49,9 +50,9 @@ filter_inside s = inside_check s.image s.filter
 abbrev pub filter_on_blocks : Setup → Check
 filter_on_blocks s = given (runs_epf s) not_on_blocks (not (on_blocks s.filter))
 
--- the lengths of both sets, and of the block sigmas
-abbrev pub set_lengths : ℕ → Handed → Check
-set_lengths n h = always wrong_length (not (eqb (length h.first) (set_length n h.setup) && eqb (length h.second) (set_length n h.setup)))
+-- the lengths of both sets, and of the block sigmas; that of a set is checked only if the number of planes is in range
+abbrev pub set_lengths : Handed → Check
+set_lengths h = given (planes_fit h.setup.planes) wrong_length (not (eqb (length h.first) (set_length h.setup) && eqb (length h.second) (set_length h.setup)))
 
 abbrev pub sigmas_length : Handed → Check
 sigmas_length h = given (iters_fit h.setup) wrong_length (not (eqb (length h.sigmas) (sigma_length h.setup)))
@@ -62,6 +63,9 @@ blocks_held h = given (runs_epf h.setup && table_read h.frame h.table) block_not
 
 abbrev pub iters_in_range : Setup → Check
 iters_in_range s = always out_of_range (not (iters_fit s))
+
+abbrev pub planes_in_range : Setup → Check
+planes_in_range s = always out_of_range (not (planes_fit s.planes))
 
 abbrev pub full_in_range : Setup → Check
 full_in_range s = always out_of_range (not (full_fits s))
@@ -75,7 +79,7 @@ height_in_range s = always out_of_range (not (height_fits s))
 abbrev pub count_in_range : Setup → Check
 count_in_range s = given (full_fits s && height_fits s) out_of_range (not (count_fits s))
 
-module _ (n : ℕ) (h : Handed) where
+module _ (h : Handed) where
   abbrev setup : Setup
   setup = h.setup
 
@@ -87,12 +91,13 @@ module _ (n : ℕ) (h : Handed) where
       ∷ grid_sides h.frame h.table
       ∷ filter_inside setup
       ∷ filter_on_blocks setup
-      ∷ set_lengths n h
+      ∷ set_lengths h
       ∷ table_length h.frame h.table
       ∷ grids_length h.frame h.table h.grids
       ∷ sigmas_length h
       ∷ blocks_held h
       ∷ iters_in_range setup
+      ∷ planes_in_range setup
       ∷ frame_settings h.frame
       ∷ presences h.frame h.table
       ∷ full_in_range setup
@@ -137,11 +142,11 @@ pub record StartOutcome : Type 0 where
   pub first : List Float
   pub sigmas : List Float
 
-abbrev pub start_accepted : ℕ → Handed → StartOutcome
-start_accepted n h = record { answer = record { number = 0; run = started h.setup }; first = start_leaves n h; sigmas = sigmas_filled n h }
+abbrev pub start_accepted : Handed → StartOutcome
+start_accepted h = record { answer = record { number = 0; run = started h.setup }; first = start_leaves h; sigmas = sigmas_filled h }
 
 abbrev pub start_refused : ℕ → Handed → StartOutcome
 start_refused k h = record { answer = record { number = k; run = no_run }; first = h.first; sigmas = h.sigmas }
 
-unfoldable pub start_outcome : ℕ → Handed → StartOutcome
-start_outcome n h = cond (eqb (start_number n h) 0) (start_accepted n h) (start_refused (start_number n h) h)
+unfoldable pub start_outcome : Handed → StartOutcome
+start_outcome h = cond (eqb (start_number h) 0) (start_accepted h) (start_refused (start_number h) h)

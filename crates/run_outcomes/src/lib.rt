@@ -5,12 +5,13 @@
 ghost use Rattle.std.specs.Prelude.{◌≡◌, true, ◌*◌, length, [], ◌∷◌};
 ghost use Rattle.refusals.specs.Checks.{first_of};
 ghost use Rattle.refusals.specs.Refusals.{number_of};
+ghost use Rattle.planes.specs.Band.{planes_fit};
 ghost use Rattle.run_setup.specs.Setup.{epf_on, size_fits, sigma_length};
 ghost use Rattle.run_outcomes.specs.Band.{set_check, sigma_check};
 ghost use Rattle.run_outcomes.specs.Result.{slice_check};
 ghost use Rattle.run_outcomes.specs.Start.{run_answer};
 
-use planes::PLANES;
+use planes::planes_fit;
 use refusals::{ACCEPTED, Refusal, flag_fits, number_of};
 use region::Region;
 use run_record::Run;
@@ -59,25 +60,26 @@ impl From<Result<Run, Refusal>> for RunAnswer {
     }
 }
 
-// Form: `loupe::wanted_length` is the same product. Each asks for a size in range, which its callers have tested; one public function for
-// both could ask nothing, and would test it again.
-fn set_length(r: Region) -> usize
-    requires { size_fits r ≡ true }
-    ensures { result ≡ 3 * r.height * r.width }
+// Form: `loupe::wrong_slice` has the same product. Here the number of planes and the size are in range, as the caller has tested; one public
+// function for both could ask nothing, and would test them again.
+fn set_length(planes: u32, r: Region) -> usize
+    requires { (planes_fit planes ≡ true) × (size_fits r ≡ true) }
+    ensures { result ≡ planes * r.height * r.width }
 {
-    PLANES * r.height as usize * r.width as usize
+    planes as usize * r.height as usize * r.width as usize
 }
 
-// Refuses sets of the wrong length; passed over if the image region's size does not fit (Specification 12.12).
+// Refuses sets of the wrong length; passed over if the image region's size or the number of planes does not fit
+// (Specification 12.12).
 pub fn check_sets(s: &Setup, first: &[f32], second: &[f32]) -> Result<(), Refusal>
     ensures { number_of result
-        ≡ first_of (set_check 3 s.now (length first.now) (length second.now) ∷ []) }
+        ≡ first_of (set_check s.now (length first.now) (length second.now) ∷ []) }
 {
-    if !size_fits(s.image) {
+    if !size_fits(s.image) || !planes_fit(s.planes) {
         return Ok(());
     }
-    let n = set_length(s.image);
-    if first.len() != n || second.len() != n {
+    let len = set_length(s.planes, s.image);
+    if first.len() != len || second.len() != len {
         return Err(Refusal::WrongLength);
     }
     Ok(())
@@ -99,7 +101,7 @@ fn sigmas_length(s: &Setup) -> usize
 // Refuses block sigmas of the wrong length; passed over if the iterations are over 3, or if the EPF is on and the
 // filter region's size does not fit (Specification 12.12).
 pub fn check_sigmas(s: &Setup, sigmas: &[f32]) -> Result<(), Refusal>
-    ensures { number_of result ≡ first_of (sigma_check 3 s.now (length sigmas.now) ∷ []) }
+    ensures { number_of result ≡ first_of (sigma_check s.now (length sigmas.now) ∷ []) }
 {
     if !s.settings.iterations_fit() || s.settings.epf_on() && !size_fits(s.filter) {
         return Ok(());
@@ -110,17 +112,17 @@ pub fn check_sigmas(s: &Setup, sigmas: &[f32]) -> Result<(), Refusal>
     Ok(())
 }
 
-// Refuses a slice of the wrong length for the result; passed over if `preserve_outside` is not a flag or the result
-// region's size does not fit (Specification 12.12).
+// Refuses a slice of the wrong length for the result; passed over if `preserve_outside` is not a flag, or the result
+// region's size or the number of planes does not fit (Specification 12.12).
 // Form: the flag is C's number, and only a table of checks asks whether it is in range.
 pub fn check_slice(s: &Setup, out: &[f32]) -> Result<(), Refusal>
-    ensures { number_of result ≡ first_of (slice_check 3 s.now (length out.now) ∷ []) }
+    ensures { number_of result ≡ first_of (slice_check s.now (length out.now) ∷ []) }
 {
     let r = s.result_region();
-    if !flag_fits(s.preserve_outside) || !size_fits(r) {
+    if !flag_fits(s.preserve_outside) || !size_fits(r) || !planes_fit(s.planes) {
         return Ok(());
     }
-    if out.len() != set_length(r) {
+    if out.len() != set_length(s.planes, r) {
         return Err(Refusal::WrongLength);
     }
     Ok(())

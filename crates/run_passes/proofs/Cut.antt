@@ -3,6 +3,7 @@
 use mathlib.Core.Path.{◌≡◌, sym, ◌∙◌}
 use mathlib.Core.Bool.{Bool, true, false, cond}
 use mathlib.Core.List.{List, [], ◌∷◌}
+use lib.ListN.{take}
 use mathlib.Core.Logic.{inl, inr}
 use Prim.Native.Nat.{ℕ, zero, suc, ◌+◌, ◌/◌, ◌<◌, ◌≤◌}
 use native.Mathlib.Omega.{arith}
@@ -135,7 +136,7 @@ pub plan-sound : (n : ℕ) (s : Settings) → AllSound n (plan n s)
 unfolding plan IsSound
 plan-sound n s = go (gabor_on s)
   where
-    go : (on : Bool) → AllSound n (cond on (gabor_like s.gabor.weights ∷ steps n s s.epf.iters) (steps n s s.epf.iters))
+    go : (on : Bool) → AllSound n (cond on (gabor_like (take n s.gabor.weights) ∷ steps n s s.epf.iters) (steps n s s.epf.iters))
     go true = (tt, steps-sound n s s.epf.iters)
     go false = steps-sound n s s.epf.iters
 
@@ -149,7 +150,7 @@ pub plan-some-step : (n : ℕ) (s : Settings) → SomeStep (plan n s) → 0 < s.
 unfolding plan IsStep
 plan-some-step n s h = go (gabor_on s) h
   where
-    go : (on : Bool) → SomeStep (cond on (gabor_like s.gabor.weights ∷ steps n s s.epf.iters) (steps n s s.epf.iters)) → 0 < s.epf.iters
+    go : (on : Bool) → SomeStep (cond on (gabor_like (take n s.gabor.weights) ∷ steps n s s.epf.iters) (steps n s s.epf.iters)) → 0 < s.epf.iters
     go true (inl h) = absurd h
     go true (inr h) = some-step n s s.epf.iters h
     go false h = some-step n s s.epf.iters h

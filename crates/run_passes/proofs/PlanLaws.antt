@@ -7,23 +7,25 @@ use native.Mathlib.Nat.{le_of_suc-le-suc}
 use native.Mathlib.Omega.{arith}
 use borrow.Author.Tests.{eqb-true, le-ltb, ne_eqb}
 use lib.Dec.{eqb, ltb}
-use lib.ListN.{length, get_or}
+use lib.ListN.{length, get_or, take}
 use lib.Ieee.{Float}
 use Rattle.std.specs.Prelude.{Result, Ok, Err}
 use Rattle.refusals.specs.declared.Refusal.{Refusal}
 use Rattle.refusals.specs.Refusals.{IsOutcome, number}
 use Rattle.refusals.proofs.Outcomes.{number-nonzero}
 use Rattle.epf.specs.declared.EpfStep.{EpfStep}
+use Rattle.epf_step.specs.Steps.{scaled}
+use Rattle.run_passes.specs.Statements.{PlanReads}
 use Rattle.run_passes.specs.declared.Pass.TheVariants.{Gabor, Edge}
 use Rattle.run_passes.specs.declared.Settings.{Settings}
 use Rattle.run_passes.specs.Pass.{Pass, gabor_like, reach, reaches}
 use Rattle.run_passes.specs.PassAt.{pass_at}
-use Rattle.run_passes.specs.Plan.{gabor_at, gabor_on, margin, margin_answer, margin_number, margin_outcome, one_if, plan, step, step_index, step_margin, step_of, steps}
+use Rattle.run_passes.specs.Plan.{gabor_at, gabor_on, margin, margin_answer, margin_number, margin_outcome, one_if, pass_number, plan, scale_of, step, step_index, step_margin, step_of, steps}
 
 -- ---- laws
 
 -- the margin is how far the passes read together
-margin-is : (n : ℕ) (s : Settings) (on : Bool) (i : ℕ) → reaches (cond on (gabor_like s.gabor.weights ∷ steps n s i) (steps n s i)) ≡ one_if on + step_margin i
+margin-is : (n : ℕ) (s : Settings) (on : Bool) (i : ℕ) → reaches (cond on (gabor_like (take n s.gabor.weights) ∷ steps n s i) (steps n s i)) ≡ one_if on + step_margin i
 unfolding steps reaches reach step_margin step_of
 margin-is n s true zero = refl
 margin-is n s true (suc zero) = refl
@@ -46,13 +48,29 @@ length-steps n s (suc zero) = refl
 length-steps n s (suc (suc zero)) = refl
 length-steps n s (suc (suc (suc i))) = omega arith
 
-pub plan-length : (n : ℕ) (s : Settings) → length (plan n s) ≡ one_if (gabor_on s) + min s.epf.iters 3
+pub plan-length : (n : ℕ) (s : Settings) → length (plan n s) ≡ pass_number s
 unfolding plan
 plan-length n s = go (gabor_on s)
   where
-    go : (on : Bool) → length (cond on (gabor_like s.gabor.weights ∷ steps n s s.epf.iters) (steps n s s.epf.iters)) ≡ one_if on + min s.epf.iters 3
+    go : (on : Bool) → length (cond on (gabor_like (take n s.gabor.weights) ∷ steps n s s.epf.iters) (steps n s s.epf.iters)) ≡ one_if on + min s.epf.iters 3
     go true = omega (arith, length-steps n s s.epf.iters)
     go false = omega (arith, length-steps n s s.epf.iters)
+
+-- ---- what the passes read of the settings
+
+module _ (n : ℕ) (s t : Settings) (scales : scaled n s.epf.channel_scale ≡ scaled n t.epf.channel_scale)
+    (pass0 : s.epf.sigma.pass0_sigma_scale ≡ t.epf.sigma.pass0_sigma_scale) (pass2 : s.epf.sigma.pass2_sigma_scale ≡ t.epf.sigma.pass2_sigma_scale)
+    (edge : s.epf.sigma.border_sad_mul ≡ t.epf.sigma.border_sad_mul) where
+  steps-read : (i : ℕ) → steps n s i ≡ steps n t i
+  unfolding steps step_of scale_of
+  steps-read zero = refl
+  steps-read (suc zero) = rw (scales, edge)
+  steps-read (suc (suc zero)) = rw (scales, edge, pass2)
+  steps-read (suc (suc (suc i))) = rw (scales, edge, pass0, pass2)
+
+pub plan-reads : PlanReads
+unfolding plan
+plan-reads n s t enabled weights iters scales pass0 pass2 edge = rw (steps-read n s t scales pass0 pass2 edge s.epf.iters) (rw (enabled, weights, iters) refl)
 
 -- ---- the pass with a given number
 
@@ -60,7 +78,7 @@ and-true : (a b : Bool) → (a && b) ≡ true → (a ≡ true) × (b ≡ true)
 and-true true b e = (refl, e)
 and-true false b e = absurd (false≢true e)
 
-pub plan-gabor : (n : ℕ) (s : Settings) (p : ℕ) (d : Pass) → gabor_at s p ≡ true → get_or (plan n s) p d ≡ gabor_like s.gabor.weights
+pub plan-gabor : (n : ℕ) (s : Settings) (p : ℕ) (d : Pass) → gabor_at s p ≡ true → get_or (plan n s) p d ≡ gabor_like (take n s.gabor.weights)
 unfolding gabor_at plan
 plan-gabor n s p d e =
     let z = and-true (gabor_on s) (eqb p 0) e in
@@ -87,8 +105,8 @@ plan-step n s p d e h = go (gabor_on s) p e h
     i : ℕ
     i = s.epf.iters
 
-    go : (on : Bool) (p : ℕ) → (on && eqb p 0) ≡ false → p < length (cond on (gabor_like s.gabor.weights ∷ steps n s i) (steps n s i))
-        → get_or (cond on (gabor_like s.gabor.weights ∷ steps n s i) (steps n s i)) p d ≡ step n s (min (p + one_if (ltb i 3) - one_if on) 2)
+    go : (on : Bool) (p : ℕ) → (on && eqb p 0) ≡ false → p < length (cond on (gabor_like (take n s.gabor.weights) ∷ steps n s i) (steps n s i))
+        → get_or (cond on (gabor_like (take n s.gabor.weights) ∷ steps n s i) (steps n s i)) p d ≡ step n s (min (p + one_if (ltb i 3) - one_if on) 2)
     go true zero e h = absurd (true≢false e)
     go true (suc p) e h =
         let z = steps-at n s i p d (le_of_suc-le-suc h) in

@@ -1,5 +1,5 @@
 -- The passes of the settings (Specification 11.1, 12.2), and the margin (Specification 12.14). Definitions only.
-use Rattle.std.specs.Prelude.{Bool, cond, not, ◌&&◌, List, [], ◌∷◌, ℕ, zero, suc, ◌+◌, ◌-◌, min, eqb, leb, ltb, Float, Result}
+use Rattle.std.specs.Prelude.{Bool, cond, not, ◌&&◌, List, [], ◌∷◌, ℕ, zero, suc, ◌+◌, ◌-◌, min, eqb, leb, ltb, take, Float, Result}
 use Rattle.std.specs.Result.{result_unwrap_or}
 use Rattle.refusals.specs.Numbers.{out_of_range}
 use Rattle.refusals.specs.Checks.{Check, always, first_of}
@@ -24,6 +24,9 @@ gabor_on s = flag_set s.gabor.enabled
 abbrev pub iterations_fit : Settings → Bool
 iterations_fit s = leb s.epf.iters 3
 
+abbrev pub one_if : Bool → ℕ
+one_if b = cond b 1 0
+
 -- a step's scale: `pass0_sigma_scale`, 1 or `pass2_sigma_scale`
 unfoldable pub scale_of : EpfSigma → ℕ → Float
 scale_of s zero = s.pass0_sigma_scale
@@ -45,9 +48,13 @@ steps n s (suc zero) = step n s 1 ∷ []
 steps n s (suc (suc zero)) = step n s 1 ∷ step n s 2 ∷ []
 steps n s (suc (suc (suc i))) = step n s 0 ∷ step n s 1 ∷ step n s 2 ∷ []
 
--- Gabor if it is on, then the steps, on n planes
+-- Gabor if it is on, then the steps, on n planes; each has only the weights or scales of the first n channels
 unfoldable pub plan : ℕ → Settings → List Pass
-plan n s = cond (gabor_on s) (gabor_like s.gabor.weights ∷ steps n s s.epf.iters) (steps n s s.epf.iters)
+plan n s = cond (gabor_on s) (gabor_like (take n s.gabor.weights) ∷ steps n s s.epf.iters) (steps n s s.epf.iters)
+
+-- the number of passes, whatever the number of planes
+abbrev pub pass_number : Settings → ℕ
+pass_number s = one_if (gabor_on s) + min s.epf.iters 3
 
 -- 0, 2, 3 or 6 for 0, 1, 2 or 3 iterations
 unfoldable pub step_margin : ℕ → ℕ
@@ -55,9 +62,6 @@ step_margin zero = 0
 step_margin (suc zero) = 2
 step_margin (suc (suc zero)) = 3
 step_margin (suc (suc (suc i))) = 6
-
-abbrev pub one_if : Bool → ℕ
-one_if b = cond b 1 0
 
 -- the margin (Specification 12.14): 1 if Gabor is on, plus that of the iterations
 abbrev pub margin : Settings → ℕ

@@ -3,10 +3,10 @@
 // names of fields, are what the header's readers answer, with a bool (docs/DECISIONS.md, "Runs").
 #![tactic(auto)]
 
-ghost use Rattle.std.specs.Prelude.{◌≡◌, ◌≤◌, length, ltb};
+ghost use Rattle.std.specs.Prelude.{◌≡◌, ◌≤◌, ltb};
 ghost use Rattle.refusals.specs.Refusals.{IsOutcome};
 ghost use Rattle.run_passes.specs.Makers.{no_settings};
-ghost use Rattle.run_passes.specs.Plan.{plan, gabor_on, one_if, step_margin, margin, margin_number, margin_answer};
+ghost use Rattle.run_passes.specs.Plan.{pass_number, gabor_on, one_if, step_margin, margin, margin_number, margin_answer};
 ghost use Rattle.run_passes.specs.Plan.{iterations_fit, scale_of, step_of, gabor_at, step_index};
 ghost use Rattle.run_passes.specs.PassAt.{pass_at};
 
@@ -16,7 +16,7 @@ use header_epf_sigma::EpfSigma;
 use refusals::{ACCEPTED, Refusal, flag_fits, flag_set};
 
 // The Gabor-like filter. `enabled` is a flag: 1 is on, 0 is off. `weights` has two weights for each of the channels
-// X, Y and B: of the side neighbours and of the diagonal ones.
+// X, Y and B: of the side neighbours and of the diagonal ones. One plane has those of X.
 #[repr(C)]
 #[derive(Clone, Copy, Default)]
 pub struct GaborSettings {
@@ -24,7 +24,7 @@ pub struct GaborSettings {
     pub weights: [[f32; 2]; 3],
 }
 
-// The edge-preserving filter: off with 0 iterations, on with 1 to 3.
+// The edge-preserving filter: off with 0 iterations, on with 1 to 3. One plane has the scale of X.
 #[repr(C)]
 #[derive(Clone, Copy, Default)]
 pub struct EpfSettings {
@@ -118,9 +118,9 @@ impl Settings {
         0 < self.epf.iters
     }
 
-    // The number of passes.
+    // The number of passes, whatever the number of planes.
     pub fn pass_count(&self) -> u32
-        ensures { result ≡ length (plan 3 self.now) }
+        ensures { result ≡ pass_number self.now }
     {
         self.gabor_passes() + self.epf.iters.min(ALL_STEPS)
     }

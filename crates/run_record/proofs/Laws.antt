@@ -14,10 +14,10 @@ use Rattle.run_passes.specs.Plan.{one_if}
 use Rattle.run_setup.specs.declared.Setup.{Setup}
 use Rattle.run_record.specs.declared.Run.{Run}
 use Rattle.refusals.proofs.Tables.{is_true, of-true}
-use Rattle.run_setup.specs.Setup.{max_bands, band_count, setup_fits}
+use Rattle.run_setup.specs.Setup.{pass_count, max_bands, band_count, setup_fits}
 use Rattle.run_setup.specs.SetupFits.{SetupFits}
 use Rattle.run_setup.proofs.Laws.{setup-fits}
-use Rattle.run_record.specs.Record.{pass_count, is_done, none_done, started, marked, advanced, finished, band_missing, not_open, not_over, open_bands, left_by_flags, bad_flag, bad_done, run_fits}
+use Rattle.run_record.specs.Record.{is_done, none_done, started, marked, advanced, finished, band_missing, not_open, not_over, open_bands, left_by_flags, bad_flag, bad_done, run_fits}
 use Rattle.run_record.specs.RunFits.{RunFits}
 
 -- a flag of a valid record is 0 or 1, and 0 from the open bands on

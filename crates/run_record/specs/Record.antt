@@ -1,17 +1,13 @@
 -- The record of a run (Specification 12.5, 12.8): what start returns, how calls change it, and when it is valid. Definitions only.
-use Rattle.std.specs.Prelude.{◌≡◌, Bool, false, cond, not, ◌&&◌, ◌||◌, List, [], ◌∷◌, ℕ, zero, suc, ◌+◌, ◌-◌, eqb, leb, ltb, length, get_or, set, replicate}
+use Rattle.std.specs.Prelude.{◌≡◌, Bool, false, cond, not, ◌&&◌, ◌||◌, List, [], ◌∷◌, ℕ, zero, suc, ◌+◌, ◌-◌, eqb, leb, ltb, get_or, set, replicate}
 use Rattle.refusals.specs.Numbers.{out_of_range, band_not_open, pass_not_done}
 use Rattle.refusals.specs.Checks.{Check, always}
 use Rattle.refusals.specs.Flags.{flag_set}
 use Rattle.sigma_grids.specs.Table.{some_below}
-use Rattle.run_passes.specs.Plan.{one_if, plan}
+use Rattle.run_passes.specs.Plan.{one_if}
 use Rattle.run_setup.specs.declared.Setup.{Setup}
 use Rattle.run_record.specs.declared.Run.{Run}
-use Rattle.run_setup.specs.Setup.{max_bands, band_count, setup_fits}
-
--- the number of passes of the settings
-abbrev pub pass_count : Setup → ℕ
-pass_count s = length (plan 3 s.settings)
+use Rattle.run_setup.specs.Setup.{max_bands, pass_count, band_count, setup_fits}
 
 unfoldable pub is_done : Run → ℕ → Bool
 is_done r k = flag_set (get_or r.done k 0)

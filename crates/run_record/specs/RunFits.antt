@@ -1,8 +1,8 @@
 -- What a valid record has. Definitions only.
 use Rattle.std.specs.Prelude.{◌≡◌, false, ℕ, ◌<◌, ◌≤◌, T, get_or}
 use Rattle.run_record.specs.declared.Run.{Run}
-use Rattle.run_setup.specs.Setup.{max_bands, setup_fits}
-use Rattle.run_record.specs.Record.{pass_count, is_done, open_bands, left_by_flags}
+use Rattle.run_setup.specs.Setup.{pass_count, max_bands, setup_fits}
+use Rattle.run_record.specs.Record.{is_done, open_bands, left_by_flags}
 
 -- the setup is in range, `pass` is at most the number of passes, each flag is one that accepted calls give, and the number of bands left is the
 -- one that the flags give

@@ -39,7 +39,7 @@ fn bad_flag(bands: u32, k: usize, flag: u8) -> bool
 fn open_bands(setup: &Setup, pass: u32) -> u32
     ensures { result ≡ open_in setup.now pass }
 {
-    if pass == setup.settings.pass_count() {
+    if pass == setup.pass_count() {
         return 0;
     }
     setup.band_count()
@@ -118,7 +118,7 @@ impl Run {
     fn finished(&self) -> bool
         ensures { result ≡ finished self.now }
     {
-        self.pass == self.setup.settings.pass_count()
+        self.pass == self.setup.pass_count()
     }
 
     // Whether a record is valid (Specification 12.8).
@@ -126,7 +126,7 @@ impl Run {
     pub fn fits(&self) -> bool
         ensures { result ≡ run_fits self.now }
     {
-        self.setup.fits() && self.pass <= self.setup.settings.pass_count() && self.done_fits()
+        self.setup.fits() && self.pass <= self.setup.pass_count() && self.done_fits()
     }
 
     // Whether band k cannot run: the run is finished, there is no band k, or it is done.

@@ -40,12 +40,12 @@ part-fits l f = record { width-le = f.width-le; height-le = f.height-le; across 
     go-down false = f.down
 
 -- the length of the slice, from that layout
-pub part_length : (n : ℕ) (s : Setup) → result_length n s ≡ n * (part_of (layout s)).height * (part_of (layout s)).width
+pub part_length : (s : Setup) → result_length s ≡ s.planes * (part_of (layout s)).height * (part_of (layout s)).width
 unfolding part_of layout_of
-part_length n s = go (full_planes s)
+part_length s = go (full_planes s)
   where
-    go : (b : Bool) → n * (cond b s.image s.filter).height * (cond b s.image s.filter).width
-        ≡ n * cond b s.image.height s.filter.height * cond b s.image.width s.filter.width
+    go : (b : Bool) → s.planes * (cond b s.image s.filter).height * (cond b s.image s.filter).width
+        ≡ s.planes * cond b s.image.height s.filter.height * cond b s.image.width s.filter.width
     go true = refl
     go false = refl
 
@@ -95,13 +95,13 @@ module _ (s : Setup) (f : SetupFits s) (full : Bool) (u : full ≡ full_planes s
   pub setup-part : LayoutFits p
   setup-part = rw part-is (part-fits (layout s) (setup-layout s f).fits)
 
-  pub source-length : (n k : ℕ) → k ≡ set_length n s → k ≡ n * p.image.height * p.image.width
+  pub source-length : (k : ℕ) → k ≡ set_length s → k ≡ s.planes * p.image.height * p.image.width
   unfolding part_of layout_of
-  source-length n k h = rw part-is h
+  source-length k h = rw part-is h
 
-  pub target-length : (n k : ℕ) → k ≡ result_length n s → k ≡ n * p.height * p.width
-  target-length n k h = rw part-is (h ∙ part_length n s)
+  pub target-length : (k : ℕ) → k ≡ result_length s → k ≡ s.planes * p.height * p.width
+  target-length k h = rw part-is (h ∙ part_length s)
 
-  pub setup-copied : (n : ℕ) (src out b : List Float) → length out ≡ result_length n s
-      → b ≡ planes_fill p.width p.height 0 p.width 0 p.height (inner p src) out n → b ≡ result_of n (layout s) src
-  setup-copied n src out b h k = result_copied n (layout s) src out b (h ∙ part_length n s) (rw part-is at k)
+  pub setup-copied : (src out b : List Float) → length out ≡ result_length s
+      → b ≡ planes_fill p.width p.height 0 p.width 0 p.height (inner p src) out s.planes → b ≡ result_of s.planes (layout s) src
+  setup-copied src out b h k = result_copied s.planes (layout s) src out b (h ∙ part_length s) (rw part-is at k)

@@ -12,7 +12,7 @@ ghost use Rattle.run_setup.specs.SetupFits.{SetupFits};
 ghost use Rattle.run_outcomes.specs.Result.{ResultOutcome, result_number, result_of, result_outcome};
 ghost use Rattle.run_result.specs.Part.{part_of, rows_of};
 
-use planes::{Layout, PLANES, copy_run};
+use planes::{Layout, copy_run};
 use planes_layout::layout_of;
 use refusals::Refusal;
 use run_outcomes::{check_sets, check_slice};
@@ -34,17 +34,18 @@ fn copy_rows(src: &[f32], from: usize, out: &mut [f32], at: usize, l: Layout)
     }
 }
 
-// Copies the filter region of each plane.
+// Copies the filter region of each of n planes.
 // Form: that a layout fits is asked here, in `copy_rows` and in three functions of other crates; as a fact of each `Layout` it would be asked
 // for the test `planes::layout_fits` too.
-fn copy_planes(src: &[f32], out: &mut [f32], l: Layout)
+fn copy_planes(src: &[f32], out: &mut [f32], l: Layout, n: usize)
     requires layout_fits { LayoutFits l }
-    requires lengths { (length src.now ≡ 3 * l.image.height * l.image.width)
-        × (length out.old ≡ 3 * l.height * l.width) }
+    requires few_planes { n ≤ 3 }
+    requires lengths { (length src.now ≡ n * l.image.height * l.image.width)
+        × (length out.old ≡ n * l.height * l.width) }
     ensures { out.new ≡ planes_fill l.width l.height
-        0 l.width 0 l.height (inner l src.now) out.old 3 }
+        0 l.width 0 l.height (inner l src.now) out.old n }
 {
-    for c in 0..PLANES {
+    for c in 0..n {
         let from = (c * l.image.height + l.top) * l.image.width;
         let at = c * l.height * l.width;
         copy_rows(src, from, out, at, l);
@@ -69,18 +70,18 @@ fn part_of(l: Layout) -> Layout
 }
 
 fn copy_result(s: &Setup, src: &[f32], out: &mut [f32])
-    requires { SetupFits s.now × (length src.now ≡ set_length 3 s.now) × (length out.old ≡ result_length 3 s.now) }
-    ensures { out.new ≡ result_of 3 (layout s.now) src.now }
+    requires { SetupFits s.now × (length src.now ≡ set_length s.now) × (length out.old ≡ result_length s.now) }
+    ensures { out.new ≡ result_of s.now.planes (layout s.now) src.now }
 {
     let l = layout_of(s.image, s.filter, s.full_planes()).unwrap();
     let part = part_of(l);
-    copy_planes(src, out, part)
+    copy_planes(src, out, part, s.planes as usize)
 }
 
 // Refuses a result call: for the sets, the slice, then the record.
 // Form: here and in `result` record and sets are what C hands; a band takes them too, but with sigmas, so a struct would serve one of the two.
 fn check(run: &Run, first: &[f32], second: &[f32], out: &[f32]) -> Result<(), Refusal>
-    ensures { number_of result ≡ result_number 3 run.now first.now second.now out.now }
+    ensures { number_of result ≡ result_number run.now first.now second.now out.now }
 {
     check_sets(&run.setup, first, second)?;
     check_slice(&run.setup, out)?;
@@ -92,7 +93,7 @@ fn check(run: &Run, first: &[f32], second: &[f32], out: &[f32]) -> Result<(), Re
 // Form: record and sets apart, as in `check`.
 pub fn result(run: &Run, first: &[f32], second: &[f32], out: &mut [f32]) -> Result<(), Refusal>
     ensures { ◌≡◌ {A = ResultOutcome} (record { number = number_of result; out = out.new })
-        (result_outcome 3 run.now first.now second.now out.old) }
+        (result_outcome run.now first.now second.now out.old) }
 {
     check(run, first, second, out)?;
     if run.reads_first() {

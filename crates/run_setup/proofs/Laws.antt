@@ -16,6 +16,7 @@ use Rattle.region_placement.specs.Placed.{placed_checks}
 use Rattle.region_placement.proofs.PlacedLaws.{placed-inside}
 use Rattle.planes_layout.proofs.Fits.{Accepted, layout-accepted}
 use Rattle.region_placement.specs.Blocks.{on_blocks}
+use Rattle.planes.specs.Band.{planes_fit}
 use Rattle.run_passes.specs.Plan.{gabor_fits}
 use Rattle.run_setup.specs.declared.Setup.{Setup}
 use Rattle.refusals.proofs.Tables.{is_true}
@@ -39,7 +40,9 @@ setup-fits s t =
     let bands = height_fits s && count_fits s in
     let p = and_l (pictures && placed) (numbers_fit s) t in
     let q = and_r (pictures && placed) (numbers_fit s) t in
-    let flags = and_r (iters_fit s) (full_fits s && (gabor && bands)) q in
+    let few = planes_fit s.planes in
+    let counts = and_r (iters_fit s) (few && (full_fits s && (gabor && bands))) q in
+    let flags = and_r few (full_fits s && (gabor && bands)) counts in
     let u = and_r gabor bands (and_r (full_fits s) (gabor && bands) flags) in
     let h = and_l (height_fits s) (count_fits s) u in
     record {
@@ -47,7 +50,8 @@ setup-fits s t =
       filter = and_r (picture_fits s.image) (picture_fits s.filter) (and_l pictures placed p);
       contained = and_l (inside s.image s.filter) (blocks_fit s) (and_r pictures placed p);
       blocks = blocks-are (epf_on s) (on_blocks s.filter) (and_r (inside s.image s.filter) (blocks_fit s) (and_r pictures placed p));
-      iterations = leb→le s.settings.epf.iters 3 (and_l (iters_fit s) (full_fits s && (gabor && bands)) q);
+      iterations = leb→le s.settings.epf.iters 3 (and_l (iters_fit s) (few && (full_fits s && (gabor && bands))) q);
+      planes = and_l few (full_fits s && (gabor && bands)) counts;
       full = and_l (full_fits s) (gabor && bands) flags;
       gabor = and_l gabor bands (and_r (full_fits s) (gabor && bands) flags);
       height-least = leb→le 1 s.band_height (and_l (leb 1 s.band_height) (leb s.band_height 16384) h);
@@ -64,11 +68,12 @@ fits-setup s f =
     (and_i (picture_fits s.image && picture_fits s.filter) (inside s.image s.filter && blocks_fit s)
     (and_i (picture_fits s.image) (picture_fits s.filter) f.image f.filter)
     (and_i (inside s.image s.filter) (blocks_fit s) f.contained (are-blocks (epf_on s) (on_blocks s.filter) f.blocks)))
-    (and_i (iters_fit s) (full_fits s && (gabor && bands)) (le→leb s.settings.epf.iters 3 f.iterations)
+    (and_i (iters_fit s) (planes_fit s.planes && (full_fits s && (gabor && bands))) (le→leb s.settings.epf.iters 3 f.iterations)
+    (and_i (planes_fit s.planes) (full_fits s && (gabor && bands)) f.planes
     (and_i (full_fits s) (gabor && bands) f.full (and_i gabor bands f.gabor
     (and_i (height_fits s) (count_fits s)
     (and_i (leb 1 s.band_height) (leb s.band_height 16384) (le→leb 1 s.band_height f.height-least) (le→leb s.band_height 16384 f.height-most))
-    (le→leb (band_count s) max_bands f.count)))))
+    (le→leb (band_count s) max_bands f.count))))))
 
 -- sides and area of a picture's region
 pub picture-size : (r : Region) → T (picture_fits r) → size_fits r ≡ true

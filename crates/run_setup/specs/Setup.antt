@@ -1,16 +1,16 @@
 -- The setup of a run: which values are in range, and what follows from them (Specification 12.1, 12.4, 12.8). Definitions only.
-use Rattle.std.specs.Prelude.{Bool, true, cond, ◌&&◌, List, ℕ, ◌+◌, ◌-◌, ◌*◌, ◌/◌, min, leb, ltb, Float}
+use Rattle.std.specs.Prelude.{Bool, true, cond, ◌&&◌, List, ℕ, ◌+◌, ◌-◌, ◌*◌, ◌/◌, min, leb, ltb, length, Float}
 use Rattle.refusals.specs.Flags.{flag_fits, flag_set}
 use Rattle.region.specs.declared.Region.{Region}
 use Rattle.region.specs.Regions.{inside}
 use Rattle.region.specs.Measures.{area_fits, picture_fits}
 use Rattle.planes.specs.declared.Layout.{Layout}
-use Rattle.planes.specs.Band.{result_height}
+use Rattle.planes.specs.Band.{planes_fit, result_height}
 use Rattle.planes_layout.specs.Outcome.{layout_of}
 use Rattle.epf_tiles.specs.Blocks.{block_columns, sigma_of, block_rows}
 use Rattle.region_placement.specs.Blocks.{clamp_to_zero, on_blocks}
-use Rattle.run_passes.specs.Pass.{Area}
-use Rattle.run_passes.specs.Plan.{gabor_fits, iterations_fit}
+use Rattle.run_passes.specs.Pass.{Area, Pass}
+use Rattle.run_passes.specs.Plan.{gabor_fits, iterations_fit, plan}
 use Rattle.run_setup.specs.declared.Setup.{Setup}
 
 -- the largest number of bands of a pass (Specification 4.1), and the number of flags of a record
@@ -28,6 +28,13 @@ layout s = layout_of s.image s.filter (full_planes s)
 -- the EPF is on: only the iterations decide
 abbrev pub epf_on : Setup → Bool
 epf_on s = ltb 0 s.settings.epf.iters
+
+-- the passes over the planes of the setup, and their number
+abbrev pub passes_of : Setup → List Pass
+passes_of s = plan s.planes s.settings
+
+abbrev pub pass_count : Setup → ℕ
+pass_count s = length (passes_of s)
 
 -- the filter region with its block sigmas, row of blocks by row of blocks
 abbrev pub area : Setup → List Float → Area
@@ -70,18 +77,18 @@ height_fits s = leb 1 s.band_height && leb s.band_height 16384
 abbrev pub count_fits : Setup → Bool
 count_fits s = leb (band_count s) max_bands
 
--- the iterations, both flags, the band height and the number of bands are in range
+-- the iterations, the number of planes, both flags, the band height and the number of bands are in range
 unfoldable pub numbers_fit : Setup → Bool
-numbers_fit s = iters_fit s && (full_fits s && (gabor_fits s.settings && (height_fits s && count_fits s)))
+numbers_fit s = iters_fit s && (planes_fit s.planes && (full_fits s && (gabor_fits s.settings && (height_fits s && count_fits s))))
 
 unfoldable pub setup_fits : Setup → Bool
 setup_fits s = ((picture_fits s.image && picture_fits s.filter) && (inside s.image s.filter && blocks_fit s)) && numbers_fit s
 
--- ---- lengths of the slices, for n planes
+-- ---- lengths of the slices
 
--- a set: the image region's samples
-abbrev pub set_length : ℕ → Setup → ℕ
-set_length n s = n * s.image.height * s.image.width
+-- a set: the image region's samples, plane by plane
+abbrev pub set_length : Setup → ℕ
+set_length s = s.planes * s.image.height * s.image.width
 
 -- one sigma per block of the filter region, none if the EPF is off
 abbrev pub sigma_length : Setup → ℕ
@@ -91,5 +98,5 @@ sigma_length s = cond (epf_on s) (block_rows (layout s) * block_columns (layout 
 abbrev pub result_region : Setup → Region
 result_region s = cond (full_planes s) s.image s.filter
 
-abbrev pub result_length : ℕ → Setup → ℕ
-result_length n s = n * (result_region s).height * (result_region s).width
+abbrev pub result_length : Setup → ℕ
+result_length s = s.planes * (result_region s).height * (result_region s).width

@@ -3,6 +3,7 @@ use Rattle.std.specs.Prelude.{◌≤◌, T}
 use Rattle.region.specs.Regions.{inside}
 use Rattle.region.specs.Measures.{picture_fits}
 use Rattle.region_placement.specs.Blocks.{on_blocks}
+use Rattle.planes.specs.Band.{planes_fit}
 use Rattle.run_passes.specs.Plan.{gabor_fits}
 use Rattle.run_setup.specs.declared.Setup.{Setup}
 use Rattle.run_setup.specs.Setup.{max_bands, full_fits, epf_on, band_count}
@@ -14,6 +15,7 @@ pub record SetupFits (s : Setup) : Type 0 where
   pub contained : T (inside s.image s.filter)
   pub blocks : T (epf_on s) → T (on_blocks s.filter)
   pub iterations : s.settings.epf.iters ≤ 3
+  pub planes : T (planes_fit s.planes)
   pub full : T (full_fits s)
   pub gabor : T (gabor_fits s.settings)
   pub height-least : 1 ≤ s.band_height

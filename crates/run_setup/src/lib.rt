@@ -1,12 +1,13 @@
-// The setup of a run: which values are in range, and the rows and bands of the result region.
+// The setup of a run: which values are in range, its passes, and the rows and bands of the result region.
 #![tactic(auto)]
 
 ghost use Rattle.std.specs.Prelude.{◌≡◌};
 ghost use Rattle.run_setup.specs.Makers.{no_setup};
-ghost use Rattle.run_setup.specs.Setup.{full_planes, row_count, size_fits, band_count, blocks_fit, height_fits};
+ghost use Rattle.run_setup.specs.Setup.{pass_count, full_planes, row_count, size_fits, band_count, blocks_fit, height_fits};
 ghost use Rattle.run_setup.specs.Setup.{numbers_fit, result_region, setup_fits};
 
 use limits::{MAX_AREA_U32, MAX_SIDE_U32};
+use planes::planes_fit;
 use refusals::{flag_fits, flag_set};
 use region::Region;
 use region_placement::{on_blocks, placed};
@@ -15,14 +16,15 @@ use run_passes::Settings;
 // The largest number of bands of a pass (Specification 4.1).
 pub const MAX_BANDS: usize = 256;
 
-// The setup of a run; no call changes it. `preserve_outside` is a flag: the result region is the image region if it
-// is 1, the filter region if it is 0. `band_height` is the number of rows of the result region in a band; the last
-// band may have fewer.
+// The setup of a run; no call changes it. `planes` is the number of planes of each set, 1 or 3. `preserve_outside` is
+// a flag: the result region is the image region if it is 1, the filter region if it is 0. `band_height` is the number
+// of rows of the result region in a band; the last band may have fewer.
 #[repr(C)]
 #[derive(Clone, Copy)]
 pub struct Setup {
     pub image: Region,
     pub filter: Region,
+    pub planes: u32,
     pub preserve_outside: u32,
     pub settings: Settings,
     pub band_height: u32,
@@ -58,6 +60,13 @@ impl Setup {
         self.filter
     }
 
+    // The number of passes.
+    pub fn pass_count(&self) -> u32
+        ensures { result ≡ pass_count self.now }
+    {
+        self.settings.pass_count()
+    }
+
     // The number of rows of the result region.
     #[tactic(auto, unfolding(planes_layout::specs::Outcome::layout_of))]
     pub fn row_count(&self) -> u32
@@ -89,13 +98,14 @@ impl Setup {
         1 <= self.band_height && self.band_height <= MAX_SIDE_U32
     }
 
-    // Whether the iterations, both flags, the band height and the number of bands are in range.
-    // Form: the flags are C's numbers, as in `full_planes`, and only a table of checks asks whether they are in range.
+    // Whether the iterations, the number of planes, both flags, the band height and the number of bands are in range.
+    // Form: these are C's numbers, as in `full_planes`, and only a table of checks asks whether they are in range.
     #[tactic(auto, unfolding(crate::specs::Setup::numbers_fit))]
     pub fn numbers_fit(&self) -> bool
         ensures { result ≡ numbers_fit self.now }
     {
         self.settings.iterations_fit()
+            && planes_fit(self.planes)
             && flag_fits(self.preserve_outside)
             && flag_fits(self.settings.gabor.enabled)
             && self.height_fits()
@@ -119,6 +129,7 @@ impl Default for Setup {
         Setup {
             image: Region::default(),
             filter: Region::default(),
+            planes: 0,
             preserve_outside: 0,
             settings: Settings::default(),
             band_height: 0,

@@ -97,7 +97,7 @@ left_is number set iters on defined lent p y q = rw (p, y, q)
 
 -- ---- the rows of start's table that each part checks
 
-module _ (n : ℕ) (h : Handed) where
+module _ (h : Handed) where
   abbrev s : Setup
   s = h.setup
 
@@ -110,7 +110,7 @@ module _ (n : ℕ) (h : Handed) where
   abbrev own_rows : List Check
   own_rows =
       filter_on_blocks s
-      ∷ set_lengths n h
+      ∷ set_lengths h
       ∷ settings_checks s
 
   abbrev group_rows : List Check
@@ -132,19 +132,19 @@ module _ (n : ℕ) (h : Handed) where
       ∷ filter_inside s
       ∷ own_rows
 
-  whole : Parted (picture_checks n h) placed_rows group_rows
+  whole : Parted (picture_checks h) placed_rows group_rows
   unfolding picture_checks
   whole = search (none, left, right) depth 30
 
   placed-own : Parted placed_rows (placed_checks s.image s.filter) own_rows
   placed-own = search (none, left, right) depth 30
 
-  rows-lowest : first_of (picture_checks n h) ≡ lowest (lowest (first_of (placed_checks s.image s.filter)) (first_of own_rows)) (first_of group_rows)
+  rows-lowest : first_of (picture_checks h) ≡ lowest (lowest (first_of (placed_checks s.image s.filter)) (first_of own_rows)) (first_of group_rows)
   unfolding picture_checks
   rows-lowest = first-lowest whole refl ∙ ap (λ (k : ℕ). lowest k (first_of group_rows)) (first-lowest placed-own refl)
 
   -- if the regions are within the limits, the parts check these rows
-  setup-number : picture_fits s.image ≡ true → first_of own_rows ≡ first_of (setup_checks n s (length h.first) (length h.second))
+  setup-number : picture_fits s.image ≡ true → first_of own_rows ≡ first_of (setup_checks s (length h.first) (length h.second))
   setup-number e = rw (is-size s.image e)
 
   abbrev groups_number : ℕ → ℕ
@@ -157,16 +157,16 @@ module _ (n : ℕ) (h : Handed) where
   -- ---- the number of the table is the lowest of the parts'
 
   abbrev number : ℕ
-  number = number_of n s f t h.grids (length h.first) (length h.second) (length h.sigmas)
+  number = number_of s f t h.grids (length h.first) (length h.second) (length h.sigmas)
 
-  picture-same : first_of (picture_checks n h) ≡ number
+  picture-same : first_of (picture_checks h) ≡ number
   unfolding number_of picture_checks
   picture-same = go (picture_fits s.image && picture_fits s.filter) refl
     where
-      go : (p : Bool) → (picture_fits s.image && picture_fits s.filter) ≡ p → first_of (picture_checks n h) ≡ number
+      go : (p : Bool) → (picture_fits s.image && picture_fits s.filter) ≡ p → first_of (picture_checks h) ≡ number
       go true e = rows-lowest ∙ rw (setup-number (and_first (picture_fits s.image) (picture_fits s.filter) e), groups-number (and_second (picture_fits s.image) (picture_fits s.filter) e))
       go false e =
-          let own = setup_checks n s (length h.first) (length h.second) in
+          let own = setup_checks s (length h.first) (length h.second) in
           let groups = sigma_checks (epf_flag s) f (blocks_of s) t h.grids (sigmas_asked s (length h.sigmas)) in
           rw (
             e,
@@ -177,26 +177,26 @@ module _ (n : ℕ) (h : Handed) where
   -- ---- start's number, and its outcome
 
   -- there are no further checks
-  number_same : start_number n h ≡ number
-  number_same = start-parts n h ∙ or-zero (first_of (picture_checks n h)) ∙ picture-same
+  number_same : start_number h ≡ number
+  number_same = start-parts h ∙ or-zero (first_of (picture_checks h)) ∙ picture-same
 
   module _ (k : ℕ) (e : k ≡ number) where
-    number_is : start_number n h ≡ k
+    number_is : start_number h ≡ k
     number_is = number_same ∙ sym e
 
     pub refused : (k ≡ 0 → ⊥)
-        → ◌≡◌ {A = StartOutcome} (record { answer = record { number = k; run = no_run }; first = h.first; sigmas = h.sigmas }) (start_outcome n h)
+        → ◌≡◌ {A = StartOutcome} (record { answer = record { number = k; run = no_run }; first = h.first; sigmas = h.sigmas }) (start_outcome h)
     unfolding start_outcome
     refused z = rw (number_is, ne_eqb k 0 z)
 
     module _ (z : k ≡ 0) where
       -- every part's number is 0
-      pieces : (first_of (setup_checks n s (length h.first) (length h.second)) ≡ 0) × (groups_number (sigmas_asked s (length h.sigmas)) ≡ 0)
+      pieces : (first_of (setup_checks s (length h.first) (length h.second)) ≡ 0) × (groups_number (sigmas_asked s (length h.sigmas)) ≡ 0)
       unfolding number_of
       pieces = let b = lowest-none _ _ (sym e ∙ z) in ((lowest-none _ _ b.0).1, b.1)
 
       iters : iters_fit s ≡ true
-      iters = not-false (iters_fit s) (row-passed (setup_checks n s (length h.first) (length h.second)) tt pieces.0 (iters_in_range s) (search (here, below) depth 20))
+      iters = not-false (iters_fit s) (row-passed (setup_checks s (length h.first) (length h.second)) tt pieces.0 (iters_in_range s) (search (here, below) depth 20))
 
       sigmas-fit : groups_number (length h.sigmas) ≡ 0
       sigmas-fit = let a : length h.sigmas ≡ sigmas_asked s (length h.sigmas) = rw iters in ap groups_number a ∙ pieces.1
@@ -207,7 +207,7 @@ module _ (n : ℕ) (h : Handed) where
         pub sigmas-accepted : m ≡ 0
         sigmas-accepted = ap (λ (o : SigmasOutcome). o.number) o ∙ sigmas-fit
 
-        pub accepted : ◌≡◌ {A = StartOutcome} (record { answer = record { number = 0; run = started s }; first = h.first; sigmas = filled }) (start_outcome n h)
+        pub accepted : ◌≡◌ {A = StartOutcome} (record { answer = record { number = 0; run = started s }; first = h.first; sigmas = filled }) (start_outcome h)
         unfolding start_outcome start_leaves sigmas_filled
         accepted =
             let l = ap (λ (o : SigmasOutcome). o.sigmas) o ∙ left_is _ (flag_set (epf_flag s)) (iters_fit s) (epf_on s) _ _ sigmas-fit (flag-set (runs_epf s)) iters in

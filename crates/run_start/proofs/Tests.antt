@@ -13,16 +13,17 @@ use Rattle.run_outcomes.specs.declared.RunAnswer.{RunAnswer}
 use Rattle.run_outcomes.specs.Start.{Handed, blocks_of, no_run, run_answer}
 use Rattle.run_start.specs.Pieces.{epf_flag}
 
--- the last five rows, of the setup's settings, as one test
-pub settings-row : (iters full gabor height count : Bool)
-    → cond (not (iters && (full && (gabor && (height && count))))) out_of_range 0
-    ≡ cond (not iters) out_of_range (cond (not full) out_of_range (cond (not gabor) out_of_range (cond (not height) out_of_range (cond ((full && height) && not count) out_of_range 0))))
-settings-row true true true true true = refl
-settings-row true true true true false = refl
-settings-row true true true false count = refl
-settings-row true true false height count = refl
-settings-row true false gabor height count = refl
-settings-row false full gabor height count = refl
+-- the last six rows, of the setup's settings, as one test
+pub settings-row : (iters planes full gabor height count : Bool)
+    → cond (not (iters && (planes && (full && (gabor && (height && count)))))) out_of_range 0
+    ≡ cond (not iters) out_of_range (cond (not planes) out_of_range (cond (not full) out_of_range (cond (not gabor) out_of_range (cond (not height) out_of_range (cond ((full && height) && not count) out_of_range 0)))))
+settings-row true true true true true true = refl
+settings-row true true true true true false = refl
+settings-row true true true true false count = refl
+settings-row true true true false height count = refl
+settings-row true true false gabor height count = refl
+settings-row true false full gabor height count = refl
+settings-row false planes full gabor height count = refl
 
 -- equal inputs give equal block sigmas
 pub same-sigmas : (h : Handed) (a : ℕ) (b : Blocks) → a ≡ epf_flag h.setup → b ≡ blocks_of h.setup

@@ -88,7 +88,7 @@ fn check_placed(s: &Setup) -> Result<(), Refusal>
 
 // Refuses a setup that is not in range by itself, and sets of the wrong length.
 fn check_setup(s: &Setup, first: &[f32], second: &[f32]) -> Result<(), Refusal>
-    ensures { number_of result ≡ first_of (setup_checks 3 s.now (length first.now) (length second.now)) }
+    ensures { number_of result ≡ first_of (setup_checks s.now (length first.now) (length second.now)) }
 {
     if off_blocks(s) {
         return Err(Refusal::NotOnBlocks);
@@ -128,7 +128,7 @@ fn check_picture(
     second: &[f32],
     sigmas: &[f32],
 ) -> Result<(), Refusal>
-    ensures { number_of result ≡ picture_number 3 s.now frame table.now grids.now
+    ensures { number_of result ≡ picture_number s.now frame table.now grids.now
         (length first.now) (length second.now) (length sigmas.now) }
 {
     let place = check_placed(s);
@@ -150,7 +150,7 @@ pub fn start(
 ) -> Result<Run, Refusal>
     ensures { ◌≡◌ {A = StartOutcome}
         (record { answer = run_answer result; first = first.new; sigmas = sigmas.new })
-        (start_outcome 3 (record {
+        (start_outcome (record {
           setup = setup;
           frame = frame;
           table = table.now;

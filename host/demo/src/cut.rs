@@ -1,6 +1,6 @@
 //! Smoothed rectangles in a cut file.
 
-use restoration::{CutTable, Refusal, Region, accepted};
+use restoration::{CutTable, PLANES, Refusal, Region, accepted};
 
 use crate::{number::grouped, picture::Picture};
 
@@ -48,9 +48,10 @@ pub fn counted(rectangles: usize) -> String {
     format!("{rectangles} rectangle{plural}")
 }
 
-/// Whether a file can hold these rectangles: the library decides, before they are smoothed.
-pub fn check(rectangles: &[Region]) -> Result<(), Refusal> {
-    restoration::cut_length(CutTable::new(rectangles)).value()?;
+/// Whether a file can hold these rectangles of so many planes: the library decides, before they are
+/// smoothed.
+pub fn check(rectangles: &[Region], planes: u32) -> Result<(), Refusal> {
+    restoration::cut_length(CutTable::new(rectangles), planes).value()?;
     Ok(())
 }
 
@@ -58,15 +59,19 @@ fn bytes(rectangles: &[Picture]) -> Result<Vec<u8>, Refusal> {
     let regions: Vec<Region> = rectangles.iter().map(|r| r.region).collect();
     let samples: Vec<f32> = rectangles.iter().flat_map(|r| &r.planes).copied().collect();
     let table = CutTable::new(&regions);
-    let mut file = vec![0; restoration::cut_length(table).value()?];
-    accepted(restoration::write_cut_samples(table, &samples, &mut file))?;
+    // No rectangle at all is refused whatever the number of planes.
+    let planes = rectangles.first().map_or(PLANES, Picture::plane_count);
+    let mut file = vec![0; restoration::cut_length(table, planes).value()?];
+    accepted(restoration::write_cut_samples(
+        table, planes, &samples, &mut file,
+    ))?;
     Ok(file)
 }
 
 fn rectangles_of(file: &[u8]) -> Result<Vec<Picture>, Refusal> {
     let rectangle = |k| {
-        let region = restoration::cut_region(file, k).value()?;
-        let mut planes = vec![0.0; region.sample_count()];
+        let (region, count) = restoration::cut_region(file, k).value()?;
+        let mut planes = vec![0.0; count as usize * region.area()];
         restoration::read_cut_samples(file, k, &mut planes).value()?;
         Ok(Picture { region, planes })
     };
@@ -75,11 +80,11 @@ fn rectangles_of(file: &[u8]) -> Result<Vec<Picture>, Refusal> {
         .collect()
 }
 
-/// How many samples have other bits; all those of a rectangle with another region.
+/// How many samples have other bits; all those of a rectangle with another region or number of planes.
 fn differing(given: &[Picture], back: &[Picture]) -> usize {
     let other = |(a, b): (&f32, &f32)| a.to_bits() != b.to_bits();
     let differ = |(given, back): (&Picture, &Picture)| {
-        if given.region != back.region {
+        if given.region != back.region || given.planes.len() != back.planes.len() {
             return given.planes.len();
         }
         let samples = given.planes.iter().zip(&back.planes);
@@ -151,6 +156,22 @@ mod tests {
         assert!(back[1].planes[0].is_nan());
         assert_eq!(differing(&rectangles(), &back), 1);
         expect(&with(BODIES + 12, 2), 1);
+    }
+
+    /// The first planes alone are a file of one plane, which has its own marker.
+    #[test]
+    fn one_plane() {
+        let grey = rectangles().map(|mut r| {
+            r.planes.truncate(r.region.area());
+            r
+        });
+        let cut = Cut::new(&grey).unwrap();
+        assert_eq!((cut.bytes.len(), cut.agrees()), (BODIES + 4 * 3, true));
+        assert_eq!(cut.bytes[..4], *b"KCU1");
+        assert_eq!(bytes(&rectangles()).unwrap()[..4], *b"KCUT");
+        // Those of the other file are three times as many, and none of them is compared.
+        assert_eq!(differing(&rectangles(), &grey), 9);
+        assert_eq!(differing(&grey, &rectangles()), 3);
     }
 
     /// Elsewhere, or with other sides, as many samples as it has.

@@ -36,7 +36,8 @@ enum Zone {
     Strip,
 }
 
-pub fn picture() -> Picture {
+/// Of three planes, or the first of them as a grey picture.
+pub fn picture(planes: u32) -> Picture {
     let mut noise = Noise(1);
     let plane = |c: usize| {
         let places = (0..HEIGHT).flat_map(|y| (0..WIDTH).map(move |x| (x as f32, y as f32)));
@@ -52,7 +53,7 @@ pub fn picture() -> Picture {
     };
     Picture {
         region: at_corner(WIDTH, HEIGHT),
-        planes: (0..CHANNELS).flat_map(plane).map(sample).collect(),
+        planes: (0..planes as usize).flat_map(plane).map(sample).collect(),
     }
 }
 

@@ -61,7 +61,7 @@ fn run() -> Result<bool, Error> {
     match options::parse(env::args_os().skip(1))? {
         Command::Help => say!("{}", options::HELP.trim_end()),
         Command::Version => say!("demo {}", env!("CARGO_PKG_VERSION")),
-        Command::Show(folder, cut) => return show::show(&folder, cut),
+        Command::Show(picture) => return show::show(picture),
         Command::Smooth(job) => return smooth_file(job),
     }
     Ok(true)
@@ -89,7 +89,7 @@ fn smooth_file(job: Job) -> Result<bool, Error> {
             if let Stream::File(input) = &job.input {
                 store::check_cut(&path, input)?;
             }
-            cut::check(&parts).of(subject)?;
+            cut::check(&parts, picture.plane_count()).of(subject)?;
             let smooth = rectangles::smoothed(&picture, &filters, &parts).of(|| name.clone())?;
             let cut = Cut::new(&smooth).of(subject)?;
             let said = format!("wrote {}: {}", quoted(&path), cut.summary());

@@ -6,7 +6,7 @@ use std::{
     path::PathBuf,
 };
 
-use restoration::{CHANNELS, Region};
+use restoration::{CHANNELS, GREY_PLANES, PLANES, Region};
 
 use crate::{
     error::{Error, quoted},
@@ -23,10 +23,18 @@ const MOST_ITERS: u32 = 3;
 pub enum Command {
     Help,
     Version,
-    /// Smooth the built-in picture and write its files to this folder, and its rectangles to this cut
-    /// file.
-    Show(PathBuf, Option<PathBuf>),
+    Show(BuiltIn),
     Smooth(Job),
+}
+
+/// The built-in picture to smooth.
+pub struct BuiltIn {
+    /// How many planes it has.
+    pub planes: u32,
+    /// Where its files are written.
+    pub folder: PathBuf,
+    /// Where its rectangles are written too.
+    pub cut: Option<PathBuf>,
 }
 
 /// A picture to smooth.
@@ -69,6 +77,7 @@ struct Given {
     cut: Option<OsString>,
     rects: Vec<Rect>,
     filters: Chosen,
+    grey: bool,
 }
 
 pub fn parse(mut words: impl Iterator<Item = OsString>) -> Result<Command, Error> {
@@ -112,11 +121,12 @@ impl Given {
             b"--gabor" => self.filters.gabor = Some(read(name, &value()?, WEIGHTS)?),
             b"--iters" => self.filters.iters = Some(read(name, &value()?, ITERS)?),
             b"--sigma" => self.filters.sigma = Some(read(name, &value()?, SIGMA)?),
-            b"--no-gabor" | b"--help" | b"--version" if attached.is_some() => {
+            b"--no-gabor" | b"--grey" | b"--help" | b"--version" if attached.is_some() => {
                 let what = format!("option {} takes no value", quoted(name));
                 return Err(Error::usage(what));
             }
             b"--no-gabor" => self.filters.gabor = Some(GaborChoice::Off),
+            b"--grey" => self.grey = true,
             _ => return Err(Error::usage(format!("unknown option {}", quoted(name)))),
         }
         Ok(())
@@ -127,6 +137,9 @@ impl Given {
         let Some(picture) = self.picture.take() else {
             return self.show(cut);
         };
+        if self.grey {
+            return Err(Error::usage("--grey is for the built-in picture"));
+        }
         let input = Stream::from(picture);
         let output = match (self.output.map(Stream::from), cut) {
             (Some(_), Some(_)) => {
@@ -163,8 +176,13 @@ impl Given {
                 "-o -: must be a folder if no picture is given",
             )),
             output => {
-                let folder = output.unwrap_or("demo-out".into());
-                Ok(Command::Show(folder.into(), cut))
+                let folder = output.unwrap_or("demo-out".into()).into();
+                let planes = if self.grey { GREY_PLANES } else { PLANES };
+                Ok(Command::Show(BuiltIn {
+                    planes,
+                    folder,
+                    cut,
+                }))
             }
         }
     }

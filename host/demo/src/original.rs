@@ -4,7 +4,9 @@ use restoration::{CHANNELS, EpfSettings, Region};
 
 use crate::{picture::Picture, smooth::Filters};
 
-/// Both filters over a whole picture of one group.
+/// Both filters over a whole picture of one group. The original has three planes: beside the one of a grey
+/// picture there are planes of zeros, which have no part in distances, as their scales are 0. Where its
+/// samples are finite, its plane is then filtered as one alone is.
 pub fn smooth(filters: &Filters, picture: &Picture) -> Picture {
     let region = region(picture.region);
     let place = oracle::Place {
@@ -12,15 +14,19 @@ pub fn smooth(filters: &Filters, picture: &Picture) -> Picture {
         filter: region,
         preserve_outside: true,
     };
-    let plane = picture.planes.len() / CHANNELS;
-    let planes = core::array::from_fn(|c| picture.planes[c * plane..][..plane].to_vec());
+    let count = picture.plane_count() as usize;
+    let mut given = picture.planes.chunks_exact(picture.region.area());
+    let zeros = || vec![0.0; picture.region.area()];
+    let planes = [(); CHANNELS].map(|()| given.next().map_or_else(zeros, <[f32]>::to_vec));
     let grids = [grid(filters)];
-    let edge = (edge(filters.settings.epf), frame(filters), &grids[..]);
+    let mut epf = filters.settings.epf;
+    epf.channel_scale[count..].fill(0.0);
+    let edge = (edge(epf), frame(filters), &grids[..]);
     let weights = filters.settings.gabor.weights;
     let planes = oracle::filters(place, Some(weights), Some(edge), planes);
     Picture {
         region: picture.region,
-        planes: planes.concat(),
+        planes: planes[..count].concat(),
     }
 }
 

@@ -1,7 +1,7 @@
-//! The portable float map: `PF`, sides, a scale whose sign is the byte order, and three samples per
-//! pixel, row after row from the bottom. Errors are texts without the file's name.
+//! The portable float map: `PF` or `Pf`, sides, a scale whose sign is the byte order, and three samples
+//! per pixel or one, row after row from the bottom. Errors are texts without the file's name.
 
-use restoration::{CHANNELS, Region};
+use restoration::{GREY_PLANES, PLANES, Region};
 
 use crate::{
     error::quoted,
@@ -9,7 +9,8 @@ use crate::{
     picture::{Picture, at_corner},
 };
 
-const COLOUR: &[u8] = b"PF";
+/// The first word, by the number of planes.
+const MAGICS: [(u32, &[u8]); 2] = [(PLANES, b"PF"), (GREY_PLANES, b"Pf")];
 const SAMPLE: usize = size_of::<f32>();
 /// Most bytes of a word in the header.
 const LONGEST_WORD: usize = 64;
@@ -19,6 +20,7 @@ const HEADER_ENDS: &str = "ends inside its header";
 /// A file with a parsed header; its samples are neither counted nor reordered.
 pub struct Pfm {
     pub region: Region,
+    planes: u32,
     scale: Scale,
     /// The sides as the file has them.
     pub sides: String,
@@ -61,7 +63,7 @@ impl Scale {
 }
 
 pub fn parse(bytes: Vec<u8>) -> Result<Pfm, String> {
-    let mut rest = magic(&bytes)?;
+    let (planes, mut rest) = magic(&bytes)?;
     let mut side = |name| {
         let text = word(&mut rest)?;
         let wrong = || format!("{name} {} is not a whole number", quoted(text));
@@ -72,6 +74,7 @@ pub fn parse(bytes: Vec<u8>) -> Result<Pfm, String> {
     let wrong = || format!("scale {} is not a finite number other than 0", quoted(text));
     Ok(Pfm {
         region: at_corner(width, height),
+        planes,
         scale: Scale::read(text).ok_or_else(wrong)?,
         sides: format!("{columns} x {rows}"),
         start: bytes.len() - rest.len(),
@@ -79,16 +82,18 @@ pub fn parse(bytes: Vec<u8>) -> Result<Pfm, String> {
     })
 }
 
-/// What follows the first word.
-fn magic(bytes: &[u8]) -> Result<&[u8], String> {
-    if COLOUR.starts_with(bytes) {
-        return Err(HEADER_ENDS.into());
+/// The number of planes, and what follows the first word.
+fn magic(bytes: &[u8]) -> Result<(u32, &[u8]), String> {
+    for (planes, magic) in MAGICS {
+        if magic.starts_with(bytes) {
+            return Err(HEADER_ENDS.into());
+        }
+        match bytes.strip_prefix(magic) {
+            Some(rest) if rest[0].is_ascii_whitespace() => return Ok((planes, rest)),
+            _ => {}
+        }
     }
-    match bytes.strip_prefix(COLOUR) {
-        Some(rest) if rest[0].is_ascii_whitespace() => Ok(rest),
-        _ if bytes.starts_with(b"Pf") => Err("one plane (Pf), must be three (PF)".into()),
-        _ => Err("not a PFM file: does not begin with PF".into()),
-    }
+    Err("not a PFM file: does not begin with PF or Pf".into())
 }
 
 /// The next word of the header; the byte after it is consumed too.
@@ -113,14 +118,15 @@ impl Pfm {
     pub fn picture(self) -> Result<(Picture, Scale), String> {
         let (samples, left_over) = self.bytes[self.start..].as_chunks();
         self.check_length(samples.len(), left_over.len())?;
-        let row = CHANNELS * self.region.width as usize;
+        let count = self.planes as usize;
+        let row = count * self.region.width as usize;
         let plane = |c| {
             let rows = samples.chunks_exact(row).rev();
-            rows.flat_map(move |row| row.iter().skip(c).step_by(CHANNELS))
+            rows.flat_map(move |row| row.iter().skip(c).step_by(count))
         };
         let mut planes = Vec::with_capacity(samples.len());
         let sample = |&bytes| self.scale.sample(bytes);
-        planes.extend((0..CHANNELS).flat_map(plane).map(sample));
+        planes.extend((0..count).flat_map(plane).map(sample));
         let picture = Picture {
             region: self.region,
             planes,
@@ -129,7 +135,7 @@ impl Pfm {
     }
 
     fn check_length(&self, samples: usize, left_over: usize) -> Result<(), String> {
-        let (expected, sides) = (self.region.sample_count(), &self.sides);
+        let (expected, sides) = (self.region.samples_in(self.planes), &self.sides);
         if samples < expected {
             return Err(format!(
                 "has {samples} of the {expected} samples of {sides}"
@@ -145,10 +151,16 @@ impl Pfm {
 /// The file of a picture.
 pub fn bytes(picture: &Picture, scale: &Scale) -> Vec<u8> {
     let Region { width, height, .. } = picture.region;
-    let header = format!("PF\n{width} {height}\n{}\n", scale.text);
-    let mut file = Vec::with_capacity(header.len() + SAMPLE * picture.planes.len());
+    let header = format!("\n{width} {height}\n{}\n", scale.text);
+    let magic = MAGICS
+        .iter()
+        .find(|(planes, _)| *planes == picture.plane_count());
+    let (_, magic) = magic.expect("one plane or three");
+    let length = magic.len() + header.len() + SAMPLE * picture.planes.len();
+    let mut file = Vec::with_capacity(length);
+    file.extend_from_slice(magic);
     file.extend(header.bytes());
     let from_bottom = (0..height).rev().flat_map(|y| picture.row(y));
-    file.extend(from_bottom.flatten().flat_map(|sample| scale.bytes(sample)));
+    file.extend(from_bottom.flat_map(|sample| scale.bytes(sample)));
     file
 }

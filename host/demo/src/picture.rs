@@ -1,4 +1,4 @@
-//! Three planes and their region.
+//! Planes and their region: three, or the one of a grey picture.
 
 use restoration::{CHANNELS, Region};
 
@@ -10,6 +10,11 @@ pub struct Picture {
 }
 
 impl Picture {
+    /// How many planes it has.
+    pub fn plane_count(&self) -> u32 {
+        (self.planes.len() / self.region.area()) as u32
+    }
+
     /// The part in a region inside this one, without a copy if it is all of it.
     pub fn into_part(self, part: Region) -> Self {
         if part == self.region {
@@ -45,21 +50,24 @@ impl Picture {
         let left = part.left.abs_diff(self.region.left) as usize;
         let top = part.top.abs_diff(self.region.top) as usize;
         let [columns, rows] = [part.width, part.height].map(|side| side as usize);
-        (0..CHANNELS)
+        (0..self.plane_count() as usize)
             .flat_map(move |c| (0..rows).map(move |row| (c * height + top + row) * width + left))
             .map(move |start| start..start + columns)
     }
 
-    /// The samples of each pixel, one per plane.
+    /// The samples of each pixel, one per channel: in a grey picture they are equal.
     pub fn pixels(&self) -> impl Iterator<Item = [f32; CHANNELS]> {
-        (0..self.region.height).flat_map(|y| self.row(y))
+        let (area, count) = (self.region.area(), self.plane_count() as usize);
+        let sample = move |c: usize, at: usize| self.planes[c % count * area + at];
+        (0..area).map(move |at| core::array::from_fn(|c| sample(c, at)))
     }
 
-    /// Those of a row, counted from the top.
-    pub fn row(&self, y: u32) -> impl Iterator<Item = [f32; CHANNELS]> {
-        let (plane, width) = (self.planes.len() / CHANNELS, self.region.width as usize);
+    /// The samples of a row, counted from the top, pixel by pixel.
+    pub fn row(&self, y: u32) -> impl Iterator<Item = f32> {
+        let (area, width) = (self.region.area(), self.region.width as usize);
         let row = y as usize * width..(y as usize + 1) * width;
-        row.map(move |at| core::array::from_fn(|c| self.planes[c * plane + at]))
+        let planes = 0..self.plane_count() as usize;
+        row.flat_map(move |at| planes.clone().map(move |c| self.planes[c * area + at]))
     }
 }
 
@@ -82,4 +90,49 @@ fn agree(a: f32, b: f32) -> bool {
 pub fn differing(a: &[f32], b: &[f32]) -> usize {
     assert_eq!(a.len(), b.len());
     a.iter().zip(b).filter(|(a, b)| !agree(**a, **b)).count()
+}
+
+#[cfg(test)]
+mod tests {
+    use super::*;
+
+    /// Two columns and two rows; each plane's samples have its own hundreds.
+    fn picture(planes: u8) -> Picture {
+        let plane = |c: u8| (0..4).map(move |at| f32::from(c) * 100.0 + at as f32);
+        Picture {
+            region: at_corner(2, 2),
+            planes: (0..planes).flat_map(plane).collect(),
+        }
+    }
+
+    #[test]
+    fn rows_and_pixels_of_three_planes_and_of_one() {
+        let (three, grey) = (picture(3), picture(1));
+        assert_eq!((three.plane_count(), grey.plane_count()), (3, 1));
+        assert!(three.row(1).eq([2.0, 102.0, 202.0, 3.0, 103.0, 203.0]));
+        assert!(grey.row(1).eq([2.0, 3.0]));
+        assert_eq!(three.pixels().nth(2), Some([2.0, 102.0, 202.0]));
+        assert_eq!(grey.pixels().nth(2), Some([2.0; 3]));
+        assert_eq!((three.pixels().count(), grey.pixels().count()), (4, 4));
+    }
+
+    #[test]
+    fn parts_have_as_many_planes() {
+        let part = Region {
+            left: 1,
+            ..at_corner(1, 2)
+        };
+        for planes in [3, 1] {
+            let mut whole = picture(planes);
+            let mut cut = whole.cut(part);
+            assert_eq!(cut.plane_count(), planes.into());
+            assert_eq!(cut.planes[..2], [1.0, 3.0]);
+            cut.planes.fill(-1.0);
+            whole.lay(&cut);
+            let laid = [0.0, -1.0, 2.0, -1.0];
+            let expected = (0..planes)
+                .flat_map(|c| laid.map(|x| if x < 0.0 { x } else { f32::from(c) * 100.0 + x }));
+            assert!(whole.planes.iter().copied().eq(expected));
+        }
+    }
 }

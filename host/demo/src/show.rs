@@ -1,19 +1,15 @@
 //! The built-in picture, smoothed whole and in rectangles laid edge to edge.
 
-use std::{
-    hint::black_box,
-    path::{Path, PathBuf},
-    time::Instant,
-};
+use std::{hint::black_box, time::Instant};
 
-use restoration::{CHANNELS, Refusal, Region};
+use restoration::{CHANNELS, GREY_PLANES, Refusal, Region};
 
 use crate::{
     cut::Cut,
     engraving,
     error::{Error, Of, quoted},
     number::grouped,
-    options::Chosen,
+    options::{BuiltIn, Chosen},
     picture::{Picture, differing},
     png,
     rectangles::{SIDES, lay, rectangles, smoothed},
@@ -34,13 +30,18 @@ const NAMES: [&str; 3] = ["before.png", "after.png", "seams.png"];
 type Files = Vec<(&'static str, Vec<u8>)>;
 
 /// Whether all compared samples agree. Nothing is printed before all files are written.
-pub fn show(folder: &Path, cut: Option<PathBuf>) -> Result<bool, Error> {
+pub fn show(picture: BuiltIn) -> Result<bool, Error> {
+    let BuiltIn {
+        planes,
+        folder,
+        cut,
+    } = picture;
     if let Some(cut) = &cut {
         NAMES
             .iter()
             .try_for_each(|name| store::check_cut(cut, &folder.join(name)))?;
     }
-    let mut shown = Shown::new();
+    let mut shown = Shown::new(planes);
     let (mut agree, files) = shown.files().of(|| "built-in picture".into())?;
     let mut others = Vec::new();
     if let Some(path) = cut {
@@ -49,11 +50,11 @@ pub fn show(folder: &Path, cut: Option<PathBuf>) -> Result<bool, Error> {
         shown.say(format!("cut file    {}: {}", quoted(&path), file.summary()));
         others.push((path, file.bytes));
     }
-    store::all_in(folder, files, others)?;
+    store::all_in(&folder, files, others)?;
     shown.say(format!(
         "written     {} (wrong samples in red) in {}",
         NAMES.join(", "),
-        quoted(folder)
+        quoted(&folder)
     ));
     say!("{}", shown.lines.join("\n"));
     Ok(agree)
@@ -67,8 +68,8 @@ struct Shown {
 }
 
 impl Shown {
-    fn new() -> Self {
-        let picture = engraving::picture();
+    fn new(planes: u32) -> Self {
+        let picture = engraving::picture(planes);
         let (width, height, grids) = engraving::sigmas();
         let filters = Filters {
             settings: smooth::settings(&Chosen::default()),
@@ -81,6 +82,10 @@ impl Shown {
             filters,
             lines: Vec::new(),
         }
+    }
+
+    fn is_grey(&self) -> bool {
+        self.picture.plane_count() == GREY_PLANES
     }
 
     fn say(&mut self, line: String) {
@@ -108,8 +113,13 @@ impl Shown {
         let least = sigmas.clone().fold(f32::INFINITY, f32::min);
         let most = sigmas.fold(0.0, f32::max);
         let margin = self.filters.margin()?;
+        let planes = if self.is_grey() {
+            "one plane"
+        } else {
+            "three planes"
+        };
         self.lines.extend([
-            format!("picture     {width} x {height}, three planes: noisy sky, hatching, lettering"),
+            format!("picture     {width} x {height}, {planes}: noisy sky, hatching, lettering"),
             format!("settings    Gabor-like filter: weights {side} and {corner}"),
             format!("            edge-preserving filter: {iters} iterations, sigma {least} to {most} by block"),
             format!("            margin: {margin} samples"),
@@ -154,8 +164,13 @@ impl Shown {
     #[cfg(feature = "original")]
     fn by_original(&mut self, whole: &Picture) -> bool {
         let (given, time) = timed(|| crate::original::smooth(&self.filters, &self.picture));
+        let beside = if self.is_grey() {
+            " beside two planes of zeros"
+        } else {
+            ""
+        };
         self.say(format!(
-            "original    {time:.1} ms for the whole picture (jxl-oxide)"
+            "original    {time:.1} ms for the whole picture{beside} (jxl-oxide)"
         ));
         self.compare("", "original", &given, whole)
     }

@@ -1,7 +1,7 @@
 //! Whole pictures and rectangles smoothed by the proved library.
 
 use restoration::{
-    Frame, Loupe, LoupeSetup, MAX_SAMPLES, Refusal, Region, Settings, Setup, Smoothing,
+    Frame, GREY_PLANES, Loupe, LoupeSetup, MAX_AREA, Refusal, Region, Settings, Setup, Smoothing,
 };
 
 use crate::{
@@ -47,7 +47,10 @@ impl Filters {
     /// All passes over a picture or a part of it by itself, with a progress bar if they take long.
     pub fn smooth(&self, picture: Picture) -> Result<Picture, Refusal> {
         let mut bar = Bar::on_stderr();
-        let setup = setup(picture.region, picture.region, self.settings);
+        let setup = Setup {
+            planes: picture.plane_count(),
+            ..setup(picture.region, picture.region, self.settings)
+        };
         let (table, grids) = (&self.table, &self.grids);
         let smoothing = Smoothing::start(setup, self.frame, table, grids, picture.planes)?;
         Ok(Picture {
@@ -58,25 +61,28 @@ impl Filters {
 
     /// A part of a picture, smoothed with what it needs around it.
     pub fn part(&self, picture: &Picture, part: Region) -> Result<Picture, Refusal> {
-        self.by_loupe(picture.region, part, |widened| picture.cut(widened).planes)
+        let planes = |widened| picture.cut(widened).planes;
+        self.by_loupe(picture.region, picture.plane_count(), part, planes)
     }
 
     /// The same for the last part of a picture. The whole picture is freed as soon as the planes that the
     /// part needs are copied from it, so that it takes no memory while the passes run.
     pub fn last_part(&self, picture: Picture, part: Region) -> Result<Picture, Refusal> {
-        self.by_loupe(picture.region, part, |widened| {
-            picture.into_part(widened).planes
-        })
+        let (whole, count) = (picture.region, picture.plane_count());
+        let planes = |widened| picture.into_part(widened).planes;
+        self.by_loupe(whole, count, part, planes)
     }
 
     fn by_loupe(
         &self,
         whole: Region,
+        count: u32,
         part: Region,
         planes: impl FnOnce(Region) -> Vec<f32>,
     ) -> Result<Picture, Refusal> {
         let loupe = Loupe {
             whole,
+            planes: count,
             settings: self.settings,
             frame: self.frame,
             table: &self.table,
@@ -93,6 +99,7 @@ impl Filters {
         let setup = LoupeSetup {
             whole: picture.region,
             wanted: part,
+            planes: picture.plane_count(),
             settings: self.settings,
         };
         let mut given = restoration::loupe_widened(setup).value()?;
@@ -129,13 +136,16 @@ fn header(bits: u8) -> Settings {
     filter.into()
 }
 
-/// Whether a picture's sides are in range and a part lies inside it: `start` decides. It reads only
-/// the lengths of its planes, so their memory is never touched.
+/// Whether a picture's sides are in range and a part lies inside it: `start` decides, of one plane
+/// whatever the picture has. It reads only the plane's length, so its memory is never touched.
 pub fn check_regions(picture: Region, part: Region) -> Result<(), Refusal> {
-    let setup = setup(picture, part, header(OFF));
+    let setup = Setup {
+        planes: GREY_PLANES,
+        ..setup(picture, part, header(OFF))
+    };
     // Sides out of range are refused before lengths are compared.
-    let count = picture.sample_count();
-    let samples = if count <= MAX_SAMPLES { count } else { 0 };
+    let area = picture.area();
+    let samples = if area <= MAX_AREA as usize { area } else { 0 };
     let (mut first, second) = (vec![0.0; samples], vec![0.0; samples]);
     let (frame, table) = (frame(at_corner(1, 1)), [0; 3]);
     restoration::start(setup, frame, &table, &[], &mut first, &second, &mut []).value()?;

@@ -32,7 +32,7 @@ impl CutTable {
 
 answers! {
     CountAnswer { count: u32 }
-    CutAnswer { region: Region }
+    CutAnswer { region: Region, planes: u32 }
     LengthAnswer { length: usize }
 }
 
@@ -40,18 +40,21 @@ entries! {
     /// How many rectangles a cut file has. All of the file but its samples is checked.
     cut_count = restoration_cut_count(file: &[u8]) -> CountAnswer;
 
-    /// The region of rectangle k, counted from 0.
+    /// The region of rectangle k, counted from 0, and the number of planes, 1 or 3.
     cut_region = restoration_cut_region(file: &[u8], k: u32) -> CutAnswer;
 
-    /// The region of rectangle k, and its samples as bit patterns. [`read_cut_samples`] takes floats.
+    /// The region of rectangle k and the number of planes, and its samples as bit patterns.
+    /// [`read_cut_samples`] takes floats.
     read_cut = restoration_read_cut(file: &[u8], k: u32, samples: &mut [u32]) -> CutAnswer;
 
-    /// The length of the file that a table needs, in bytes.
-    cut_length = restoration_cut_length(table: CutTable) -> LengthAnswer;
+    /// The length of the file that a table needs with this number of planes, 1 or 3, in bytes.
+    cut_length = restoration_cut_length(table: CutTable, planes: u32) -> LengthAnswer;
 
     /// Writes a cut file from samples as bit patterns, rectangle after rectangle. [`write_cut_samples`]
     /// takes floats.
-    write_cut = restoration_write_cut(table: CutTable, samples: &[u32], file: &mut [u8]) -> u32;
+    write_cut = restoration_write_cut(
+        table: CutTable, planes: u32, samples: &[u32], file: &mut [u8]
+    ) -> u32;
 }
 
 /// [`read_cut`] into floats, with their bits and without a copy.
@@ -61,15 +64,19 @@ entries! {
 ///
 /// let table = CutTable::new(&[Region::with_size(2, 1)]);
 /// let samples = [0.0, 1.0, 2.0, 3.0, 4.0, f32::NAN];
-/// let mut file = vec![0; restoration::cut_length(table).value()?];
-/// accepted(restoration::write_cut_samples(table, &samples, &mut file))?;
+/// // Three planes of two samples, or one plane of a grey picture.
+/// for (planes, samples) in [(3, &samples[..]), (1, &samples[4..])] {
+///     let mut file = vec![0; restoration::cut_length(table, planes).value()?];
+///     accepted(restoration::write_cut_samples(table, planes, samples, &mut file))?;
 ///
-/// assert_eq!(restoration::cut_count(&file).value()?, 1);
-/// let region = restoration::cut_region(&file, 0).value()?;
-/// let mut back = vec![0.0; region.sample_count()];
-/// restoration::read_cut_samples(&file, 0, &mut back).value()?;
-/// assert_eq!(region, Region::with_size(2, 1));
-/// assert_eq!(back.iter().map(|x| x.to_bits()).collect::<Vec<_>>(), samples.map(f32::to_bits));
+///     assert_eq!(restoration::cut_count(&file).value()?, 1);
+///     let found = restoration::cut_region(&file, 0).value()?;
+///     assert_eq!(found, (Region::with_size(2, 1), planes));
+///     let mut back = vec![0.0; planes as usize * found.0.area()];
+///     restoration::read_cut_samples(&file, 0, &mut back).value()?;
+///     assert!(back.iter().map(|x| x.to_bits()).eq(samples.iter().map(|x| x.to_bits())));
+/// }
+/// assert_eq!(restoration::cut_length(table, 2).value(), Err(restoration::Refusal::OutOfRange));
 /// # Ok::<(), restoration::Refusal>(())
 /// ```
 #[must_use = "the number alone says whether the call was refused"]
@@ -79,8 +86,8 @@ pub fn read_cut_samples(file: &[u8], k: u32, samples: &mut [f32]) -> CutAnswer {
 
 /// [`write_cut`] from floats, with their bits and without a copy.
 #[must_use = "the number alone says whether the call was refused"]
-pub fn write_cut_samples(table: CutTable, samples: &[f32], file: &mut [u8]) -> u32 {
-    write_cut(table, bits(samples), file)
+pub fn write_cut_samples(table: CutTable, planes: u32, samples: &[f32], file: &mut [u8]) -> u32 {
+    write_cut(table, planes, bits(samples), file)
 }
 
 /// The bit patterns of samples.

@@ -8,8 +8,13 @@
 //! assert_eq!(region_right(longer).value(), Err(Refusal::OutOfLimits));
 //! ```
 
-/// Planes of a picture.
+/// Channels, each of which has weights and a scale: planes of a picture that is not grey, and most planes
+/// of any.
 pub const CHANNELS: usize = 3;
+/// Planes of a picture with all channels, as [`crate::Setup`] takes the number.
+pub const PLANES: u32 = CHANNELS as u32;
+/// Planes of a grey picture.
+pub const GREY_PLANES: u32 = 1;
 /// Samples along a side of a block.
 pub const BLOCK: u32 = 8;
 /// Blocks along a side of a group whose group size shift is 0.
@@ -21,7 +26,7 @@ pub const TABLE_ENTRY: usize = 3;
 pub const MAX_SIDE: u32 = 16_384;
 /// Largest area of an image region or a filter region, in samples.
 pub const MAX_AREA: u32 = 16_777_216;
-/// Most samples of an image region's three planes together.
+/// Most samples of an image region's planes together.
 pub const MAX_SAMPLES: usize = CHANNELS * MAX_AREA as usize;
 /// Largest absolute value of a region's left and top, and of an offset to mirror.
 pub const MAX_OFFSET: i32 = 1_048_576;

@@ -1,12 +1,12 @@
 //! A rectangle of a picture, filtered with what it needs around it.
 
 use crate::{
-    BLOCK, Frame, Refusal, Region, RegionAnswer, Settings, accepted,
+    BLOCK, Frame, GREY_PLANES, PLANES, Refusal, Region, RegionAnswer, Settings, accepted,
     boundary::{defaults, entries},
 };
 
-/// A rectangle to filter, and the picture that it is part of. The default has the default settings; its
-/// regions are empty, and it is refused until they are set.
+/// A rectangle to filter, and the picture that it is part of. The default has three planes and the default
+/// settings; its regions are empty, and it is refused until they are set.
 #[repr(C)]
 #[derive(Debug, Clone, Copy, PartialEq)]
 pub struct LoupeSetup {
@@ -14,6 +14,8 @@ pub struct LoupeSetup {
     pub whole: Region,
     /// The rectangle to filter, inside the whole.
     pub wanted: Region,
+    /// How many planes the picture has, 1 or 3.
+    pub planes: u32,
     pub settings: Settings,
 }
 
@@ -21,6 +23,7 @@ impl LoupeSetup {
     pub const DEFAULT: Self = Self {
         whole: Region::with_size(0, 0),
         wanted: Region::with_size(0, 0),
+        planes: PLANES,
         settings: Settings::DEFAULT,
     };
 }
@@ -38,6 +41,7 @@ entries! {
     ///     whole: Region::with_size(100, 80),
     ///     wanted: Region { left: 20, top: 30, width: 6, height: 45 },
     ///     settings: Settings { epf, ..Settings::default() },
+    ///     ..LoupeSetup::default()
     /// };
     /// // The margin is 7: 20 - 7 is 13, moved down to 8, and 26 + 7 is 33.
     /// let widened = Region { left: 8, top: 16, width: 25, height: 64 };
@@ -75,7 +79,8 @@ entries! {
 ///     plane.collect::<Vec<f32>>().repeat(3)
 /// };
 /// let frame = Frame::with_size(64, 48);
-/// let loupe = Loupe { whole, settings: Settings::default(), frame, table: &[0; 3], grids: &[] };
+/// let settings = Settings::default();
+/// let loupe = Loupe { whole, planes: 3, settings, frame, table: &[0; 3], grids: &[] };
 /// let wanted = Region { left: 30, top: 20, width: 2, height: 1 };
 /// let shown = loupe.smooth(wanted, decoder)?;
 /// // The same samples as from the whole picture.
@@ -87,6 +92,8 @@ entries! {
 pub struct Loupe<'a> {
     /// The filter region of the whole picture.
     pub whole: Region,
+    /// How many planes the picture has, 1 or 3.
+    pub planes: u32,
     pub settings: Settings,
     pub frame: Frame,
     /// The group table and the grids, as [`crate::block_sigmas`] takes them.
@@ -108,19 +115,27 @@ impl Loupe<'_> {
         let setup = LoupeSetup {
             whole: self.whole,
             wanted,
+            planes: self.planes,
             settings: self.settings,
         };
         // A refusal here is not returned: `loupe_smooth` refuses the setup too, but checks more, and some
-        // of that first. After 4, 15 and 6 it compares no lengths. After 9 it compares that of `out`, and
-        // those of the other buffers not at all or, of `sigmas` with the edge filter off, with 0.
+        // of that first. After 4, 15 and 6 it compares no lengths. After 9 for a setting it compares that of
+        // `out`, and those of the other buffers not at all or, of `sigmas` with the edge filter off, with 0.
+        // After 9 for the number of planes alone, which the widened rectangle does not depend on, it compares
+        // that of `sigmas`; then none of `out` is needed, however large the number.
         let widened = loupe_widened(setup).value();
         let out_len = match widened {
-            Ok(_) | Err(Refusal::OutOfRange) => wanted.sample_count(),
+            Ok(_) | Err(Refusal::OutOfRange) => wanted.samples_in(self.planes.min(PLANES)),
             Err(_) => 0,
         };
         let mut first = widened.map(planes).unwrap_or_default();
         let mut second = vec![0.0; first.len()];
-        let mut sigmas = vec![0.0; widened.map_or(0, |r| self.block_count(r))];
+        let grey = LoupeSetup {
+            planes: GREY_PLANES,
+            ..setup
+        };
+        let place = loupe_widened(grey).value();
+        let mut sigmas = vec![0.0; place.map_or(0, |r| self.block_count(r))];
         let mut out = vec![0.0; out_len];
         let (table, grids) = (self.table, self.grids);
         accepted(loupe_smooth(

@@ -44,7 +44,7 @@ entries! {
     /// ```
     mirror = restoration_mirror(offset: isize, len: usize) -> MirrorAnswer;
 
-    /// The Gabor-like pass; `enabled` is ignored.
+    /// The Gabor-like pass over sets of 1 or 3 planes; `enabled` is ignored.
     ///
     /// ```
     /// // Specification 14.6: weights 1/2, 1/4 on a single sample of 16.
@@ -52,18 +52,19 @@ entries! {
     /// let settings = restoration::GaborSettings::with_weights([[0.5, 0.25]; 3]);
     /// let plane = [0.0, 0.0, 0.0, 0.0, 16.0, 0.0, 0.0, 0.0, 0.0];
     /// let (source, mut target) = ([plane; 3].concat(), [0.0; 27]);
-    /// let number = restoration::gabor_pass(image, image, 1, settings, 0, 3, &source, &mut target);
+    /// let number = restoration::gabor_pass(image, image, 3, 1, settings, 0, 3, &source, &mut target);
     /// restoration::accepted(number)?;
     /// let smooth = [1.0, 2.0, 1.0, 2.0, 4.0, 2.0, 1.0, 2.0, 1.0];
     /// assert_eq!(target[..], [smooth; 3].concat());
     /// # Ok::<(), restoration::Refusal>(())
     /// ```
     gabor_pass = restoration_gabor_pass(
-        image: Region, filter: Region, preserve_outside: u32, settings: GaborSettings,
+        image: Region, filter: Region, planes: u32, preserve_outside: u32, settings: GaborSettings,
         from: u32, to: u32, src: &[f32], dst: &mut [f32]
     ) -> u32;
 
-    /// One step of the edge-preserving filter, with one sigma per block of the filter region.
+    /// One step of the edge-preserving filter over sets of 1 or 3 planes, with one sigma per block of the
+    /// filter region.
     ///
     /// ```
     /// // Specification 14.8: step 2 copies where the block's sigma is 0.25, not where it is 1.5.
@@ -73,7 +74,7 @@ entries! {
     /// let source = [5.0, 5.0625, 1.0, 1.0, 1.0, 1.0];
     /// let pass = |sigma| {
     ///     let mut target = [0.0; 6];
-    ///     let number = restoration::epf_pass(image, image, 1, step, &[sigma], 0, 1, &source, &mut target);
+    ///     let number = restoration::epf_pass(image, image, 3, 1, step, &[sigma], 0, 1, &source, &mut target);
     ///     restoration::accepted(number).map(|()| target)
     /// };
     /// assert_eq!(pass(0.25)?, source);
@@ -81,7 +82,7 @@ entries! {
     /// # Ok::<(), restoration::Refusal>(())
     /// ```
     epf_pass = restoration_epf_pass(
-        image: Region, filter: Region, preserve_outside: u32, s: EpfStep, sigmas: &[f32],
+        image: Region, filter: Region, planes: u32, preserve_outside: u32, s: EpfStep, sigmas: &[f32],
         from: u32, to: u32, src: &[f32], dst: &mut [f32]
     ) -> u32;
 }

@@ -1,7 +1,7 @@
 //! Regions of a picture.
 
 use crate::{
-    CHANNELS,
+    PLANES,
     boundary::{answers, entries},
 };
 
@@ -39,11 +39,19 @@ impl Region {
         }
     }
 
-    /// How many samples the three planes of this region have, or the largest number where it does not
-    /// fit.
+    /// How many samples one plane of this region has, or the largest number where it does not fit.
+    pub const fn area(self) -> usize {
+        (self.width as usize).saturating_mul(self.height as usize)
+    }
+
+    /// How many samples so many planes of this region have, or the largest number where it does not fit.
+    pub const fn samples_in(self, planes: u32) -> usize {
+        (planes as usize).saturating_mul(self.area())
+    }
+
+    /// The same of three planes.
     pub const fn sample_count(self) -> usize {
-        let area = (self.width as usize).saturating_mul(self.height as usize);
-        CHANNELS.saturating_mul(area)
+        self.samples_in(PLANES)
     }
 }
 

@@ -3,8 +3,8 @@
 use core::fmt;
 
 use crate::{
-    CHANNELS, EdgePreservingFilter, EpfSigma, Frame, Gabor, MAX_BANDS, MAX_SIDE, Region,
-    RestorationFilter,
+    CHANNELS, EdgePreservingFilter, EpfSigma, Frame, GREY_PLANES, Gabor, MAX_BANDS, MAX_SIDE,
+    PLANES, Region, RestorationFilter,
     boundary::{answers, defaults, entries},
 };
 
@@ -126,8 +126,8 @@ impl From<RestorationFilter> for Settings {
     }
 }
 
-/// What to filter, and how. The default has the default settings, the filter region as the result, and
-/// bands of 64 rows, with which the tallest picture has [`MAX_BANDS`]. Its regions are empty, and
+/// What to filter, and how. The default has three planes, the default settings, the filter region as the
+/// result, and bands of 64 rows, with which the tallest picture has [`MAX_BANDS`]. Its regions are empty, and
 /// `start` refuses it until they are set.
 ///
 /// ```
@@ -148,6 +148,9 @@ impl From<RestorationFilter> for Settings {
 pub struct Setup {
     pub image: Region,
     pub filter: Region,
+    /// How many planes each set has: 1 for a grey picture, which is filtered with the weights and the scale
+    /// of the first channel, or 3.
+    pub planes: u32,
     /// 1: the result is the whole image region. 0: it is the filter region alone.
     pub preserve_outside: u32,
     pub settings: Settings,
@@ -158,17 +161,38 @@ impl Setup {
     pub const DEFAULT: Self = Self {
         image: Region::with_size(0, 0),
         filter: Region::with_size(0, 0),
+        planes: PLANES,
         preserve_outside: 0,
         settings: Settings::DEFAULT,
         band_height: MAX_SIDE / MAX_BANDS as u32,
     };
 
-    /// All samples of an image, with the default settings.
+    /// All samples of an image of three planes, with the default settings.
     pub const fn whole(image: Region) -> Self {
         Self {
             image,
             filter: image,
             ..Self::DEFAULT
+        }
+    }
+
+    /// All samples of a grey image, with the default settings.
+    ///
+    /// ```
+    /// use restoration::{Frame, GaborSettings, Region, Settings, Setup, Smoothing};
+    /// // The other channels' weights are not read.
+    /// let gabor = GaborSettings::with_weights([[0.5, 0.25], [f32::NAN; 2], [f32::NAN; 2]]);
+    /// let settings = Settings { gabor, ..Settings::OFF };
+    /// let setup = Setup { settings, ..Setup::grey(Region::with_size(3, 1)) };
+    /// let plane = vec![0.0, 16.0, 0.0];
+    /// let smooth = Smoothing::start(setup, Frame::with_size(3, 1), &[0; 3], &[], plane)?.finish()?;
+    /// assert_eq!(smooth, [4.0, 8.0, 4.0]);
+    /// # Ok::<(), restoration::Refusal>(())
+    /// ```
+    pub const fn grey(image: Region) -> Self {
+        Self {
+            planes: GREY_PLANES,
+            ..Self::whole(image)
         }
     }
 }

@@ -1,7 +1,8 @@
 //! A run together with the buffers of its calls.
 
 use crate::{
-    BLOCK, Frame, Progress, Refusal, Region, Run, Setup, accepted, advance, band, result, start,
+    BLOCK, Frame, MAX_AREA, Progress, Refusal, Region, Run, Setup, accepted, advance, band, result,
+    start,
 };
 
 /// A run that owns its record, both sets of planes and the block sigmas.
@@ -41,7 +42,7 @@ impl Smoothing {
         mut planes: Vec<f32>,
     ) -> Result<Self, Refusal> {
         let second = vec![0.0; planes.len()];
-        let mut sigmas = vec![0.0; block_count(&setup, planes.len())];
+        let mut sigmas = vec![0.0; block_count(&setup)];
         let answer = start(
             setup, frame, table, grids, &mut planes, &second, &mut sigmas,
         );
@@ -107,8 +108,7 @@ impl Smoothing {
     /// region.
     pub fn result(&self) -> Result<Vec<f32>, Refusal> {
         let setup = &self.run.setup;
-        let planes = self.first.len() / area(setup.image);
-        let mut out = vec![0.0; planes * area(result_region(setup))];
+        let mut out = vec![0.0; result_region(setup).samples_in(setup.planes)];
         accepted(result(self.run, &self.first, &self.second, &mut out))?;
         Ok(out)
     }
@@ -172,17 +172,13 @@ fn result_region(setup: &Setup) -> Region {
     }
 }
 
-fn area(r: Region) -> usize {
-    r.width as usize * r.height as usize
-}
-
-/// Blocks of the filter region; 0 with the edge filter off. A filter region inside the image has at
-/// most as many blocks as there are samples; a larger one is refused, so the count stops there.
-fn block_count(setup: &Setup, samples: usize) -> usize {
+/// Blocks of the filter region; 0 with the edge filter off. A region within the limits has at most as
+/// many blocks as the largest area has samples; others are refused, so the count stops there.
+fn block_count(setup: &Setup) -> usize {
     if setup.settings.epf.iters == 0 {
         return 0;
     }
     let along = |side: u32| side.div_ceil(BLOCK) as usize;
     let blocks = along(setup.filter.width) * along(setup.filter.height);
-    blocks.min(samples)
+    blocks.min(MAX_AREA as usize)
 }

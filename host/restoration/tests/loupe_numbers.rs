@@ -1,7 +1,9 @@
 //! The numbers that `Loupe::smooth` gives are those of `loupe_smooth`, in the order of Specification 17.5, also
 //! where several arguments are wrong and no planes are requested.
 
-use restoration::{Frame, Loupe, LoupeSetup, Refusal, Region, Settings, loupe_widened};
+use restoration::{
+    Frame, GREY_PLANES, Loupe, LoupeSetup, PLANES, Refusal, Region, Settings, loupe_widened,
+};
 
 const WHOLE: Region = Region::with_size(64, 48);
 const WANTED: Region = Region {
@@ -23,6 +25,7 @@ struct Case {
 const VALID: Case = Case {
     loupe: Loupe {
         whole: WHOLE,
+        planes: PLANES,
         settings: Settings::DEFAULT,
         frame: Frame::with_size(64, 48),
         table: &[0, 0, 0],
@@ -57,6 +60,14 @@ const PLANES_TOO_SHORT: Fault = |case| case.missing = 1;
 const ITERATIONS: Fault = |case| case.loupe.settings.epf.iters = 4;
 const NO_EPF: Fault = |case| case.loupe.settings.epf.iters = 0;
 const GABOR_FLAG: Fault = |case| case.loupe.settings.gabor.enabled = 2;
+const GREY: Fault = |case| case.loupe.planes = GREY_PLANES;
+/// No number of planes is right but 1 and 3.
+const WRONG_PLANES: [Fault; 4] = [
+    |case| case.loupe.planes = 0,
+    |case| case.loupe.planes = 2,
+    |case| case.loupe.planes = 4,
+    |case| case.loupe.planes = u32::MAX,
+];
 
 fn with(faults: &[Fault]) -> Case {
     let mut case = VALID;
@@ -69,8 +80,8 @@ fn widened_number(faults: &[Fault]) -> u32 {
     let setup = LoupeSetup {
         whole: loupe.whole,
         wanted,
+        planes: loupe.planes,
         settings: loupe.settings,
-        ..LoupeSetup::DEFAULT
     };
     loupe_widened(setup).number
 }
@@ -81,7 +92,7 @@ fn smoothed(faults: &[Fault]) -> (Result<usize, u32>, Option<Region>) {
     let mut requested = None;
     let samples = case.loupe.smooth(case.wanted, |r| {
         requested = Some(r);
-        vec![0.5; r.sample_count() - case.missing]
+        vec![0.5; r.samples_in(case.loupe.planes) - case.missing]
     });
     let answer = samples.map(|samples| samples.len());
     (answer.map_err(Refusal::number), requested)
@@ -96,6 +107,7 @@ fn accepted() {
         height: 17,
     };
     assert_eq!(smoothed(&[]), (Ok(3 * 4 * 3), Some(widened)));
+    assert_eq!(smoothed(&[GREY]), (Ok(4 * 3), Some(widened)));
 }
 
 /// `loupe_widened` accepts these, and the planes are requested.
@@ -111,8 +123,10 @@ fn one_fault_after_the_planes() {
         (9, UPSAMPLING),
         (9, PRESENCE),
     ] {
-        let (answer, requested) = smoothed(&[fault]);
-        assert_eq!((answer, requested.is_some()), (Err(number), true));
+        for faults in [&[fault][..], &[GREY, fault]] {
+            let (answer, requested) = smoothed(faults);
+            assert_eq!((answer, requested.is_some()), (Err(number), true));
+        }
     }
 }
 
@@ -129,6 +143,42 @@ fn one_fault_before_the_planes() {
         (9, GABOR_FLAG),
     ] {
         assert_eq!(smoothed(&[fault]), (Err(number), None));
+        assert_eq!(smoothed(&[GREY, fault]), (Err(number), None));
+    }
+}
+
+/// A wrong number of planes with each other fault. No planes are requested, so none are missing, and for the
+/// largest number nothing is allocated. `loupe_widened`, whose number is the first of each row, makes fewer
+/// checks.
+#[test]
+fn a_wrong_number_of_planes() {
+    let cases: [(u32, u32, &[Fault]); 18] = [
+        (9, 9, &[]),
+        (4, 4, &[WHOLE_TOO_WIDE]),
+        (4, 4, &[WANTED_TOO_LARGE]),
+        (15, 15, &[WANTED_OUTSIDE]),
+        (15, 15, &[WANTED_EMPTY]),
+        (6, 6, &[OFF_BLOCKS]),
+        (9, 4, &[NO_FRAME]),
+        (9, 4, &[GRID_TOO_WIDE]),
+        (9, 7, &[TABLE_TOO_LONG]),
+        (9, 7, &[GRIDS_TOO_LONG]),
+        (9, 8, &[BLOCK_NOT_HELD]),
+        (9, 9, &[PLANES_TOO_SHORT]),
+        (9, 9, &[UPSAMPLING]),
+        (9, 9, &[PRESENCE]),
+        (9, 9, &[ITERATIONS]),
+        (9, 9, &[GABOR_FLAG]),
+        (9, 9, &[NO_EPF]),
+        // Each length but those of the planes and of `out` is compared.
+        (9, 7, &[NO_EPF, GABOR_FLAG, GRIDS_TOO_LONG]),
+    ];
+    for planes in WRONG_PLANES {
+        for (n, (by_widened, number, faults)) in cases.into_iter().enumerate() {
+            let faults = [faults, &[planes]].concat();
+            assert_eq!(widened_number(&faults), by_widened, "case {n}");
+            assert_eq!(smoothed(&faults), (Err(number), None), "case {n}");
+        }
     }
 }
 
@@ -158,8 +208,10 @@ fn several_faults() {
         (9, 9, &[ITERATIONS, UPSAMPLING]),
     ];
     for (n, (by_widened, number, faults)) in cases.into_iter().enumerate() {
-        assert_eq!(widened_number(faults), by_widened, "case {n}");
-        assert_eq!(smoothed(faults), (Err(number), None), "case {n}");
+        for faults in [faults, &[&[GREY], faults].concat()] {
+            assert_eq!(widened_number(faults), by_widened, "case {n}");
+            assert_eq!(smoothed(faults), (Err(number), None), "case {n}");
+        }
     }
     let (answer, _) = smoothed(&[PLANES_TOO_SHORT, BLOCK_NOT_HELD]);
     assert_eq!(answer, Err(7));

@@ -1,7 +1,7 @@
 //! The Gabor-like filter on a filter region of one row (Specification 10.4, 14.7). Weights 1/2 and 1/4 make
 //! every operation exact: the centre weighs 2, each neighbour 1, and an end 1 more; the kernel's sum is 4.
 
-use restoration::{CHANNELS, GaborSettings, Region, gabor_pass};
+use restoration::{CHANNELS, GaborSettings, PLANES, Region, gabor_pass};
 
 const SETTINGS: GaborSettings = GaborSettings::with_weights([[0.5, 0.25]; CHANNELS]);
 
@@ -10,7 +10,9 @@ fn filtered(image: Region, filter: Region, plane: &[f32]) -> Vec<f32> {
     let source = [plane; CHANNELS].concat();
     let mut target = vec![-1.0; source.len()];
     let rows = image.height;
-    let number = gabor_pass(image, filter, 1, SETTINGS, 0, rows, &source, &mut target);
+    let number = gabor_pass(
+        image, filter, PLANES, 1, SETTINGS, 0, rows, &source, &mut target,
+    );
     assert_eq!(number, 0);
     assert!(
         target
@@ -65,6 +67,8 @@ fn a_band_of_one_row_is_no_strip() {
     let image = Region::with_size(3, 2);
     let source = [[0.0, 16.0, 0.0, 0.0, 0.0, 0.0]; CHANNELS].concat();
     let mut target = vec![-1.0; source.len()];
-    let number = gabor_pass(image, image, 1, SETTINGS, 0, 1, &source, &mut target);
+    let number = gabor_pass(
+        image, image, PLANES, 1, SETTINGS, 0, 1, &source, &mut target,
+    );
     assert_eq!((number, &target[..3]), (0, &[3.0, 6.0, 3.0][..]));
 }

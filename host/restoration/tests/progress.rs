@@ -7,12 +7,12 @@ mod splitmix;
 use core::iter::successors;
 
 use restoration::{
-    EpfSettings, Frame, GaborSettings, MAX_BANDS, MAX_ITERS, Progress, Region, Settings, Setup,
-    Smoothing,
+    EpfSettings, Frame, GREY_PLANES, GaborSettings, MAX_BANDS, MAX_ITERS, PLANES, Progress, Region,
+    Settings, Setup, Smoothing,
 };
 use splitmix::Random;
 
-/// Runs of each number of passes and bands.
+/// Runs of each number of planes, passes and bands.
 const RUNS: usize = 12;
 
 /// Up to three iterations, and the Gabor-like filter as the fourth pass.
@@ -31,7 +31,7 @@ fn settings(passes: u32) -> Settings {
 
 /// A run over bands of two rows, the last of them of one. The image has eight rows more, above the filter
 /// region and in no band.
-fn started(passes: u32, bands: u32) -> Smoothing {
+fn started(planes: u32, passes: u32, bands: u32) -> Smoothing {
     let (width, height) = (3, 2 * bands - 1);
     let setup = Setup {
         image: Region::with_size(width, 8 + height),
@@ -39,14 +39,15 @@ fn started(passes: u32, bands: u32) -> Smoothing {
             top: 8,
             ..Region::with_size(width, height)
         },
+        planes,
         preserve_outside: 0,
         settings: settings(passes),
         band_height: 2,
     };
-    let samples = setup.image.sample_count();
-    let planes = (0..samples).map(|n| (n % 7) as f32 / 64.0).collect();
+    let samples = 0..setup.image.samples_in(planes);
+    let samples = samples.map(|n| (n % 7) as f32 / 64.0).collect();
     let frame = Frame::with_size(width, 8 + height);
-    Smoothing::start(setup, frame, &[0; 3], &[], planes).unwrap()
+    Smoothing::start(setup, frame, &[0; 3], &[], samples).unwrap()
 }
 
 /// Any number of calls, some of which are refused.
@@ -92,8 +93,8 @@ fn next(at: &Progress) -> Option<Progress> {
     })
 }
 
-fn compare(passes: u32, bands: u32, random: &mut Random) {
-    let mut smoothing = started(passes, bands);
+fn compare(planes: u32, passes: u32, bands: u32, random: &mut Random) {
+    let mut smoothing = started(planes, passes, bands);
     let whole = smoothing.clone().finish().unwrap();
     some_calls(&mut smoothing, random);
     let at = smoothing.progress();
@@ -115,14 +116,16 @@ fn any_passes_and_bands() {
     let bands = [1, 2, 3, 9, MAX_BANDS as u32];
     let cases = (0..=1 + MAX_ITERS).flat_map(|passes| bands.map(|bands| (passes, bands)));
     for (passes, bands) in cases.flat_map(|case| [case; RUNS]) {
-        compare(passes, bands, &mut random);
+        for planes in [PLANES, GREY_PLANES] {
+            compare(planes, passes, bands, &mut random);
+        }
     }
 }
 
 /// One more after each band, and the same after an advance.
 #[test]
 fn bands_over_count_up() {
-    let smoothing = started(3, 5);
+    let smoothing = started(PLANES, 3, 5);
     let mut over = Vec::new();
     smoothing
         .finish_with(|progress| over.push(progress.bands_over()))

@@ -2,6 +2,7 @@
 //! of a run. Each section prints tables of docs/BENCHMARKS.md.
 
 mod cut;
+mod grey;
 mod growth;
 mod loupe;
 mod memory;

@@ -8,12 +8,13 @@ mod scaled;
 mod tiled;
 mod whole;
 
-use restoration::{BLOCK, CHANNELS, EpfSettings, EpfStep, MAX_ITERS, MAX_OFFSET};
+use restoration::{BLOCK, CHANNELS, EpfSettings, EpfStep, MAX_ITERS, MAX_OFFSET, PLANES};
 
 use crate::{
     bits,
     convert::{edge, region, wide},
     expected::epf::{Input, number},
+    grey::definition,
     pass::{self, by_bands, one_call},
     picture::{self, Rows, any_len, plain, samples, special},
     random::Random,
@@ -48,6 +49,7 @@ const NUMBERS: [u32; 6] = [0, 4, 5, 6, 7, 9];
 #[derive(Debug)]
 struct Pass<'a> {
     place: oracle::Place,
+    planes: u32,
     /// `preserve_outside` as the library gets it.
     full: u32,
     step: u32,
@@ -55,9 +57,27 @@ struct Pass<'a> {
     sigmas: &'a [f32],
 }
 
+impl<'a> Pass<'a> {
+    /// A pass whose result is that of the place.
+    fn of(kind: Kind, place: oracle::Place, settings: oracle::Edge, sigmas: &'a [f32]) -> Self {
+        Self {
+            place,
+            planes: kind.planes,
+            full: place.preserve_outside.into(),
+            step: kind.step,
+            settings,
+            sigmas,
+        }
+    }
+}
+
 impl pass::Pass for Pass<'_> {
     fn place(&self) -> &oracle::Place {
         &self.place
+    }
+
+    fn planes(&self) -> u32 {
+        self.planes
     }
 
     fn ours(&self, (from, to): Rows, source: &[f32], target: &mut [f32]) -> u32 {
@@ -65,7 +85,7 @@ impl pass::Pass for Pass<'_> {
         let (image, filter) = (region(place.image), region(place.filter));
         let settings = step_of(self.step, self.settings);
         restoration::epf_pass(
-            image, filter, self.full, settings, self.sigmas, from, to, source, target,
+            image, filter, self.planes, self.full, settings, self.sigmas, from, to, source, target,
         )
     }
 
@@ -73,37 +93,21 @@ impl pass::Pass for Pass<'_> {
         self.sigmas
     }
 
-    /// The planes of the result, by the original's row function.
-    fn original(&self, source: &[f32]) -> oracle::Planes {
-        let oracle::Place { image, filter, .. } = self.place;
-        let runs = picture::runs(image, filter, (0, filter.height));
-        let part: Vec<f32> = runs.flat_map(|run| source[run].iter().copied()).collect();
-        let sources = picture::planes(&part);
-        let mut filtered = sources.clone();
-        oracle::epf_step(
-            self.step,
-            self.settings,
-            self.sigmas,
-            (filter.width as usize, filter.top as usize),
-            sources.each_ref().map(Vec::as_slice),
-            filtered.each_mut().map(Vec::as_mut_slice),
-        );
-        if !self.place.preserve_outside {
-            return filtered;
+    /// The planes of the result: three by the original's row function, one by the definition.
+    fn original(&self, source: &[f32]) -> Vec<Vec<f32>> {
+        if self.planes == PLANES {
+            return by_original(&self.place, self.step, self.settings, self.sigmas, source).into();
         }
-        let alone = oracle::Place {
-            preserve_outside: false,
-            ..self.place
-        };
-        let mut set = source.to_vec();
-        picture::store(&alone, &filtered, (0, filter.height), &mut set);
-        picture::planes(&set)
+        let planes = picture::split(source, self.planes);
+        let step = step_of(self.step, self.settings);
+        definition::epf_pass(&self.place, step, self.sigmas, planes)
     }
 
     fn number(&self, rows: Rows, sets: [usize; 2]) -> u32 {
         number(Input {
             image: wide(self.place.image),
             filter: wide(self.place.filter),
+            planes: self.planes,
             preserve_outside: self.full,
             step: self.step,
             rows: (rows.0.into(), rows.1.into()),
@@ -111,6 +115,39 @@ impl pass::Pass for Pass<'_> {
             sets,
         })
     }
+}
+
+/// The planes of the result of a step by the original's row function.
+pub fn by_original(
+    place: &oracle::Place,
+    step: u32,
+    settings: oracle::Edge,
+    sigmas: &[f32],
+    source: &[f32],
+) -> oracle::Planes {
+    let oracle::Place { image, filter, .. } = *place;
+    let runs = picture::runs(PLANES, image, filter, (0, filter.height));
+    let part: Vec<f32> = runs.flat_map(|run| source[run].iter().copied()).collect();
+    let sources = picture::planes(&part);
+    let mut filtered = sources.clone();
+    oracle::epf_step(
+        step,
+        settings,
+        sigmas,
+        (filter.width as usize, filter.top as usize),
+        sources.each_ref().map(Vec::as_slice),
+        filtered.each_mut().map(Vec::as_mut_slice),
+    );
+    if !place.preserve_outside {
+        return filtered;
+    }
+    let alone = oracle::Place {
+        preserve_outside: false,
+        ..*place
+    };
+    let mut set = source.to_vec();
+    picture::store(&alone, &filtered, (0, filter.height), &mut set);
+    picture::planes(&set)
 }
 
 /// What a step reads of the settings; step 1 has no scale of its own.
@@ -128,58 +165,80 @@ pub fn step_of(step: u32, settings: oracle::Edge) -> EpfStep {
     }
 }
 
+/// A step over sets of so many planes.
+#[derive(Debug, Clone, Copy)]
+pub struct Kind {
+    pub step: u32,
+    pub planes: u32,
+    /// In the table.
+    pub name: &'static str,
+}
+
+impl Kind {
+    /// Samples of a set.
+    fn set_len(self, place: &oracle::Place) -> usize {
+        picture::set_len(place, self.planes)
+    }
+
+    /// Any settings. Scales of other channels than the planes' are NaNs one time in two: they are not read.
+    pub fn settings(self, random: &mut Random) -> oracle::Edge {
+        let mut settings = settings(random);
+        if random.once_in(2) {
+            let read = CHANNELS.min(self.planes as usize);
+            settings.channel_scale[read..].fill_with(|| bits::nan(random));
+        }
+        settings
+    }
+}
+
 pub fn compare(amount: Amount, report: &mut Report) {
     for (step, name) in (0..).zip(NAMES) {
-        let mut random = Random::for_name(name);
-        let mut row = Row::new(name, "named");
-        named(step, &mut random, &mut row);
-        report.add(row);
-        let mut row = Row::new(name, "all sizes");
-        for width in 1..=SIDES {
-            for height in 1..=SIDES {
-                all_placements(step, (width, height), amount, &mut random, &mut row);
-            }
-        }
-        report.add(row);
-        let mut row = Row::new(name, "random");
-        while row.draws(PICTURES, amount) {
-            random_picture(step, &mut random, &mut row);
-        }
-        report.add(row);
-        let mut row = Row::new(name, "wide pictures");
-        tiled::compare(step, amount, &mut random, &mut row);
-        report.add(row);
-        copied::compare(step, amount, report);
-        scaled::compare(step, amount, &mut random, report);
+        let planes = PLANES;
+        accepted(Kind { step, planes, name }, amount, report);
     }
     whole::compare(amount, report);
     refusals(amount, report);
 }
 
+/// Pictures of one step.
+pub fn accepted(kind: Kind, amount: Amount, report: &mut Report) {
+    let name = kind.name;
+    let mut random = Random::for_name(name);
+    let mut row = Row::new(name, "named");
+    named(kind, &mut random, &mut row);
+    report.add(row);
+    let mut row = Row::new(name, "all sizes");
+    for width in 1..=SIDES {
+        for height in 1..=SIDES {
+            all_placements(kind, (width, height), amount, &mut random, &mut row);
+        }
+    }
+    report.add(row);
+    let mut row = Row::new(name, "random");
+    while row.draws(PICTURES, amount) {
+        random_picture(kind, &mut random, &mut row);
+    }
+    report.add(row);
+    let mut row = Row::new(name, "wide pictures");
+    tiled::compare(kind, amount, &mut random, &mut row);
+    report.add(row);
+    copied::compare(kind, amount, report);
+    scaled::compare(kind, amount, &mut random, report);
+}
+
 /// Two samples with each named sigma, and each setting negative and infinite.
-fn named(step: u32, random: &mut Random, row: &mut Row) {
+fn named(kind: Kind, random: &mut Random, row: &mut Row) {
     for place in whole_images(2, 1) {
         for (sigma, source) in two_samples() {
-            let pass = Pass {
-                place,
-                full: place.preserve_outside.into(),
-                step,
-                settings: DEFAULTS,
-                sigmas: &[sigma],
-            };
-            by_bands(&pass, 1, &source, random, row);
+            let pass = Pass::of(kind, place, DEFAULTS, core::slice::from_ref(&sigma));
+            let source = &source[..kind.set_len(&place)];
+            by_bands(&pass, 1, source, random, row);
         }
     }
     for place in whole_images(TWO_BLOCKS, TWO_BLOCKS) {
         for settings in signed_and_infinite() {
-            let pass = Pass {
-                place,
-                full: place.preserve_outside.into(),
-                step,
-                settings,
-                sigmas: &[1.0; 4],
-            };
-            let source = textured(picture::set_len(&place), random);
+            let pass = Pass::of(kind, place, settings, &[1.0; 4]);
+            let source = textured(kind.set_len(&place), random);
             by_bands(&pass, 3, &source, random, row);
         }
     }
@@ -218,7 +277,7 @@ fn signed_and_infinite() -> impl Iterator<Item = oracle::Edge> {
 
 /// Every placement, in bands of every height.
 fn all_placements(
-    step: u32,
+    kind: Kind,
     (width, height): (u32, u32),
     amount: Amount,
     random: &mut Random,
@@ -227,7 +286,7 @@ fn all_placements(
     for place in placements((width, height), random) {
         for band in (1..=BANDS).chain([place.image.height]) {
             if row.takes(amount) {
-                one_step(place, step, band, random, row);
+                one_step(place, kind, band, random, row);
             }
         }
     }
@@ -235,7 +294,7 @@ fn all_placements(
 
 /// The filter region as the whole image, inside an image, and inside one with negative left and top;
 /// both results.
-fn placements((width, height): (u32, u32), random: &mut Random) -> [oracle::Place; 6] {
+pub fn placements((width, height): (u32, u32), random: &mut Random) -> [oracle::Place; 6] {
     let at = |left, top| oracle::Region {
         left,
         top,
@@ -269,7 +328,7 @@ fn around(filter: oracle::Region, random: &mut Random) -> oracle::Region {
     }
 }
 
-fn random_picture(step: u32, random: &mut Random, row: &mut Row) {
+fn random_picture(kind: Kind, random: &mut Random, row: &mut Row) {
     // Left and top up to their limits.
     let farthest = MAX_OFFSET as u32 / BLOCK;
     let most = if random.once_in(4) { farthest } else { 20 };
@@ -288,37 +347,31 @@ fn random_picture(step: u32, random: &mut Random, row: &mut Row) {
         filter,
         preserve_outside: random.once_in(2),
     };
-    one_step(place, step, band, random, row);
+    one_step(place, kind, band, random, row);
 }
 
-fn one_step(place: oracle::Place, step: u32, band: u32, random: &mut Random, row: &mut Row) {
+fn one_step(place: oracle::Place, kind: Kind, band: u32, random: &mut Random, row: &mut Row) {
     let sigmas: Vec<f32> = (0..block_count(place.filter))
         .map(|_| sigma(random))
         .collect();
-    with_sigmas(place, step, band, &sigmas, random, row);
+    with_sigmas(place, kind, band, &sigmas, random, row);
 }
 
-fn block_count(filter: oracle::Region) -> u32 {
+pub fn block_count(filter: oracle::Region) -> u32 {
     filter.width.div_ceil(BLOCK) * filter.height.div_ceil(BLOCK)
 }
 
 /// A picture with these sigmas and any settings.
 fn with_sigmas(
     place: oracle::Place,
-    step: u32,
+    kind: Kind,
     band: u32,
     sigmas: &[f32],
     random: &mut Random,
     row: &mut Row,
 ) {
-    let pass = Pass {
-        place,
-        full: place.preserve_outside.into(),
-        step,
-        settings: settings(random),
-        sigmas,
-    };
-    let source = textured(picture::set_len(&place), random);
+    let pass = Pass::of(kind, place, kind.settings(random), sigmas);
+    let source = textured(kind.set_len(&place), random);
     by_bands(&pass, band, &source, random, row);
 }
 
@@ -330,6 +383,7 @@ fn refusals(amount: Amount, report: &mut Report) {
         damaged(random, &mut row);
     }
     row.require(&NUMBERS, amount);
+    row.require_planes(amount);
     report.add(row);
 }
 
@@ -347,8 +401,9 @@ fn damaged(random: &mut Random, row: &mut Row) {
         picture::any_region(random)
     };
     let rows = (picture::any_row(random), picture::any_row(random));
-    let source = samples(picture::any_set_len(image, random), random);
-    let before = samples(picture::any_set_len(image, random), random);
+    let planes = picture::any_planes(random);
+    let source = samples(picture::any_set_len(image, planes, random), random);
+    let before = samples(picture::any_set_len(image, planes, random), random);
     let mut sigmas = vec![1.0; any_len(1, random)];
     if random.once_in(2) {
         bits::sprinkle(&mut sigmas, random);
@@ -360,6 +415,7 @@ fn damaged(random: &mut Random, row: &mut Row) {
             filter,
             preserve_outside: full == 1,
         },
+        planes,
         full,
         step: random.one_of(&[0, 1, 2, 0, 1, 2, 0, 1, 3, u32::MAX]),
         settings: settings(random),

@@ -8,6 +8,7 @@ pub mod epf;
 pub mod gabor;
 pub mod header;
 pub mod limits;
+pub mod loupe;
 mod numbers;
 mod pass;
 pub mod runs;

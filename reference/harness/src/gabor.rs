@@ -4,11 +4,13 @@
 
 pub mod one_row;
 
-use restoration::{GaborSettings, MAX_OFFSET};
+use restoration::{CHANNELS, GaborSettings, MAX_OFFSET, PLANES};
 
 use crate::{
+    bits,
     convert::{region, wide},
     expected::gabor::number,
+    grey::definition,
     pass::{self, by_bands, one_call},
     picture::{self, Rows, plain, samples, special},
     random::Random,
@@ -41,6 +43,7 @@ const ENABLED: [u32; 4] = [0, 1, 2, u32::MAX];
 #[derive(Debug, Clone, Copy)]
 struct Pass {
     place: oracle::Place,
+    planes: u32,
     /// `preserve_outside` as the library gets it.
     full: u32,
     weights: oracle::Weights,
@@ -48,15 +51,21 @@ struct Pass {
 
 impl Pass {
     /// A pass with any weights; `full` is 1 for the result to be the whole image.
-    fn new(image: oracle::Region, filter: oracle::Region, full: u32, random: &mut Random) -> Self {
+    fn new(
+        planes: u32,
+        [image, filter]: [oracle::Region; 2],
+        full: u32,
+        random: &mut Random,
+    ) -> Self {
         Self {
             place: oracle::Place {
                 image,
                 filter,
                 preserve_outside: full == 1,
             },
+            planes,
             full,
-            weights: weights(random),
+            weights: read_by(planes, weights(random), random),
         }
     }
 }
@@ -66,6 +75,10 @@ impl pass::Pass for Pass {
         &self.place
     }
 
+    fn planes(&self) -> u32 {
+        self.planes
+    }
+
     fn ours(&self, (from, to): Rows, source: &[f32], target: &mut [f32]) -> u32 {
         let place = self.place;
         let (image, filter) = (region(place.image), region(place.filter));
@@ -73,17 +86,25 @@ impl pass::Pass for Pass {
             enabled: ENABLED[from.wrapping_add(to) as usize % ENABLED.len()],
             weights: self.weights,
         };
-        restoration::gabor_pass(image, filter, self.full, settings, from, to, source, target)
+        restoration::gabor_pass(
+            image, filter, self.planes, self.full, settings, from, to, source, target,
+        )
     }
 
-    fn original(&self, source: &[f32]) -> oracle::Planes {
-        one_row::expected_pass(self.place, self.weights, picture::planes(source))
+    fn original(&self, source: &[f32]) -> Vec<Vec<f32>> {
+        if self.planes == PLANES {
+            one_row::expected_pass(self.place, self.weights, picture::planes(source)).into()
+        } else {
+            let planes = picture::split(source, self.planes);
+            definition::gabor_pass(&self.place, &self.weights, planes)
+        }
     }
 
     fn number(&self, rows: Rows, sets: [usize; 2]) -> u32 {
         number(
             wide(self.place.image),
             wide(self.place.filter),
+            self.planes,
             self.full,
             (rows.0.into(), rows.1.into()),
             sets,
@@ -93,35 +114,52 @@ impl pass::Pass for Pass {
 
 pub fn compare(amount: Amount, report: &mut Report) {
     let mut random = Random::for_name(NAME);
-    let mut row = Row::new(NAME, "all sizes");
-    for width in 1..=SIDES {
-        for height in 1..=SIDES {
-            all_placements(width, height, amount, &mut random, &mut row);
-        }
-    }
-    report.add(row);
-    let mut row = Row::new(NAME, "random");
-    while row.draws(PICTURES, amount) {
-        let (pass, band) = random_pass(&mut random);
-        any_picture(&pass, band, &mut random, &mut row);
-    }
-    report.add(row);
-    for end in ENDS {
-        let mut row = Row::new(NAME, end.name());
-        while row.draws(SCALED, amount) {
-            let (pass, band) = random_pass(&mut random);
-            let scale = end.draw(&mut random);
-            let source = scale.samples(picture::set_len(&pass.place), &mut random);
-            by_bands(&pass, band, &source, &mut random, &mut row);
-        }
-        report.add(row);
-    }
+    accepted(NAME, PLANES, amount, &mut random, report);
     one_row::compare(amount, &mut random, report);
     refusals(amount, &mut random, report);
 }
 
+/// Passes over sets of so many planes.
+pub fn accepted(
+    name: &'static str,
+    planes: u32,
+    amount: Amount,
+    random: &mut Random,
+    report: &mut Report,
+) {
+    let mut row = Row::new(name, "all sizes");
+    for width in 1..=SIDES {
+        for height in 1..=SIDES {
+            all_placements(planes, (width, height), amount, random, &mut row);
+        }
+    }
+    report.add(row);
+    let mut row = Row::new(name, "random");
+    while row.draws(PICTURES, amount) {
+        let (pass, band) = random_pass(planes, random);
+        any_picture(&pass, band, random, &mut row);
+    }
+    report.add(row);
+    for end in ENDS {
+        let mut row = Row::new(name, end.name());
+        while row.draws(SCALED, amount) {
+            let (pass, band) = random_pass(planes, random);
+            let scale = end.draw(random);
+            let source = scale.samples(picture::set_len(&pass.place, planes), random);
+            by_bands(&pass, band, &source, random, &mut row);
+        }
+        report.add(row);
+    }
+}
+
 /// A filter region at every offset in an image that is two samples larger, and as the whole image.
-fn all_placements(width: u32, height: u32, amount: Amount, random: &mut Random, row: &mut Row) {
+fn all_placements(
+    planes: u32,
+    (width, height): (u32, u32),
+    amount: Amount,
+    random: &mut Random,
+    row: &mut Row,
+) {
     for offset in 0..9 {
         let (right, down) = (offset % 3, offset / 3);
         let image = oracle::Region {
@@ -136,16 +174,16 @@ fn all_placements(width: u32, height: u32, amount: Amount, random: &mut Random, 
             width,
             height,
         };
-        all_bands(image, filter, amount, random, row);
+        all_bands(planes, [image, filter], amount, random, row);
     }
     let whole = oracle::Region::with_size(width, height);
-    all_bands(whole, whole, amount, random, row);
+    all_bands(planes, [whole; 2], amount, random, row);
 }
 
 /// Both results, in bands of every height.
 fn all_bands(
-    image: oracle::Region,
-    filter: oracle::Region,
+    planes: u32,
+    regions: [oracle::Region; 2],
     amount: Amount,
     random: &mut Random,
     row: &mut Row,
@@ -155,14 +193,14 @@ fn all_bands(
             if !row.takes(amount) {
                 continue;
             }
-            let pass = Pass::new(image, filter, preserve_outside.into(), random);
+            let pass = Pass::new(planes, regions, preserve_outside.into(), random);
             any_picture(&pass, band, random, row);
         }
     }
 }
 
 /// A pass with any left and top in range, and a band height.
-fn random_pass(random: &mut Random) -> (Pass, u32) {
+fn random_pass(planes: u32, random: &mut Random) -> (Pass, u32) {
     let mut side = |most| random.within(1, most) as u32;
     let (width, height) = (side(70), side(70));
     let (columns, rows) = (side(width.into()), side(height.into()));
@@ -183,13 +221,13 @@ fn random_pass(random: &mut Random) -> (Pass, u32) {
         height: rows,
     };
     let preserve_outside = random.once_in(2);
-    let pass = Pass::new(image, filter, preserve_outside.into(), random);
+    let pass = Pass::new(planes, [image, filter], preserve_outside.into(), random);
     (pass, band)
 }
 
 /// Any picture, band by band.
 fn any_picture(pass: &Pass, band: u32, random: &mut Random, row: &mut Row) {
-    let source = samples(picture::set_len(&pass.place), random);
+    let source = samples(picture::set_len(&pass.place, pass.planes), random);
     by_bands(pass, band, &source, random, row);
 }
 
@@ -200,6 +238,7 @@ fn refusals(amount: Amount, random: &mut Random, report: &mut Report) {
         damaged(random, &mut row);
     }
     row.require(&NUMBERS, amount);
+    row.require_planes(amount);
     report.add(row);
 }
 
@@ -211,12 +250,22 @@ fn damaged(random: &mut Random, row: &mut Row) {
     } else {
         picture::any_region(random)
     };
-    let full = picture::any_flag(random);
-    let pass = Pass::new(image, filter, full, random);
+    let (planes, full) = (picture::any_planes(random), picture::any_flag(random));
+    let pass = Pass::new(planes, [image, filter], full, random);
     let rows = (picture::any_row(random), picture::any_row(random));
-    let source = samples(picture::any_set_len(image, random), random);
-    let before = samples(picture::any_set_len(image, random), random);
+    let source = samples(picture::any_set_len(image, planes, random), random);
+    let before = samples(picture::any_set_len(image, planes, random), random);
     one_call(&pass, rows, [source, before], random, row);
+}
+
+/// Weights for sets of so many planes. Those of other channels are NaNs one time in two: they are not read.
+pub fn read_by(planes: u32, mut weights: oracle::Weights, random: &mut Random) -> oracle::Weights {
+    if random.once_in(2) {
+        for pair in &mut weights[CHANNELS.min(planes as usize)..] {
+            *pair = [bits::nan(random), bits::nan(random)];
+        }
+    }
+    weights
 }
 
 /// The default weights, plain ones, or any floats.

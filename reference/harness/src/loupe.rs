@@ -1,9 +1,10 @@
-//! The loupe: rectangles of pictures. Their samples must be those of the original's run over the whole picture.
+//! The loupe: rectangles of pictures. Their samples must be those of the original's run over the whole picture, or
+//! of the definition's over a grey one.
 
 #[path = "../../../host/restoration/tests/common/tally.rs"]
 mod tally;
 
-use restoration::{LoupeSetup, MAX_ITERS, Region, Setup};
+use restoration::{LoupeSetup, MAX_ITERS, PLANES, Region, Setup};
 
 use tally::Tally;
 
@@ -26,18 +27,23 @@ const LARGE: (u32, u32) = (300, 270);
 const NAME: &str = "loupe";
 
 pub fn compare(amount: Amount, report: &mut Report) {
-    let mut random = Random::for_name(NAME);
-    let mut row = Row::new(NAME, "small");
+    accepted(NAME, PLANES, amount, report);
+}
+
+/// Rectangles of pictures of so many planes.
+pub fn accepted(name: &'static str, planes: u32, amount: Amount, report: &mut Report) {
+    let mut random = Random::for_name(name);
+    let mut row = Row::new(name, "small");
     let mut tally = Tally::default();
     while row.draws(PICTURES, amount) {
         let passes = runs::passes(&mut random);
-        let whole = runs::with_passes(passes, SMALL, &mut random);
+        let whole = runs::with_passes(passes, SMALL, &mut random).of_planes(planes);
         rectangles(whole, &mut random, &mut row, &mut tally);
     }
     row.require(&[0], amount);
-    finish(&tally, amount.least(PICTURES * RECTANGLES), &mut row);
+    finish(name, &tally, amount.least(PICTURES * RECTANGLES), &mut row);
     report.add(row);
-    let mut row = Row::new(NAME, "large");
+    let mut row = Row::new(name, "large");
     let mut tally = Tally::default();
     let pictures = amount.few(LARGE_PICTURES);
     for n in 0..pictures {
@@ -45,16 +51,16 @@ pub fn compare(amount: Amount, report: &mut Report) {
             gabor: n % 2 == 0,
             iterations: (n / 2) as u32 % (MAX_ITERS + 1),
         };
-        let whole = runs::with_sides(passes, LARGE, LARGE.0, &mut random);
+        let whole = runs::with_sides(passes, LARGE, LARGE.0, &mut random).of_planes(planes);
         rectangles(whole, &mut random, &mut row, &mut tally);
     }
-    finish(&tally, pictures * RECTANGLES, &mut row);
+    finish(name, &tally, pictures * RECTANGLES, &mut row);
     report.add(row);
 }
 
 /// Prints the counts of a row. It counts as differing if one is below its minimum.
-fn finish(tally: &Tally, drawn: u64, row: &mut Row) {
-    println!("{NAME}: {}", tally.summary());
+fn finish(name: &str, tally: &Tally, drawn: u64, row: &mut Row) {
+    println!("{name}: {}", tally.summary());
     for (what, count, least) in tally.required(drawn) {
         row.at_least(what, count, least);
     }
@@ -71,7 +77,7 @@ fn rectangles(mut whole: Input, random: &mut Random, row: &mut Row, tally: &mut 
     }
 }
 
-/// Compares a rectangle with the original's whole run.
+/// Compares a rectangle with the whole run of the original or the definition.
 fn rectangle(
     whole: &Input,
     by_original: &[f32],
@@ -84,6 +90,7 @@ fn rectangle(
     let setup = LoupeSetup {
         whole: whole.setup.filter,
         wanted,
+        planes: whole.setup.planes,
         settings: whole.setup.settings,
         ..LoupeSetup::DEFAULT
     };
@@ -91,11 +98,12 @@ fn rectangle(
         Ok(widened) => widened,
         Err(refusal) => return row.differs(&(whole, wanted), &refusal, &0),
     };
+    let planes = whole.setup.planes;
     let mut own = cut(whole, widened, random);
     let has_passes = setup_rule(&whole.setup).passes() > 0;
     let cut = has_passes && widened != whole.setup.filter;
-    tally.add(wanted.sample_count(), cut);
-    let expected = samples_in(whole.setup.filter, by_original, wanted);
+    tally.add(wanted.samples_in(planes), cut);
+    let expected = samples_in(planes, whole.setup.filter, by_original, wanted);
     let mut out = samples(expected.len(), random);
     let number = smooth(setup, &mut own, &mut out);
     let differing = out.iter().zip(&expected).position(|(a, b)| !agree(*a, *b));
@@ -107,13 +115,13 @@ fn rectangle(
 }
 
 /// The picture's widened rectangle as a picture of its own.
-fn cut(whole: &Input, widened: Region, random: &mut Random) -> Input {
+pub fn cut(whole: &Input, widened: Region, random: &mut Random) -> Input {
     let setup = Setup {
         image: widened,
         filter: widened,
         ..whole.setup
     };
-    let first = samples_in(whole.setup.image, &whole.first, widened);
+    let first = samples_in(setup.planes, whole.setup.image, &whole.first, widened);
     Input {
         setup,
         second: samples(first.len(), random),
@@ -123,7 +131,7 @@ fn cut(whole: &Input, widened: Region, random: &mut Random) -> Input {
     }
 }
 
-fn smooth(setup: LoupeSetup, own: &mut Input, out: &mut [f32]) -> u32 {
+pub fn smooth(setup: LoupeSetup, own: &mut Input, out: &mut [f32]) -> u32 {
     restoration::loupe_smooth(
         setup,
         frame(own.frame),
@@ -137,13 +145,14 @@ fn smooth(setup: LoupeSetup, own: &mut Input, out: &mut [f32]) -> u32 {
 }
 
 /// The samples of a part of a region, plane by plane.
-fn samples_in(region: Region, planes: &[f32], part: Region) -> Vec<f32> {
-    let runs = picture::runs(original(region), original(part), (0, part.height));
-    runs.flat_map(|run| &planes[run]).copied().collect()
+pub fn samples_in(planes: u32, region: Region, samples: &[f32], part: Region) -> Vec<f32> {
+    let rows = (0, part.height);
+    let runs = picture::runs(planes, original(region), original(part), rows);
+    runs.flat_map(|run| &samples[run]).copied().collect()
 }
 
 /// A rectangle inside a region. Along each axis it reaches the region's end, has one sample, or any length.
-fn wanted(region: Region, random: &mut Random) -> Region {
+pub fn wanted(region: Region, random: &mut Random) -> Region {
     runs::part(region, 1, random, |room, random| {
         match random.within(0, 3) {
             0 => room,

@@ -1,4 +1,4 @@
-//! Compares the proved library with the original Rust on the same inputs.
+//! Compares the proved library with the original Rust on the same inputs, and grey pictures with the definition.
 //!
 //! `harness [--scale N]` prints a table of what was compared and fails if anything differs; N
 //! multiplies the random cases. `harness --some` compares at least a thousand cases of each row, or all
@@ -13,6 +13,7 @@ mod epf;
 mod expected;
 mod frame;
 mod gabor;
+mod grey;
 mod header;
 mod kinds;
 mod loupe;
@@ -79,7 +80,7 @@ fn subjects() -> Vec<&'static Subject> {
 
 /// What is compared, in the order of the table, and how many rows each section has: a row that is left
 /// out is a fault.
-const SECTIONS: [Section; 8] = [
+const SECTIONS: [Section; 9] = [
     (compare_subjects, 41),
     (header::compare, 23),
     (gabor::compare, 7),
@@ -88,6 +89,7 @@ const SECTIONS: [Section; 8] = [
     (runs::compare, 18),
     (rectangles::compare, 3),
     (loupe::compare, 2),
+    (grey::compare, 49),
 ];
 
 type Section = (fn(Amount, &mut Report), usize);

@@ -143,6 +143,8 @@ fn edge(settings: Edge) -> uncarried::Edge {
 
 #[cfg(test)]
 mod tests {
+    use restoration::PLANES;
+
     use super::*;
     use crate::{
         epf::textured,
@@ -195,7 +197,7 @@ mod tests {
             filter,
             preserve_outside: false,
         };
-        let planes = picture::planes(&textured(picture::set_len(&at), random));
+        let planes = picture::planes(&textured(picture::set_len(&at, PLANES), random));
         let edge_filter = (settings, frame, &grids[..]);
         let unchanged = oracle::filters(at, None, Some(edge_filter), planes.clone()).concat();
         let without = uncarried_filters(at, None, edge_filter, planes).concat();

@@ -3,6 +3,8 @@
 
 use std::fmt::Debug;
 
+use restoration::PLANES;
+
 use crate::{
     bits,
     picture::{self, Rows, compare_answer, is_written, samples},
@@ -17,13 +19,18 @@ pub trait Pass: Debug {
     /// Runs the proved library on the target and answers its number.
     fn ours(&self, rows: Rows, source: &[f32], target: &mut [f32]) -> u32;
 
+    fn planes(&self) -> u32 {
+        PLANES
+    }
+
     /// The block sigmas; none if the pass reads none.
     fn sigmas(&self) -> &[f32] {
         &[]
     }
 
-    /// The planes of the result, by the original or, for one row of the Gabor-like pass, by the rule.
-    fn original(&self, source: &[f32]) -> oracle::Planes;
+    /// The planes of the result, by the original; for one row of the Gabor-like pass by the rule, and for a
+    /// number of planes other than three by the definition (`grey::definition`).
+    fn original(&self, source: &[f32]) -> Vec<Vec<f32>>;
 
     /// The expected number, with sets of these lengths.
     fn number(&self, rows: Rows, sets: [usize; 2]) -> u32;
@@ -66,6 +73,7 @@ pub fn one_call(
     row: &mut Row,
 ) {
     let number = pass.number(rows, [source.len(), before.len()]);
+    row.of_planes(pass.planes(), number);
     if number != 0 {
         bits::sprinkle(&mut source, random);
         bits::sprinkle(&mut before, random);
@@ -140,8 +148,8 @@ mod tests {
             9
         }
 
-        fn original(&self, source: &[f32]) -> oracle::Planes {
-            picture::planes(source)
+        fn original(&self, source: &[f32]) -> Vec<Vec<f32>> {
+            picture::planes(source).into()
         }
 
         fn number(&self, _: Rows, _: [usize; 2]) -> u32 {

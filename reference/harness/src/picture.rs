@@ -1,6 +1,6 @@
 //! Pictures for the comparison of passes: their regions, their samples, and the rows that are written.
 
-use restoration::{CHANNELS, MAX_OFFSET, MAX_SIDE};
+use restoration::{CHANNELS, GREY_PLANES, MAX_OFFSET, MAX_SIDE, PLANES};
 
 use crate::{random::Random, report::Row};
 
@@ -22,6 +22,8 @@ const CORNERS: [i32; 8] = [
     MAX_OFFSET + 1,
     i32::MAX,
 ];
+/// Numbers of planes that no picture has.
+pub const WRONG_PLANES: [u32; 5] = [0, 2, 4, 255, u32::MAX];
 /// The longest side of a small picture.
 const SMALL: u32 = 3;
 
@@ -37,19 +39,26 @@ pub fn result(place: &oracle::Place) -> oracle::Region {
     }
 }
 
-/// Samples of all planes of the image.
-pub fn set_len(place: &oracle::Place) -> usize {
-    CHANNELS * place.image.width as usize * place.image.height as usize
+/// Samples of so many planes of the image.
+pub fn set_len(place: &oracle::Place, planes: u32) -> usize {
+    planes as usize * place.image.width as usize * place.image.height as usize
 }
 
-/// The planes of a set.
+/// The planes of a set, which has so many.
+pub fn split(set: &[f32], planes: u32) -> Vec<Vec<f32>> {
+    let plane = set.len() / planes as usize;
+    set.chunks_exact(plane).map(<[f32]>::to_vec).collect()
+}
+
+/// The planes of a set of three.
 pub fn planes(set: &[f32]) -> oracle::Planes {
     let plane = set.len() / CHANNELS;
     core::array::from_fn(|c| set[c * plane..][..plane].to_vec())
 }
 
-/// The range in a set of each row of a region inside the image, one plane after another.
+/// The range in a set of so many planes of each row of a region inside the image, one plane after another.
 pub fn runs(
+    planes: u32,
     image: oracle::Region,
     part: oracle::Region,
     (from, to): Rows,
@@ -58,7 +67,7 @@ pub fn runs(
     let left = part.left.abs_diff(image.left) as usize;
     let top = part.top.abs_diff(image.top) as usize;
     let columns = part.width as usize;
-    (0..CHANNELS)
+    (0..planes as usize)
         .flat_map(move |c| (from as usize..to as usize).map(move |row| c * height + top + row))
         .map(move |row| row * width + left..row * width + left + columns)
 }
@@ -74,19 +83,15 @@ pub fn is_written(place: &oracle::Place, (from, to): Rows, at: usize) -> bool {
 }
 
 /// Copies rows of the result to a set of the image.
-pub fn store(
-    place: &oracle::Place,
-    result_planes: &oracle::Planes,
-    rows: Rows,
-    target: &mut [f32],
-) {
+pub fn store(place: &oracle::Place, result_planes: &[Vec<f32>], rows: Rows, target: &mut [f32]) {
     let part = result(place);
     let columns = part.width as usize;
     let from = rows.0 as usize * columns..rows.1 as usize * columns;
     let given = result_planes
         .iter()
         .flat_map(|plane| plane[from.clone()].chunks_exact(columns));
-    for (run, row) in runs(place.image, part, rows).zip(given) {
+    let planes = result_planes.len() as u32;
+    for (run, row) in runs(planes, place.image, part, rows).zip(given) {
         target[run].copy_from_slice(row);
     }
 }
@@ -155,14 +160,28 @@ pub fn any_row(random: &mut Random) -> u32 {
     }
 }
 
-/// The length of a small image's set, or a wrong one.
-pub fn any_set_len(image: oracle::Region, random: &mut Random) -> usize {
+/// A number of planes, in one draw of eight out of range.
+pub fn any_planes(random: &mut Random) -> u32 {
+    match random.within(0, 7) {
+        0 => random.one_of(&WRONG_PLANES),
+        1..=3 => GREY_PLANES,
+        _ => PLANES,
+    }
+}
+
+/// The length of a small image's set of so many planes, or a wrong one, sometimes that of the other number.
+pub fn any_set_len(image: oracle::Region, planes: u32, random: &mut Random) -> usize {
     let plane = if image.width <= SMALL && image.height <= SMALL {
         image.width * image.height
     } else {
         SMALL * SMALL
     };
-    any_len(CHANNELS * plane as usize, random)
+    let planes = if random.once_in(12) || !matches!(planes, GREY_PLANES | PLANES) {
+        random.one_of(&[GREY_PLANES, PLANES])
+    } else {
+        planes
+    };
+    any_len((planes * plane) as usize, random)
 }
 
 /// The length, or a wrong one.

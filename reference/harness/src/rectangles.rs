@@ -5,12 +5,11 @@
 
 mod regroup;
 
-use restoration::{BLOCK, CHANNELS, MAX_ITERS, Region, Run, Settings};
+use restoration::{BLOCK, CHANNELS, MAX_ITERS, PLANES, Region, Run, Settings};
 
 use crate::{
     bits,
     epf::textured,
-    expected::runs::samples as count,
     picture::{self, agree, samples},
     random::Random,
     report::{Amount, Report, Row},
@@ -244,12 +243,13 @@ fn cut_picture(larger: &Input, filter: Region, random: &mut Random) -> Input {
     let rule = setup_rule(&setup);
     let mut first = textured(rule.set() as usize, random);
     let here = picture::runs(
+        PLANES,
         place(&setup).image,
         place(&setup).filter,
         (0, filter.height),
     );
     let from = place(&larger.setup).image;
-    let there = picture::runs(from, place(&setup).filter, (0, filter.height));
+    let there = picture::runs(PLANES, from, place(&setup).filter, (0, filter.height));
     for (here, there) in here.zip(there) {
         for (sample, &agreed) in first[here].iter_mut().zip(&larger.first[there]) {
             *sample = alike(agreed, random);
@@ -313,7 +313,7 @@ fn finished(input: &Input, random: &mut Random, left: &mut Row) -> Result<Vec<f3
     let mut state = State::new(answer.run, &copy);
     let mut kept = state.clone();
     let rule = setup_rule(&copy.setup);
-    let mut out = samples(count(rule.result()) as usize, random);
+    let mut out = samples(rule.out() as usize, random);
     bits::sprinkle(&mut out, random);
     let out_before = out.clone();
     let mut number = 0;

@@ -2,7 +2,7 @@
 
 use std::{fmt::Debug, time::Instant};
 
-use restoration::Refusal;
+use restoration::{GREY_PLANES, PLANES, Refusal};
 
 /// How many differences of a row are printed.
 const SHOWN: u64 = 5;
@@ -58,6 +58,8 @@ pub struct Row {
     pictures: u64,
     /// Cases with mixed groups. Those that are compared with an original are compared with the one without its carry.
     mixed: u64,
+    /// Cases that are refused with 9 and have a wrong number of planes.
+    planes: u64,
     /// The numbers that must be expected often enough.
     required: &'static [u32],
 }
@@ -73,6 +75,7 @@ impl Row {
             numbers: [0; NUMBERS],
             pictures: 0,
             mixed: 0,
+            planes: 0,
             required: &[],
         }
     }
@@ -109,6 +112,12 @@ impl Row {
         self.mixed += u64::from(mixed);
     }
 
+    /// A case with so many planes that this number is expected of.
+    pub fn of_planes(&mut self, planes: u32, number: u32) {
+        let fits = matches!(planes, GREY_PLANES | PLANES);
+        self.planes += u64::from(!fits && number == Refusal::OutOfRange.number());
+    }
+
     pub fn count(&mut self, number: u32) {
         self.cases += 1;
         self.numbers[number as usize] += 1;
@@ -124,6 +133,13 @@ impl Row {
         for &number in numbers {
             let seen = self.numbers[number as usize];
             self.at_least(&format!("times that {number} was expected"), seen, SEEN);
+        }
+    }
+
+    /// If all cases are compared, a thousand must be refused that have a wrong number of planes.
+    pub fn require_planes(&mut self, amount: Amount) {
+        if let Amount::All(_) = amount {
+            self.at_least("cases of a wrong number of planes", self.planes, SEEN);
         }
     }
 
@@ -165,7 +181,7 @@ impl Row {
         counts.join(", ")
     }
 
-    /// What a case is if it is not a call or a picture, and how many have mixed groups.
+    /// What a case is if it is not a call or a picture, and how many have mixed groups or wrong numbers of planes.
     fn about_cases(&self) -> String {
         let mut about = String::new();
         if self.pictures > 0 {
@@ -173,6 +189,9 @@ impl Row {
         }
         if self.mixed > 0 {
             about += &format!("; {} of mixed groups", self.mixed);
+        }
+        if self.planes > 0 {
+            about += &format!("; {} of a wrong number of planes", self.planes);
         }
         about
     }

@@ -4,7 +4,7 @@
 
 mod bands_left;
 mod calls;
-mod damage;
+pub mod damage;
 mod draw;
 mod input;
 mod instances;
@@ -14,7 +14,7 @@ mod scaled;
 
 use restoration::{MAX_BANDS, MAX_ITERS};
 
-use calls::Tally;
+pub use calls::Tally;
 use damage::MOST_SAMPLES;
 pub use draw::{
     Passes, around, band_height, defaults, part, passes, settings, with_passes, with_sides,
@@ -23,7 +23,6 @@ pub use input::{Input, State, counted, place, setup_rule};
 
 use crate::{
     bits,
-    expected::runs::samples as count,
     picture::{agree, samples},
     random::Random,
     report::{Amount, Report, Row},
@@ -83,7 +82,7 @@ fn mixed(random: &mut Random) -> Input {
 }
 
 /// A run from start to result; the result must be that of [`Input::original`].
-fn whole(mut input: Input, random: &mut Random, row: &mut Row, tally: &mut Tally) {
+pub fn whole(mut input: Input, random: &mut Random, row: &mut Row, tally: &mut Tally) {
     let original = input.original();
     row.of_groups(input.is_mixed());
     damaged_start(&input, random, tally);
@@ -147,7 +146,7 @@ fn interleaved_call(input: &Input, state: &State, random: &mut Random, tally: &m
         }
         _ => {
             // The length by the damaged record, or by the run's own record if that is too long.
-            let result = |s| count(setup_rule(s).result());
+            let result = |s| setup_rule(s).out();
             let mut len = result(&copy.run.setup);
             if len > MOST_SAMPLES {
                 len = result(&input.setup);

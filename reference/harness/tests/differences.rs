@@ -5,7 +5,7 @@ use std::panic::{AssertUnwindSafe, catch_unwind};
 
 use oracle::Place;
 use restoration::{
-    BLOCK, Blocks, CHANNELS, Encoding, EpfSettings, EpfStep, Frame, GaborSettings, Region,
+    BLOCK, Blocks, CHANNELS, Encoding, EpfSettings, EpfStep, Frame, GaborSettings, PLANES, Region,
     Settings, Setup,
 };
 
@@ -66,7 +66,9 @@ fn gabor(weights: [f32; 2]) -> GaborSettings {
 fn gabor_number(image: Region, filter: Region, (from, to): (u32, u32), samples: usize) -> u32 {
     let (source, mut target) = (vec![0.0; samples], vec![0.0; samples]);
     let settings = gabor(DEFAULT_WEIGHTS);
-    restoration::gabor_pass(image, filter, 1, settings, from, to, &source, &mut target)
+    restoration::gabor_pass(
+        image, filter, PLANES, 1, settings, from, to, &source, &mut target,
+    )
 }
 
 /// The first plane of a Gabor-like pass over a whole picture, by the original and by the library.
@@ -77,7 +79,9 @@ fn gabor_planes(width: u32, weights: [f32; 2], plane: &[f32]) -> [Vec<f32>; 2] {
     let mut ours = [plane; CHANNELS].concat();
     let source = ours.clone();
     let settings = gabor(weights);
-    let number = restoration::gabor_pass(image, image, 1, settings, 0, height, &source, &mut ours);
+    let number = restoration::gabor_pass(
+        image, image, PLANES, 1, settings, 0, height, &source, &mut ours,
+    );
     assert_eq!(number, 0);
     ours.truncate(plane.len());
     let [first, ..] = original;
@@ -117,6 +121,7 @@ fn step_number(filter: Region, step: u32) -> u32 {
     restoration::epf_pass(
         filter,
         filter,
+        PLANES,
         1,
         settings,
         &[1.0],
@@ -314,6 +319,7 @@ fn first_after(settings: EpfStep, image: Region, planes: &oracle::Planes) -> Vec
     let number = restoration::epf_pass(
         image,
         image,
+        PLANES,
         1,
         settings,
         &[2.0],
@@ -446,6 +452,7 @@ fn flags_that_are_neither_0_nor_1() {
         let given = restoration::gabor_pass(
             image,
             image,
+            PLANES,
             preserve_outside,
             weights,
             0,
@@ -454,6 +461,23 @@ fn flags_that_are_neither_0_nor_1() {
             &mut target,
         );
         assert_eq!(given, number);
+    }
+}
+
+/// The original always has three planes.
+#[test]
+fn one_plane_and_other_numbers() {
+    let image = sized(3, 1);
+    let [side, diagonal] = [0.5, 0.25];
+    let unread = [f32::NAN; 2];
+    let settings = GaborSettings::with_weights([[side, diagonal], unread, unread]);
+    let source = [0.0, 16.0, 0.0];
+    for (planes, number, expected) in [(1, 0, [4.0, 8.0, 4.0]), (2, 9, source), (3, 7, source)] {
+        let mut target = source;
+        let given = restoration::gabor_pass(
+            image, image, planes, 1, settings, 0, 1, &source, &mut target,
+        );
+        assert_eq!((given, target), (number, expected));
     }
 }
 
@@ -501,7 +525,9 @@ fn gabor_mirrors_at_the_filter_region() {
     let source = [plane; CHANNELS].concat();
     let mut target = [1.0; 6];
     let settings = gabor([0.5, 0.25]);
-    let number = restoration::gabor_pass(image, filter, 1, settings, 0, 2, &source, &mut target);
+    let number = restoration::gabor_pass(
+        image, filter, PLANES, 1, settings, 0, 2, &source, &mut target,
+    );
     assert_eq!((number, &target[..]), (0, &source[..]));
 }
 

@@ -10,9 +10,9 @@ use Rattle.refusals.proofs.Outcomes.{number-nonzero}
 use Rattle.refusals.specs.Numbers.{accepted, wrong_end}
 use Rattle.refusals.specs.Checks.{first_of}
 use Rattle.cut_file.specs.File.{sample_count, body_at}
-use Rattle.cut_file.specs.Read.{count_in, region_in, entry_checks}
+use Rattle.cut_file.specs.Read.{planes_in, count_in, region_in, entry_checks}
 use Rattle.cut_file.specs.Entry.{entry_number}
-use Rattle.cut_file.proofs.Laws.{Sampled, sampled, entry-accepted, entries-first, body-next}
+use Rattle.cut_file.proofs.Laws.{Sampled, sampled, entry-accepted, entries-first, body-next, planes-few}
 use Rattle.cut_file.proofs.check_entries.Invariants.{Checked}
 use Rattle.cut_file.proofs.check_entries.Goals as goal
 
@@ -32,17 +32,17 @@ all_left s count = let z : count - 0 ≡ count = omega arith in rw z
 at-end : (s : List ℕ) (count i : ℕ) → count ≤ i → entry_checks s i (count - i) ≡ entry_checks s i 0
 at-end s count i h = let z : count - i ≡ 0 = omega arith in rw z
 
-wrong-end : (s : List ℕ) (count i : ℕ) → count ≤ i → (length s ≡ body_at (region_in s) (count_in s) i → ⊥) → first_of (entry_checks s i (count - i)) ≡ wrong_end
+wrong-end : (s : List ℕ) (count i : ℕ) → count ≤ i → (length s ≡ body_at (planes_in s) (region_in s) (count_in s) i → ⊥) → first_of (entry_checks s i (count - i)) ≡ wrong_end
 unfolding entry_checks
-wrong-end s count i h n = rw (at-end s count i h, ne_eqb (length s) (body_at (region_in s) (count_in s) i) n)
+wrong-end s count i h n = rw (at-end s count i h, ne_eqb (length s) (body_at (planes_in s) (region_in s) (count_in s) i) n)
 
-right_end : (s : List ℕ) (count i : ℕ) → count ≤ i → length s ≡ body_at (region_in s) (count_in s) i → first_of (entry_checks s i (count - i)) ≡ accepted
+right_end : (s : List ℕ) (count i : ℕ) → count ≤ i → length s ≡ body_at (planes_in s) (region_in s) (count_in s) i → first_of (entry_checks s i (count - i)) ≡ accepted
 unfolding entry_checks
-right_end s count i h n = rw (at-end s count i h, eq-eqb (length s) (body_at (region_in s) (count_in s) i) n)
+right_end s count i h n = rw (at-end s count i h, eq-eqb (length s) (body_at (planes_in s) (region_in s) (count_in s) i) n)
 
 -- after the check of entry i, which has the number 0: its samples
-counted : (s : List ℕ) (i n : ℕ) → (0 ≡ entry_number s i) × (n ≡ sample_count (region_in s i)) → Sampled (region_in s i) n
-counted s i n e = sampled (region_in s i) n (entry-accepted s i (sym e.0)).region-fits e.1
+counted : (s : List ℕ) (i n : ℕ) → (0 ≡ entry_number s i) × (n ≡ sample_count (planes_in s) (region_in s i)) → Sampled (planes_in s) (region_in s i) n
+counted s i n e = sampled (planes_in s) (region_in s i) n (entry-accepted s i (sym e.0)).region-fits e.1
 
 pub loop-i-init : goal.loop-i-init
 unfolding body_at
@@ -69,8 +69,8 @@ loop-i-preserved c =
     let samples = counted _ _ _ c.in_ok-end.ensures in
     record {
       i-le = omega arith;
-      end_is = omega (arith, inv.end_is, samples.are, body-next (region_in file) (count_in file) c.loop-i.i);
-      end-le = omega (arith, inv.end-le, samples.le);
+      end_is = omega (arith, inv.end_is, samples.are, body-next (planes_in file) (region_in file) (count_in file) c.loop-i.i);
+      end-le = omega (arith, inv.end-le, samples.le, planes-few file);
       number_is = inv.number_is ∙ turn file c.args.count c.loop-i.i (omega arith) none;
     }
 
@@ -88,8 +88,8 @@ returns c =
 
 pub overflow_mul-end : goal.overflow_mul-end
 overflow_mul-end c =
-    omega (arith, (counted _ _ _ c.in_ok-end.ensures).le)
+    omega (arith, (counted _ _ _ c.in_ok-end.ensures).le, planes-few c.args.file.now)
 
 pub overflow_add-end : goal.overflow_add-end
 overflow_add-end c =
-    omega (arith, (counted _ _ _ c.in_ok-end.ensures).le, c.loop-i.invariant.end-le, c.requires.0)
+    omega (arith, (counted _ _ _ c.in_ok-end.ensures).le, planes-few c.args.file.now, c.loop-i.invariant.end-le, c.requires.0)

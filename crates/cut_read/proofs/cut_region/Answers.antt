@@ -23,4 +23,4 @@ returns-then-count-k c =
 pub returns : goal.returns
 returns c =
     let less : c.args.k < count_in c.args.file.now = rw c.in_ok-count.ensures.1 at c.if-count-k.false in
-    (sym (rectangle-there _ _ (sym c.in_ok-count.ensures.0) less), c.region_in.ensures)
+    (sym (rectangle-there _ _ (sym c.in_ok-count.ensures.0) less), (λ j. record { region = c.region_in.ensures j; planes = c.planes_in.ensures j }))

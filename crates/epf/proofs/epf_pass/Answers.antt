@@ -9,24 +9,24 @@ use Rattle.epf.proofs.Fits.{step_fits, band-fits, not-placed, layout-held, refus
 use Rattle.epf.proofs.epf_pass.Goals as goal
 
 pub returns-in_err-l : goal.returns-in_err-l
-returns-in_err-l c = not-placed _ _ _ _ _ _ _ _ _ _ _ c.in_err-l.ensures.0 c.from_residual.ensures.1
+returns-in_err-l c = not-placed _ _ _ _ _ _ _ _ _ _ _ _ c.in_err-l.ensures.0 c.from_residual.ensures.1
 
 pub check_pass-requires : goal.check_pass-requires
-check_pass-requires c = (layout-held c.args.image c.args.filter c.args.preserve_outside c.args.s c.args.sigmas.now c.args.from c.args.to c.args.src.now c.args.dst.now _ _ c.flag_set.ensures c.in_ok-l.ensures.0 c.in_ok-l.ensures.1).fits
+check_pass-requires c = (layout-held c.args.image c.args.filter c.args.planes c.args.preserve_outside c.args.s c.args.sigmas.now c.args.from c.args.to c.args.src.now c.args.dst.now _ _ c.flag_set.ensures c.in_ok-l.ensures.0 c.in_ok-l.ensures.1).fits
 
 pub returns-in_err-check_pass : goal.returns-in_err-check_pass
-returns-in_err-check_pass c = refused _ _ _ _ _ _ _ _ _ _ _ c.flag_set.ensures c.in_ok-l.ensures.0 c.in_ok-l.ensures.1 _ _ c.in_err-check_pass.ensures c.from_residual-in_err-check_pass.ensures.1
+returns-in_err-check_pass c = refused _ _ _ _ _ _ _ _ _ _ _ _ c.flag_set.ensures c.in_ok-l.ensures.0 c.in_ok-l.ensures.1 _ _ c.in_err-check_pass.ensures c.from_residual-in_err-check_pass.ensures.1
 
 pub epf_band-requires : goal.epf_band-requires
 epf_band-requires c =
-    let held = layout-held c.args.image c.args.filter c.args.preserve_outside c.args.s c.args.sigmas.now c.args.from c.args.to c.args.src.now c.args.dst.now _ _ c.flag_set.ensures c.in_ok-l.ensures.0 c.in_ok-l.ensures.1 in
-    let fits = step_fits 3 _ _ _ _ _ _ _ _ _ (sym c.in_ok-check_pass.ensures) in
+    let held = layout-held c.args.image c.args.filter c.args.planes c.args.preserve_outside c.args.s c.args.sigmas.now c.args.from c.args.to c.args.src.now c.args.dst.now _ _ c.flag_set.ensures c.in_ok-l.ensures.0 c.in_ok-l.ensures.1 in
+    let fits = step_fits _ _ _ _ _ _ _ _ _ _ (sym c.in_ok-check_pass.ensures) in
     let step = ap (λ (z : Step). z.step) c.from-settings.ensures in
     record {
-      band_fits = band-fits 3 _ _ _ _ _ _ _ (omega arith) held.fits fits;
+      band_fits = band-fits _ _ _ _ _ _ _ _ held.fits fits;
       region_fits = record {
         layout = held.fits;
-        planes-le = omega arith;
+        planes-le = fits.planes-le;
         set = fits.target;
         sigmas = fits.blocks;
         step-lt = omega (arith, fits.step-le, step);
@@ -37,5 +37,5 @@ epf_band-requires c =
 pub returns : goal.returns
 unfolding step_over
 returns c =
-    done _ _ _ _ _ _ _ _ _ _ _ c.flag_set.ensures c.in_ok-l.ensures.0 c.in_ok-l.ensures.1 c.in_ok-check_pass.ensures _
+    done _ _ _ _ _ _ _ _ _ _ _ _ c.flag_set.ensures c.in_ok-l.ensures.0 c.in_ok-l.ensures.1 c.in_ok-check_pass.ensures _
     (rw (c.clamp_to_zero.ensures.0, to_z-of_z (record { sfits = c.struct_told-1.given.1.0.1 }), c.from-settings.ensures) at c.epf_band.ensures)

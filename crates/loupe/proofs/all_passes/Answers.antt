@@ -12,4 +12,4 @@ unfolding after_passes
 loop-k-preserved c =
     let i = c.loop-k.invariant in
     let o = c.one_pass in
-    (o.auto.first ∙ i.0, o.auto.second ∙ i.1, rw add-one (o.ensures ∙ ap (after_pass 3) i.2))
+    (o.auto.first ∙ i.0, o.auto.second ∙ i.1, rw add-one (o.ensures ∙ ap (after_pass) i.2))

@@ -9,4 +9,4 @@ abbrev pub invariant-loop-k : goal.invariant-loop-k
 invariant-loop-k l = (length l.first ≡ length l.initial.first)
     × (length l.second ≡ length l.initial.second)
     × (◌≡◌ {A = State} (record { run = l.run; sigmas = l.sigmas; first = l.first; second = l.second })
-    (after_passes 3 l._k (record { run = l.initial.run; sigmas = l.sigmas; first = l.initial.first; second = l.initial.second })))
+    (after_passes l._k (record { run = l.initial.run; sigmas = l.sigmas; first = l.initial.first; second = l.initial.second })))

@@ -26,7 +26,7 @@ returns-in_err-widened c =
     let handed = handed_at (goal.at.returns-in_err-widened c).Start in
     let e = c.in_err-widened.field-0.0 in
     let r : number_of c.from_residual.result ≡ number e = search rules in
-    let both = answered-early 3 handed (number e) c.in_err-widened.ensures.0 (number-nonzero e) in
+    let both = answered-early handed (number e) c.in_err-widened.ensures.0 (number-nonzero e) in
     record { fact = rw r both.0; whole_equal = rw r both.1 }
 
 -- refused by the start
@@ -35,11 +35,11 @@ returns-in_err-run c =
     let handed = handed_at (goal.at.returns-in_err-run c).Start in
     let e = c.in_err-run.field-0.0 in
     let r : number_of c.from_residual-in_err-run.result ≡ number e = search rules in
-    let both = answered-start 3 handed (sym c.in_ok-widened.ensures.0) _ c.in_ok-widened.ensures.1 _ c.run_setup-setup.ensures _ c.in_err-run.ensures (number-nonzero e) in
+    let both = answered-start handed (sym c.in_ok-widened.ensures.0) _ c.in_ok-widened.ensures.1 _ c.run_setup-setup.ensures _ c.in_err-run.ensures (number-nonzero e) in
     record { fact = rw r both.0; whole_equal = rw r both.1 }
 
 pub returns : goal.returns
 returns c =
     let handed = handed_at (goal.at.returns c).Start in
-    let both = answered-accepted 3 handed (sym c.in_ok-widened.ensures.0) _ c.in_ok-widened.ensures.1 _ c.run_setup-setup.ensures _ c.in_ok-run.ensures refl _ c.pass_count-passes.ensures _ c.finish.ensures in
+    let both = answered-accepted handed (sym c.in_ok-widened.ensures.0) _ c.in_ok-widened.ensures.1 _ c.run_setup-setup.ensures _ c.in_ok-run.ensures refl _ c.pass_count-passes.ensures _ c.finish.ensures in
     record { fact = both.0; whole_equal = both.1 }

@@ -11,10 +11,10 @@ use Rattle.run_band.proofs.check.Goals.{Start}
 
 -- the rows of the table
 abbrev sets : Start → Check
-sets c = set_check 3 c.args.run.now.setup (length c.args.first.now) (length c.args.second.now)
+sets c = set_check c.args.run.now.setup (length c.args.first.now) (length c.args.second.now)
 
 abbrev sigmas : Start → Check
-sigmas c = sigma_check 3 c.args.run.now.setup (length c.args.sigmas.now)
+sigmas c = sigma_check c.args.run.now.setup (length c.args.sigmas.now)
 
 abbrev record_rows : Start → List Check
 record_rows c = open_checks c.args.run.now c.args.k

@@ -12,10 +12,10 @@ use Rattle.run_result.proofs.check.Goals.{Start}
 
 -- the rows of the table
 abbrev sets : Start → Check
-sets c = set_check 3 c.args.run.now.setup (length c.args.first.now) (length c.args.second.now)
+sets c = set_check c.args.run.now.setup (length c.args.first.now) (length c.args.second.now)
 
 abbrev slice : Start → Check
-slice c = slice_check 3 c.args.run.now.setup (length c.args.out.now)
+slice c = slice_check c.args.run.now.setup (length c.args.out.now)
 
 abbrev record_rows : Start → List Check
 record_rows c = finished_checks c.args.run.now

@@ -21,14 +21,14 @@ handed_at c = record {
 pub returns-in_err-check_picture : goal.returns-in_err-check_picture
 returns-in_err-check_picture c =
     let handed = handed_at (goal.at.returns-in_err-check_picture c).Start in
-    rw (refusal-answered _ _ c.from_residual.ensures.1) (refused 3 handed _ c.in_err-check_picture.ensures (number-nonzero _))
+    rw (refusal-answered _ _ c.from_residual.ensures.1) (refused handed _ c.in_err-check_picture.ensures (number-nonzero _))
 
 pub returns-in_err-block_sigmas : goal.returns-in_err-block_sigmas
 returns-in_err-block_sigmas c =
     let handed = handed_at (goal.at.returns-in_err-block_sigmas c).Start in
-    absurd (number-nonzero _ (sigmas-accepted 3 handed 0 c.in_ok-check_picture.ensures refl _ _ (c.in_err-block_sigmas.ensures ∙ same-sigmas handed _ _ c.epf_flag-on.ensures c.blocks_of.ensures)))
+    absurd (number-nonzero _ (sigmas-accepted handed 0 c.in_ok-check_picture.ensures refl _ _ (c.in_err-block_sigmas.ensures ∙ same-sigmas handed _ _ c.epf_flag-on.ensures c.blocks_of.ensures)))
 
 pub returns : goal.returns
 returns c =
     let handed = handed_at (goal.at.returns c).Start in
-    rw c.started.ensures (accepted 3 handed 0 c.in_ok-check_picture.ensures refl _ _ (c.in_ok-block_sigmas.ensures ∙ same-sigmas handed _ _ c.epf_flag-on.ensures c.blocks_of.ensures))
+    rw c.started.ensures (accepted handed 0 c.in_ok-check_picture.ensures refl _ _ (c.in_ok-block_sigmas.ensures ∙ same-sigmas handed _ _ c.epf_flag-on.ensures c.blocks_of.ensures))

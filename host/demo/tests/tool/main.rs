@@ -1,6 +1,7 @@
 //! The built tool, run in a temporary folder.
 
 mod cut;
+mod grey;
 mod refused;
 mod shown;
 mod smoothed;
@@ -81,9 +82,23 @@ impl Drop for Folder {
     }
 }
 
-/// A PFM file whose samples are these bits, little-endian.
+/// A PFM file of three planes whose samples are these bits, little-endian.
 fn pfm(width: usize, height: usize, samples: impl IntoIterator<Item = u32>) -> Vec<u8> {
-    let mut file = format!("PF\n{width} {height}\n-1.0\n").into_bytes();
+    pfm_with("PF", width, height, samples)
+}
+
+/// The same of one plane.
+fn grey_pfm(width: usize, height: usize, samples: impl IntoIterator<Item = u32>) -> Vec<u8> {
+    pfm_with("Pf", width, height, samples)
+}
+
+fn pfm_with(
+    magic: &str,
+    width: usize,
+    height: usize,
+    samples: impl IntoIterator<Item = u32>,
+) -> Vec<u8> {
+    let mut file = format!("{magic}\n{width} {height}\n-1.0\n").into_bytes();
     file.extend(samples.into_iter().flat_map(u32::to_le_bytes));
     file
 }

@@ -3,7 +3,7 @@
 
 use std::process::Output;
 
-use crate::{Folder, pfm};
+use crate::{Folder, grey_pfm, pfm};
 
 const PICTURE: &str = "picture.pfm";
 
@@ -39,6 +39,10 @@ fn sound() -> Vec<u8> {
     pfm(5, 4, 0..60)
 }
 
+fn sound_grey() -> Vec<u8> {
+    grey_pfm(5, 4, 0..20)
+}
+
 #[test]
 fn the_sound_file_is_accepted() {
     let folder = Folder::new("the_sound_file_is_accepted");
@@ -54,10 +58,11 @@ fn the_sound_file_is_accepted() {
 #[test]
 fn truncated_in_its_header() {
     let folder = Folder::new("truncated_in_its_header");
-    let file = sound();
-    let header = file.len() - 4 * 60;
-    for length in 0..header {
-        expect_file(&folder, &file[..length], ": ends inside its header");
+    for file in [sound(), sound_grey()] {
+        let header = file.iter().position(|byte| *byte == 0).unwrap();
+        for length in 0..header {
+            expect_file(&folder, &file[..length], ": ends inside its header");
+        }
     }
 }
 
@@ -73,6 +78,15 @@ fn truncated_in_its_data_or_too_long() {
     for more in [1, 2, 3, 4, 8, 240] {
         let file = [&file[..], &vec![0; more]].concat();
         expect_file(&folder, &file, ": has bytes after the 60 samples of 5 x 4");
+    }
+    let grey = sound_grey();
+    for (length, samples) in [(grey.len() - 1, 19), (grey.len() - 80, 0)] {
+        let what = format!(": has {samples} of the 20 samples of 5 x 4");
+        expect_file(&folder, &grey[..length], &what);
+    }
+    for more in [1, 4, 160] {
+        let file = [&grey[..], &vec![0; more]].concat();
+        expect_file(&folder, &file, ": has bytes after the 20 samples of 5 x 4");
     }
 }
 
@@ -96,20 +110,22 @@ fn sides_out_of_range() {
     for (width, height) in sides {
         let what = format!(" ({width} x {height}): {OUT_OF_RANGE}");
         // Data that is too short, and as long as one pixel needs.
-        let header = format!("PF\n{width} {height}\n-1.0\n");
-        expect_file(&folder, header.as_bytes(), &what);
-        expect_file(&folder, &[header.as_bytes(), &[0; 12]].concat(), &what);
+        for magic in ["PF", "Pf"] {
+            let header = format!("{magic}\n{width} {height}\n-1.0\n");
+            expect_file(&folder, header.as_bytes(), &what);
+            expect_file(&folder, &[header.as_bytes(), &[0; 12]].concat(), &what);
+        }
     }
     let what = format!(" (16385 x 1): {OUT_OF_RANGE}");
     expect_file(&folder, &pfm(16_385, 1, vec![0; 3 * 16_385]), &what);
 }
 
-const NOT_PFM: &str = ": not a PFM file: does not begin with PF";
+const NOT_PFM: &str = ": not a PFM file: does not begin with PF or Pf";
 const NOT_TEXT: &str = ": a word in the header is not plain text";
 const TOO_LONG: &str = ": a word in the header is longer than 64 bytes";
 
 /// Headers, each with what is wrong in it.
-const MISLABELLED: [(&[u8], &str); 17] = [
+const MISLABELLED: [(&[u8], &str); 18] = [
     (b"P6\n5 4\n255\n", NOT_PFM),
     (b"pf\n5 4\n-1.0\n", NOT_PFM),
     (b"PF5 4\n-1.0\n", NOT_PFM),
@@ -118,7 +134,11 @@ const MISLABELLED: [(&[u8], &str); 17] = [
     (b"\x89PNG\r\n\x1a\n\0\0\0\rIHDR", NOT_PFM),
     (b"\xFF\x0A\xFA\x7F", NOT_PFM),
     (b"garbage", NOT_PFM),
-    (b"Pf\n5 4\n-1.0\n", ": one plane (Pf), must be three (PF)"),
+    (b"Pf5 4\n-1.0\n", NOT_PFM),
+    (
+        b"Pf\n5 4\n-1.0\n",
+        ": has bytes after the 20 samples of 5 x 4",
+    ),
     (
         b"PF\nfive four\n-1.0\n",
         ": width 'five' is not a whole number",
@@ -228,7 +248,7 @@ fn values_out_of_form_or_range() {
 }
 
 /// Command lines that `--help` explains.
-const USAGE: [(&[&str], &str); 21] = [
+const USAGE: [(&[&str], &str); 23] = [
     (&[PICTURE, "--foo"], "unknown option '--foo'"),
     (&[PICTURE, "--foo=bar"], "unknown option '--foo'"),
     (&[PICTURE, "--=bar"], "unknown option '--'"),
@@ -260,6 +280,8 @@ const USAGE: [(&[&str], &str); 21] = [
         &[PICTURE, "--no-gabor=1"],
         "option '--no-gabor' takes no value",
     ),
+    (&["--grey=1"], "option '--grey' takes no value"),
+    (&[PICTURE, "--grey"], "--grey is for the built-in picture"),
     (&[PICTURE, "b.pfm"], "extra argument 'b.pfm'"),
     (&[PICTURE, "-"], "extra argument '-'"),
 ];

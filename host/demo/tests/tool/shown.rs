@@ -17,13 +17,28 @@ fn number_before(said: &str, line: &str, word: &str) -> usize {
 
 #[test]
 fn rectangles_are_the_whole_and_a_smaller_margin_leaves_seams() {
-    let folder = Folder::new("shown");
-    let output = folder.run(&["-o", "files"]);
+    shown("shown", &["-o", "files"], "768 x 512, three planes", 3);
+}
+
+#[test]
+fn the_same_of_a_grey_picture() {
+    let words = ["--grey", "-o", "files"];
+    shown("shown_grey", &words, "768 x 512, one plane", 1);
+}
+
+fn shown(test: &str, words: &[&str], sides: &str, planes: usize) {
+    let folder = Folder::new(test);
+    let output = folder.run(words);
     let said = String::from_utf8(output.stdout).unwrap();
     assert_eq!(output.status.code(), Some(0), "{said}");
     assert!(output.stderr.is_empty());
     assert!(said.lines().count() <= 12);
-    assert_eq!(number_before(&said, "compared", "samples"), 3 * 768 * 512);
+    assert!(
+        said.starts_with(&format!("picture     {sides}: ")),
+        "{said}"
+    );
+    let samples = planes * 768 * 512;
+    assert_eq!(number_before(&said, "compared", "samples"), samples);
     let compared: Vec<_> = said
         .lines()
         .filter(|line| line.contains("bit by bit"))

@@ -106,8 +106,9 @@ fn what_is_wrong_with_standard_input() {
         assert_eq!(folder.names(), [PICTURE]);
     };
     expect(b"", ": ends inside its header");
-    expect(b"P6\n", ": not a PFM file: does not begin with PF");
+    expect(b"P6\n", ": not a PFM file: does not begin with PF or Pf");
     expect(b"PF\n1 1\n-1.0\n", ": has 0 of the 3 samples of 1 x 1");
+    expect(b"Pf\n1 1\n-1.0\n", ": has 0 of the 1 samples of 1 x 1");
     let refused = " (0 x 1): a side, area, left or top is out of range (refusal 4)";
     expect(b"PF\n0 1\n-1.0\n", refused);
     let folder_as_input = folder.run_on(".", &["-"]);

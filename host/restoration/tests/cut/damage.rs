@@ -2,20 +2,28 @@
 
 use restoration::Region;
 
-use crate::{expected::written, random::Random};
+use crate::{
+    expected::written,
+    random::Random,
+    rectangles::{PLANES, sample_count},
+};
+
+/// Of three planes, of one, and of no cut file.
+const MARKERS: [&[u8]; 3] = [b"KCUT", b"KCU1", b"KCU3"];
 
 /// Where the table begins, and the length of an entry.
 const TABLE: usize = 6;
 const ENTRY: usize = 16;
 
-/// 4096 × 4096 samples: the largest body, 201,326,592 bytes.
+/// 4096 × 4096 samples: the largest body, 201,326,592 bytes in three planes and 67,108,864 in one.
 const LARGEST: Region = Region::with_size(4096, 4096);
 
 /// A valid file.
 fn valid(random: &mut Random) -> Vec<u8> {
     let rectangles = random.rectangles();
-    let samples = rectangles.iter().map(|r| r.sample_count()).sum();
-    written(&rectangles, &random.patterns(samples))
+    let planes = random.one_of(&PLANES);
+    let samples = sample_count(&rectangles, planes);
+    written(&rectangles, planes, &random.patterns(samples))
 }
 
 /// A file that is damaged up to three times. Sometimes it stays valid.
@@ -34,7 +42,7 @@ pub fn file(random: &mut Random) -> Vec<u8> {
 }
 
 fn damage(file: &mut Vec<u8>, random: &mut Random) {
-    match random.below(10) {
+    match random.below(11) {
         0 => file.truncate(random.below(file.len() + 1)),
         1 => file.truncate(random.below(file.len().min(100) + 1)),
         2 => file.extend(vec![random.next() as u8; 1 + random.below(20)]),
@@ -44,6 +52,7 @@ fn damage(file: &mut Vec<u8>, random: &mut Random) {
         6 => field(file, random, 0, 4),
         7 => field(file, random, 4, 4),
         8 => field(file, random, 8, 4),
+        9 => put(file, 0, random.one_of(&MARKERS)),
         _ => side(file, random),
     }
 }
@@ -153,18 +162,22 @@ fn past_32_bits(random: &mut Random) -> Vec<u8> {
     let mut rectangles = vec![LARGEST; largest];
     rectangles.extend((0..random.below(10)).map(|_| random.rectangle()));
     let samples = random.one_of(&[0, 3, 30]);
-    written(&rectangles, &random.patterns(samples))
+    written(&rectangles, 3, &random.patterns(samples))
 }
 
 /// A file whose offsets are right and whose last body ends 2^32 bytes past the end of the file: a reader that
-/// keeps 32 bits accepts it. The 23 entries end at byte 374, and 21 of the largest bodies have 4,227,858,432
+/// keeps 32 bits accepts it. In one plane, 64 of the largest bodies have 2^32 bytes. In three, the 23 entries end at byte 374, and 21 of the largest bodies have 4,227,858,432
 /// bytes; the other two bodies have the sides with which the sum is 2^32 plus the file's length.
 fn end_past_32_bits(random: &mut Random) -> Vec<u8> {
     let more = random.below(100) as u32;
     let mut rectangles = vec![LARGEST; 21];
     rectangles.push(Region::with_size(4096, 1365));
     rectangles.push(Region::with_size(1366 + more, 1));
-    let mut file = written(&rectangles, &random.patterns(2 + 3 * more as usize));
+    let mut file = if random.once_in(2) {
+        written(&[LARGEST; 64], 1, &[])
+    } else {
+        written(&rectangles, 3, &random.patterns(2 + 3 * more as usize))
+    };
     if random.once_in(4) {
         file.push(0);
     }
@@ -177,7 +190,7 @@ fn noise(random: &mut Random) -> Vec<u8> {
         .map(|_| random.next() as u8)
         .collect();
     if random.once_in(2) {
-        put(&mut file, 0, b"KCUT");
+        put(&mut file, 0, random.one_of(&MARKERS));
         put(&mut file, 4, &[random.next() as u8 % 66, 0]);
     }
     file

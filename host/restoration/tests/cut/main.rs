@@ -21,13 +21,13 @@ use report::{Amount, Function, Report, Section};
 const COUNT: Function = Function::new("cut_count", &[0, 7, 12, 13, 14]);
 const REGION: Function = Function::new("cut_region", &[0, 7, 9, 12, 13, 14]);
 const READ: Function = Function::new("read_cut", &[0, 7, 9, 12, 13, 14]);
-const LENGTH: Function = Function::new("cut_length", &[0, 4, 7, 12]);
-const WRITE: Function = Function::new("write_cut", &[0, 4, 7, 12]);
+const LENGTH: Function = Function::new("cut_length", &[0, 4, 7, 9, 12]);
+const WRITE: Function = Function::new("write_cut", &[0, 4, 7, 9, 12]);
 
 fn main() -> ExitCode {
     let functions = [COUNT, REGION, READ, LENGTH, WRITE];
     let mut report = Report::new("cut files", &functions, Amount::of_arguments());
-    let sections: [Section; 6] = [
+    let sections: [Section; 7] = [
         (
             "files of 1 to 64 rectangles",
             reading::WHOLE,
@@ -46,6 +46,7 @@ fn main() -> ExitCode {
             limits::PAST as u64,
             limits::longest,
         ),
+        ("any number of planes", limits::SLICES, limits::any_planes),
     ];
     for section in sections {
         report.section(section);

@@ -4,6 +4,15 @@ use restoration::{MAX_OFFSET, Region};
 
 use crate::random::Random;
 
+/// The numbers of planes that a file may have.
+pub const PLANES: [u32; 2] = [1, 3];
+
+/// How many samples these rectangles have in so many planes.
+pub fn sample_count(rectangles: &[Region], planes: u32) -> usize {
+    let areas: usize = rectangles.iter().map(|r| r.area()).sum();
+    planes as usize * areas
+}
+
 impl Random {
     /// Up to 64 small rectangles anywhere.
     pub fn rectangles(&mut self) -> Vec<Region> {

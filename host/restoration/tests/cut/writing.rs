@@ -2,12 +2,17 @@
 
 use restoration::{CutTable, MAX_RECTANGLES, Region, cut_length, write_cut, write_cut_samples};
 
-use crate::{LENGTH, WRITE, expected, random::Random, report::Report};
+use crate::{
+    LENGTH, WRITE, expected,
+    random::Random,
+    rectangles::{PLANES, sample_count},
+    report::Report,
+};
 
 pub const TABLES: u32 = 200_000;
 
 /// Tables of every kind with slices of right and wrong lengths. Several things may be wrong at once, so that
-/// the order of the checks is tested: 12, 4, 7.
+/// the order of the checks is tested: 12, 4, 7, 9.
 pub fn tables(report: &mut Report) {
     let mut random = Random::new(6);
     for _ in 0..TABLES {
@@ -16,7 +21,8 @@ pub fn tables(report: &mut Report) {
         }
         let rectangles = random.rectangles();
         let mut table = CutTable::new(&rectangles);
-        let mut samples: usize = rectangles.iter().map(|r| r.sample_count()).sum();
+        let mut planes = random.one_of(&PLANES);
+        let mut samples = sample_count(&rectangles, planes);
         let mut length = 6 + 16 * rectangles.len() + 4 * samples;
         if random.once_in(8) {
             // Regions past the count are ignored.
@@ -38,9 +44,13 @@ pub fn tables(report: &mut Report) {
         if random.once_in(8) {
             length = random.one_of(&[0, 6, length - 1, length + 1, length + 16, length + 12]);
         }
+        if random.once_in(8) {
+            // The slices keep the lengths of one plane or three.
+            planes = random.one_of(&[0, 1, 2, 2, 3, 4, 256 + planes, u32::MAX]);
+        }
         let samples = random.patterns(samples);
         let file = (0..length).map(|_| random.next() as u8).collect();
-        compare(report, &table, &samples, file);
+        compare(report, &table, planes, &samples, file);
     }
 }
 
@@ -73,34 +83,40 @@ fn random_bad(random: &mut Random) -> Region {
 }
 
 /// Compares the length of a table's file, and the bytes after writing to them, which it returns.
-pub fn compare(report: &mut Report, table: &CutTable, samples: &[u32], file: Vec<u8>) -> Vec<u8> {
+pub fn compare(
+    report: &mut Report,
+    table: &CutTable,
+    planes: u32,
+    samples: &[u32],
+    file: Vec<u8>,
+) -> Vec<u8> {
     report.input();
     let shown = || {
         let regions = &table.regions[..MAX_RECTANGLES.min(table.count as usize)];
         let (samples, bytes) = (samples.len(), file.len());
         format!(
-            "{} {regions:?}, {samples} samples, {bytes} bytes",
+            "{} {regions:?}, {planes} planes, {samples} samples, {bytes} bytes",
             table.count
         )
     };
-    let expected = expected::length(table);
+    let expected = expected::length(table, planes);
     report.call(
         LENGTH,
         expected.number,
-        (cut_length(*table), expected),
+        (cut_length(*table, planes), expected),
         shown,
     );
 
     let mut left = file.clone();
-    let number = expected::write(table, samples, &mut left);
+    let number = expected::write(table, planes, samples, &mut left);
     let mut given = file.clone();
-    let answer = write_cut(*table, samples, &mut given);
+    let answer = write_cut(*table, planes, samples, &mut given);
     report.call(WRITE, number, ((answer, &given), (number, &left)), shown);
 
     // The same from floats.
     let floats: Vec<f32> = samples.iter().copied().map(f32::from_bits).collect();
     let mut given = file.clone();
-    let answer = write_cut_samples(*table, &floats, &mut given);
+    let answer = write_cut_samples(*table, planes, &floats, &mut given);
     report.call(WRITE, number, ((answer, &given), (number, &left)), shown);
     given
 }

@@ -3,8 +3,8 @@
 use core::{fmt, hint::black_box, ops::Range};
 
 use restoration::{
-    CHANNELS, Frame, Loupe, LoupeSetup, Region, Setup, accepted, advance, band, loupe_smooth,
-    loupe_widened, result, start,
+    Frame, Loupe, LoupeSetup, Region, Setup, accepted, advance, band, loupe_smooth, loupe_widened,
+    result, start,
 };
 
 use crate::{
@@ -65,6 +65,11 @@ impl Call {
         }
     }
 
+    /// The expected number.
+    pub fn expected(&self) -> u32 {
+        self.number(self.lengths())
+    }
+
     /// The expected number with these lengths.
     fn number(&self, lengths: Lengths) -> u32 {
         expected::smooth_number(self.setup, self.frame, &self.table, lengths)
@@ -73,6 +78,7 @@ impl Call {
     /// Makes the buffers what an accepted call leaves (17.4), by a run with bands of this height.
     fn run(&mut self, widened: Region, band_height: u32) {
         let setup = Setup {
+            planes: self.setup.planes,
             settings: self.setup.settings,
             band_height,
             ..Setup::whole(widened)
@@ -90,7 +96,7 @@ impl Call {
             }
             run = advance(run).value().expect("an accepted advance");
         }
-        let mut whole = vec![0.0; widened.sample_count()];
+        let mut whole = vec![0.0; widened.samples_in(setup.planes)];
         accepted(result(run, first, second, &mut whole)).expect("a finished run");
         self.out = part(widened, &whole, self.setup.wanted);
     }
@@ -142,28 +148,29 @@ pub fn same(a: &[f32], b: &[f32], nans: Nans) -> bool {
             .all(|(a, b)| a.to_bits() == b.to_bits() || alike(*a, *b))
 }
 
-/// The samples of a part of a region, plane by plane.
-pub fn part(region: Region, planes: &[f32], part: Region) -> Vec<f32> {
-    rows(region, part)
-        .flat_map(|row| &planes[row])
+/// The samples of a part of a region, plane by plane, from as many planes as there are.
+pub fn part(region: Region, samples: &[f32], part: Region) -> Vec<f32> {
+    rows(region, samples.len(), part)
+        .flat_map(|row| &samples[row])
         .copied()
         .collect()
 }
 
 /// Lays the samples of a part into the planes of a region.
-pub fn lay(region: Region, planes: &mut [f32], part: Region, samples: &[f32]) {
-    for (row, given) in rows(region, part).zip(samples.chunks_exact(part.width as usize)) {
-        planes[row].copy_from_slice(given);
+pub fn lay(region: Region, samples: &mut [f32], part: Region, given: &[f32]) {
+    let rows = rows(region, samples.len(), part);
+    for (row, given) in rows.zip(given.chunks_exact(part.width as usize)) {
+        samples[row].copy_from_slice(given);
     }
 }
 
-/// Where each row of a part of a region lies in its planes.
-fn rows(region: Region, part: Region) -> impl Iterator<Item = Range<usize>> {
+/// Where each row of a part of a region lies in its planes, which have so many samples together.
+fn rows(region: Region, samples: usize, part: Region) -> impl Iterator<Item = Range<usize>> {
     let (width, height) = (region.width as usize, region.height as usize);
     let left = part.left.abs_diff(region.left) as usize;
     let top = part.top.abs_diff(region.top) as usize;
-    let rows = (0..CHANNELS).flat_map(move |c| {
-        (0..part.height as usize).map(move |row| (c * height + top + row) * width + left)
+    let rows = (0..samples / (width * height)).flat_map(move |plane| {
+        (0..part.height as usize).map(move |row| (plane * height + top + row) * width + left)
     });
     rows.map(move |start| start..start + part.width as usize)
 }
@@ -180,7 +187,7 @@ pub fn compare_widened(report: &mut Report, setup: LoupeSetup) {
 /// Compares a call. If it is accepted, all buffers must be those of a run over the widened rectangle, and the
 /// answer is what it wrote to `out`; if it is refused, every bit must stay.
 pub fn compare(report: &mut Report, call: &Call, band_height: u32) -> Option<Vec<f32>> {
-    let number = call.number(call.lengths());
+    let number = call.expected();
     let (mut given, mut expected) = (call.clone(), call.clone());
     let answer = given.smooth();
     let nans = if number == 0 {
@@ -211,6 +218,7 @@ pub fn compare_loupe(report: &mut Report, call: &Call, out: Option<&[f32]>) {
 
     let loupe = Loupe {
         whole: call.setup.whole,
+        planes: call.setup.planes,
         settings: call.setup.settings,
         frame: call.frame,
         table: &call.table,

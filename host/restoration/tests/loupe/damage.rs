@@ -1,22 +1,27 @@
 //! Calls with one to three wrong arguments: which number is given, and that a refused call leaves every bit.
 
+use core::iter::repeat_n;
+
 use restoration::{Frame, Region, Settings, TABLE_ENTRY};
 
 use crate::{
     calls::{Call, compare, compare_loupe, compare_widened},
     expected,
-    pictures::{Picture, any_passes, noise},
+    pictures::{KINDS, Picture, any_passes, noise},
     random::Random,
     rectangles::inside,
     report::Report,
 };
 
-const PICTURES: u32 = 5_000;
+/// Pictures of each kind.
+const PICTURES: usize = 5_000;
 /// Calls for a rectangle of each.
-const CALLS: u32 = 20;
-pub const INPUTS: u64 = PICTURES as u64 * CALLS as u64;
+const CALLS: usize = 20;
+pub const INPUTS: u64 = (KINDS.len() * PICTURES * CALLS) as u64;
 /// Sides of pictures.
 const SIDE: usize = 30;
+/// How often a wrong number of planes must be given with each other number that is expected then.
+const LEAST: u64 = 500;
 
 const STARTS: [i32; 8] = [
     i32::MIN,
@@ -38,15 +43,21 @@ const AREAS: [(u32, u32); 5] = [
 ];
 /// Offsets that are multiples of 8 and others, into other groups and past every frame.
 const MOVES: [i32; 10] = [-8, 8, 16, 40, 1_024, 16_384, -3, 1, 4, -1_024];
+/// Numbers of planes, most of which are wrong.
+const PLANES: [u32; 8] = [0, 1, 2, 3, 4, 257, 1 << 31, u32::MAX];
 /// No buffer is made longer than this to fit a setup with wrong regions.
 const LONGEST: i128 = 1 << 16;
 
 pub fn compare_damaged(report: &mut Report) {
     let mut random = Random::new(4);
-    for _ in 0..PICTURES {
+    let mut wrong_planes = [0; 16];
+    for planes in KINDS
+        .into_iter()
+        .flat_map(|planes| repeat_n(planes, PICTURES))
+    {
         let mut side = || 1 + random.below(SIDE) as u32;
         let sides = (side(), side());
-        let picture = Picture::new(any_passes(&mut random), sides, &mut random);
+        let picture = Picture::new(planes, any_passes(&mut random), sides, &mut random);
         if !report.takes() {
             continue;
         }
@@ -56,10 +67,26 @@ pub fn compare_damaged(report: &mut Report) {
             report.input();
             let mut call = valid.clone();
             damage(&mut call, &mut random);
+            if !KINDS.contains(&call.setup.planes) {
+                wrong_planes[call.expected() as usize] += 1;
+            }
             compare_widened(report, call.setup);
             let out = compare(report, &call, 64);
             compare_loupe(report, &call, out.as_deref());
         }
+    }
+    finish(report, &wrong_planes);
+}
+
+/// Prints how often calls with a wrong number of planes are expected to give each number, and requires each that they
+/// can give.
+fn finish(report: &mut Report, wrong_planes: &[u64]) {
+    let counts = [4, 15, 6, 7, 8, 9].map(|number| (number, wrong_planes[number]));
+    let shown = counts.map(|(number, count)| format!("{number}: {count}"));
+    println!("  with a wrong number of planes {}", shown.join(", "));
+    for (number, count) in counts {
+        let what = format!("{number} with a wrong number of planes");
+        report.require(&what, count, LEAST);
     }
 }
 
@@ -68,7 +95,7 @@ pub fn compare_damaged(report: &mut Report) {
 fn damage(call: &mut Call, random: &mut Random) {
     let lengths_fit = random.once_in(2);
     for _ in 0..1 + random.below(3) {
-        match random.below(13) {
+        match random.below(14) {
             0 => region(&mut call.setup.whole, random),
             1 => region(&mut call.setup.wanted, random),
             2 => outside(call, random),
@@ -78,14 +105,10 @@ fn damage(call: &mut Call, random: &mut Random) {
             7 => table(&mut call.table, random),
             8 | 9 => narrow(call, random),
             10 => resize(&mut call.grids, random),
+            11 => call.setup.planes = random.one_of(&PLANES),
             _ if lengths_fit => {}
             _ => {
-                let slices = [
-                    &mut call.first,
-                    &mut call.second,
-                    &mut call.sigmas,
-                    &mut call.out,
-                ];
+                let slices = written(call);
                 let at = random.below(slices.len());
                 resize(slices.into_iter().nth(at).expect("one of four"), random);
             }
@@ -94,15 +117,20 @@ fn damage(call: &mut Call, random: &mut Random) {
     if lengths_fit {
         fit(call, random);
     }
-    for slice in [
+    for slice in written(call) {
+        sprinkle(slice, random);
+    }
+    sprinkle(&mut call.grids, random);
+}
+
+/// The buffers that an accepted call writes.
+fn written(call: &mut Call) -> [&mut Vec<f32>; 4] {
+    [
         &mut call.first,
         &mut call.second,
         &mut call.sigmas,
         &mut call.out,
-    ] {
-        sprinkle(slice, random);
-    }
-    sprinkle(&mut call.grids, random);
+    ]
 }
 
 fn region(r: &mut Region, random: &mut Random) {
@@ -203,13 +231,8 @@ fn resize(slice: &mut Vec<f32>, random: &mut Random) {
 /// Makes the lengths those that the setup requires.
 fn fit(call: &mut Call, random: &mut Random) {
     let [sets, sigmas, out] = expected::required_lengths(call.setup);
-    let slices = [
-        &mut call.first,
-        &mut call.second,
-        &mut call.sigmas,
-        &mut call.out,
-    ];
-    for (slice, length) in slices.into_iter().zip([sets, sets, sigmas, out]) {
+    let lengths = [sets, sets, sigmas, out];
+    for (slice, length) in written(call).into_iter().zip(lengths) {
         if let Some(length) = length.filter(|length| (0..LONGEST).contains(length)) {
             let more = (length as usize).saturating_sub(slice.len());
             slice.truncate(length as usize);

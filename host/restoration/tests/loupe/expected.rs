@@ -25,9 +25,9 @@ impl Rectangle {
         [0, 1].map(|axis| self.end[axis] - self.start[axis])
     }
 
-    /// Samples of three planes.
-    fn samples(self) -> i128 {
-        3 * self.sides().iter().product::<i128>()
+    /// Samples of one plane.
+    fn area(self) -> i128 {
+        self.sides().iter().product()
     }
 
     /// The limits of a region (4.1) whose sides are at least `least`.
@@ -35,7 +35,7 @@ impl Rectangle {
         let offset = |x: &i128| x.abs() <= 1_048_576;
         let side = |x: &i128| (least..=16_384).contains(x);
         let sides = self.sides();
-        self.start.iter().all(offset) && sides.iter().all(side) && sides[0] * sides[1] <= 16_777_216
+        self.start.iter().all(offset) && sides.iter().all(side) && self.area() <= 16_777_216
     }
 
     fn is_empty(self) -> bool {
@@ -94,6 +94,8 @@ fn iterations_in_range(epf: EpfSettings) -> bool {
 struct Setup {
     whole: Rectangle,
     wanted: Rectangle,
+    /// The number of planes, if it is one of those that there are.
+    planes: Option<i128>,
     settings: Settings,
 }
 
@@ -102,6 +104,7 @@ impl Setup {
         Self {
             whole: Rectangle::new(setup.whole),
             wanted: Rectangle::new(setup.wanted),
+            planes: [1, 3].into_iter().find(|n| *n == i128::from(setup.planes)),
             settings: setup.settings,
         }
     }
@@ -123,6 +126,16 @@ impl Setup {
         margin(self.settings).map(|margin| widened(self.whole, self.wanted, margin))
     }
 
+    /// The length of `out`, if the number of planes is one of those that there are.
+    fn out(&self) -> Option<i128> {
+        Some(self.planes? * self.wanted.area())
+    }
+
+    /// The length of both sets, if that is so and the settings that decide the margin are in range.
+    fn sets(&self) -> Option<i128> {
+        Some(self.planes? * self.widened()?.area())
+    }
+
     /// The length of the block sigmas, if the settings that it needs are in range.
     fn sigmas(&self) -> Option<i128> {
         match self.settings.epf.iters {
@@ -138,8 +151,7 @@ impl Setup {
 /// passed over.
 pub fn required_lengths(setup: LoupeSetup) -> [Option<i128>; 3] {
     let setup = Setup::new(setup);
-    let sets = setup.widened().map(Rectangle::samples);
-    [sets, setup.sigmas(), Some(setup.wanted.samples())]
+    [setup.sets(), setup.sigmas(), setup.out()]
 }
 
 /// The lengths of the slices of floats that a call passes.
@@ -164,7 +176,7 @@ pub fn widened_answer(setup: LoupeSetup) -> RegionAnswer {
     if setup.off_blocks() {
         return RegionAnswer::refused(6);
     }
-    let Some(widened) = setup.widened() else {
+    let (Some(widened), Some(_)) = (setup.widened(), setup.planes) else {
         return RegionAnswer::refused(9);
     };
     assert!(widened.within_limits(1), "17.2: within 4.1");
@@ -257,16 +269,16 @@ pub fn smooth_number(setup: LoupeSetup, frame: Frame, table: &[u32], given: Leng
     let (epf, gabor) = (setup.settings.epf, setup.settings.gabor);
     let groups = groups(frame);
     let entries = entries(groups, table);
-    let widened = setup.widened();
-    let rows: [(u32, &dyn Fn() -> bool); 14] = [
+    let rows: [(u32, &dyn Fn() -> bool); 15] = [
         (4, &|| setup.outside_limits()),
         (4, &|| !frame_sides_in_limits(frame)),
         (4, &|| entries.is_some_and(grid_side_outside_limits)),
         (15, &|| setup.wanted_outside()),
         (6, &|| setup.off_blocks()),
-        (7, &|| given.out != setup.wanted.samples()),
+        (7, &|| setup.out().is_some_and(|count| given.out != count)),
         (7, &|| {
-            widened.is_some_and(|r| [given.first, given.second] != [r.samples(); 2])
+            let differ = |count| [given.first, given.second] != [count; 2];
+            setup.sets().is_some_and(differ)
         }),
         (7, &|| groups.is_some() && entries.is_none()),
         (7, &|| {
@@ -278,10 +290,11 @@ pub fn smooth_number(setup: LoupeSetup, frame: Frame, table: &[u32], given: Leng
         }),
         (8, &|| {
             epf.iters > 0
-                && matches!((widened, groups, entries), (Some(r), Some(groups), Some(entries))
+                && matches!((setup.widened(), groups, entries), (Some(r), Some(groups), Some(entries))
                     if not_held(r, groups, entries))
         }),
         (9, &|| !iterations_in_range(epf) || gabor.enabled > 1),
+        (9, &|| setup.planes.is_none()),
         (9, &|| !frame_settings_in_range(frame)),
         (9, &|| entries.is_some_and(presence_out_of_range)),
     ];

@@ -5,9 +5,9 @@ use restoration::{MAX_OFFSET, Region};
 use crate::{
     LOUPE,
     calls::{Nans, compare, same},
-    pictures::{PASSES, Picture},
+    pictures::{KINDS, PASSES, Picture},
     random::Random,
-    rectangles::{compare_rectangle, finish, inside},
+    rectangles::{compare_rectangle, finish, inside, kinds_and_passes},
     report::Report,
     tally::Tally,
 };
@@ -20,8 +20,9 @@ const RECTANGLES: u32 = 4;
 /// Sides of the largest area.
 const LARGEST: [(u32, u32); 2] = [(16_384, 1_024), (4_096, 4_096)];
 
-pub const CORNER_PICTURES: u64 = (OFFSETS.len().pow(2) * SIDES.len()) as u64 * PASSES as u64;
-pub const LARGEST_PICTURES: u64 = LARGEST.len() as u64;
+pub const CORNER_PICTURES: u64 =
+    (OFFSETS.len().pow(2) * KINDS.len() * PASSES as usize * SIDES.len()) as u64;
+pub const LARGEST_PICTURES: u64 = (LARGEST.len() * KINDS.len()) as u64;
 /// Rectangles of each picture: those at its corners, and the random ones.
 const EACH: u64 = 4 + RECTANGLES as u64;
 
@@ -34,8 +35,10 @@ pub fn corners(report: &mut Report) {
         .into_iter()
         .flat_map(|left| OFFSETS.map(|top| (left, top)))
     {
-        for (passes, sides) in (0..PASSES).flat_map(|passes| SIDES.map(|sides| (passes, sides))) {
-            let mut picture = Picture::new(passes, sides, &mut random);
+        for ((planes, passes), sides) in
+            kinds_and_passes().flat_map(|kind| SIDES.map(|sides| (kind, sides)))
+        {
+            let mut picture = Picture::new(planes, passes, sides, &mut random);
             if !report.takes() {
                 continue;
             }
@@ -60,16 +63,19 @@ pub fn corners(report: &mut Report) {
 pub fn largest(report: &mut Report) {
     let mut random = Random::new(6);
     let mut tally = Tally::default();
-    for sides in LARGEST {
+    for (planes, sides) in KINDS
+        .into_iter()
+        .flat_map(|planes| LARGEST.map(|sides| (planes, sides)))
+    {
         report.input();
-        let picture = Picture::new(PASSES - 1, sides, &mut random);
+        let picture = Picture::new(planes, PASSES - 1, sides, &mut random);
         let whole = compare_picture(report, &picture, &mut random, &mut tally);
         let shown = picture
             .loupe()
-            .smooth(picture.whole, |_| picture.planes.clone());
+            .smooth(picture.whole, |_| picture.samples.clone());
         let agrees = shown.map(|shown| same(&shown, &whole, Nans::Alike));
         report.call(LOUPE, 0, (agrees, Ok(true)), || {
-            format!("a whole picture of {sides:?}")
+            format!("a whole picture of {planes} planes of {sides:?}")
         });
     }
     finish(&tally, report, LARGEST_PICTURES * EACH);

@@ -1,9 +1,10 @@
 //! Compares the proved library's loupe calls with the rules of the Specification (17), and with runs over the
-//! widened rectangle and over the whole. Compares also two runs, one up to a cut and a margin past it and one
-//! from the cut on, with the whole. The original has no calls of the loupe and is not needed here. Prints what
-//! was compared. Fails if an answer or a bit differs, if a number was not expected often enough, or if a section has fewer inputs, or fewer rectangles compared with whole runs, than follows from its number of
-//! draws. With `--some` it takes one input in fifty, for a run under valgrind; so does a debug build, which is
-//! slow.
+//! widened rectangle and over the whole. Half of the pictures have three planes, half have one. Compares also
+//! two runs, one up to a cut and a margin past it and one from the cut on, with the whole. The original has no
+//! calls of the loupe and is not needed here. Prints what was compared. Fails if an answer or a bit differs, if
+//! a number was not expected often enough, or if a section has fewer inputs, or fewer rectangles compared with
+//! whole runs, than follows from its number of draws. With `--some` it takes one input in fifty, for a run
+//! under valgrind; so does a debug build, which is slow.
 
 mod calls;
 mod damage;
@@ -37,7 +38,7 @@ const SECTIONS: [Section; 9] = [
     ("random regions", widened::RANDOM as u64, widened::random),
     (
         "rectangles of pictures",
-        rectangles::PICTURES as u64,
+        rectangles::PICTURES,
         rectangles::random,
     ),
     (

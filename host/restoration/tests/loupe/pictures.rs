@@ -3,8 +3,8 @@
 use core::ops::Range;
 
 use restoration::{
-    BLOCK, CHANNELS, Frame, GROUP_DIM, GaborSettings, Loupe, LoupeSetup, MAX_OFFSET, MAX_SIDE,
-    Region, Settings, Setup, Smoothing, TABLE_ENTRY, group_sizes,
+    BLOCK, CHANNELS, Frame, GREY_PLANES, GROUP_DIM, GaborSettings, Loupe, LoupeSetup, MAX_OFFSET,
+    MAX_SIDE, PLANES, Region, Settings, Setup, Smoothing, TABLE_ENTRY, group_sizes,
 };
 
 use crate::{
@@ -26,16 +26,21 @@ const SIGMAS: [u32; 10] = [
 /// Upsampling and LF level.
 const SCALES: [(u32, u32); 5] = [(1, 0), (1, 0), (2, 0), (8, 0), (1, 1)];
 
-/// A whole picture. Its planes are those of its filter region.
+/// A whole picture. Its samples are those of its filter region, plane by plane.
 #[derive(Clone)]
 pub struct Picture {
     pub whole: Region,
+    /// How many planes it has.
+    pub planes: u32,
     pub settings: Settings,
     pub frame: Frame,
     pub table: Vec<u32>,
     pub grids: Vec<f32>,
-    pub planes: Vec<f32>,
+    pub samples: Vec<f32>,
 }
+
+/// How many planes pictures have. Each section has the same number of pictures of both kinds.
+pub const KINDS: [u32; 2] = [PLANES, GREY_PLANES];
 
 /// The passes of settings, by their number: Gabor if it is odd, and 0 to 3 iterations.
 pub const PASSES: u32 = 8;
@@ -47,19 +52,20 @@ pub fn any_passes(random: &mut Random) -> u32 {
 
 impl Picture {
     /// A picture with these sides, near a place where groups meet or, with the EPF off, anywhere.
-    pub fn new(passes: u32, sides: (u32, u32), random: &mut Random) -> Self {
+    pub fn new(planes: u32, passes: u32, sides: (u32, u32), random: &mut Random) -> Self {
         let mut groups = Groups::near_a_meeting(sides, random);
         let settings = settings(passes, random);
         if settings.epf.iters == 0 {
             groups.whole.left = any_start(random);
             groups.whole.top = any_start(random);
         }
-        Self::of(groups, settings, random)
+        Self::of(groups, planes, settings, random)
     }
 
     /// A picture of so many groups per row and column, more than one in all, with the EPF on. Some of the groups
     /// that it touches have a grid and some have none.
     pub fn of_mixed_groups(
+        planes: u32,
         passes: u32,
         sides: (u32, u32),
         groups: (u32, u32),
@@ -67,7 +73,7 @@ impl Picture {
     ) -> Self {
         loop {
             let groups = Groups::across_meetings(sides, groups, random);
-            let picture = Self::of(groups, settings(passes, random), random);
+            let picture = Self::of(groups, planes, settings(passes, random), random);
             let [across, down] = picture.blocks();
             let blocks = (0..down).flat_map(|y| (0..across).map(move |x| (x, y)));
             let present = blocks.filter(|&block| picture.has_grid(block)).count();
@@ -77,10 +83,13 @@ impl Picture {
         }
     }
 
-    fn of(groups: Groups, settings: Settings, random: &mut Random) -> Self {
+    fn of(groups: Groups, planes: u32, mut settings: Settings, random: &mut Random) -> Self {
+        let samples = samples(groups.whole.samples_in(planes), random);
+        fill_unread(&mut settings, planes, || f32::from_bits(random.pattern()));
         Self {
+            planes,
             settings,
-            planes: samples(groups.whole.sample_count(), random),
+            samples,
             whole: groups.whole,
             frame: groups.frame,
             table: groups.table,
@@ -92,7 +101,7 @@ impl Picture {
     pub fn part(&self, r: Region) -> Self {
         Self {
             whole: r,
-            planes: part(self.whole, &self.planes, r),
+            samples: part(self.whole, &self.samples, r),
             ..self.clone()
         }
     }
@@ -115,20 +124,24 @@ impl Picture {
         self.settings.gabor.enabled + self.settings.epf.iters > 0
     }
 
-    /// A run over the whole filter region.
+    /// A run over the whole filter region. What is not read is 0 (Specification 17.6).
     pub fn smoothed(&self) -> Vec<f32> {
+        let mut settings = self.settings;
+        fill_unread(&mut settings, self.planes, || 0.0);
         let setup = Setup {
-            settings: self.settings,
+            planes: self.planes,
+            settings,
             ..Setup::whole(self.whole)
         };
-        let planes = self.planes.clone();
-        let smoothing = Smoothing::start(setup, self.frame, &self.table, &self.grids, planes);
+        let samples = self.samples.clone();
+        let smoothing = Smoothing::start(setup, self.frame, &self.table, &self.grids, samples);
         smoothing.and_then(Smoothing::finish).expect("a whole run")
     }
 
     pub fn loupe(&self) -> Loupe<'_> {
         Loupe {
             whole: self.whole,
+            planes: self.planes,
             settings: self.settings,
             frame: self.frame,
             table: &self.table,
@@ -140,8 +153,8 @@ impl Picture {
         LoupeSetup {
             whole: self.whole,
             wanted,
+            planes: self.planes,
             settings: self.settings,
-            ..LoupeSetup::DEFAULT
         }
     }
 
@@ -150,7 +163,7 @@ impl Picture {
     pub fn call(&self, wanted: Region, random: &mut Random) -> Call {
         let setup = self.setup(wanted);
         let widened = expected::widened_answer(setup).region;
-        let first = part(self.whole, &self.planes, widened);
+        let first = part(self.whole, &self.samples, widened);
         Call {
             setup,
             frame: self.frame,
@@ -159,7 +172,7 @@ impl Picture {
             second: noise(first.len(), random),
             first,
             sigmas: noise(self.block_count(widened), random),
-            out: noise(wanted.sample_count(), random),
+            out: noise(wanted.samples_in(self.planes), random),
         }
     }
 
@@ -195,6 +208,15 @@ fn settings(passes: u32, random: &mut Random) -> Settings {
     epf.iters = passes / 2 % 4;
     settings.gabor.enabled = passes % 2;
     settings
+}
+
+/// Fills the weights and the scales of channels that the picture has no plane of.
+fn fill_unread(settings: &mut Settings, planes: u32, mut float: impl FnMut() -> f32) {
+    let weights = &mut settings.gabor.weights[planes as usize..];
+    let scales = &mut settings.epf.channel_scale[planes as usize..];
+    for unread in weights.as_flattened_mut().iter_mut().chain(scales) {
+        *unread = float();
+    }
 }
 
 /// Between -1 and 1.

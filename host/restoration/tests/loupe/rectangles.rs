@@ -1,27 +1,32 @@
 //! Wanted rectangles of pictures, compared with a run over the whole.
 
+use core::iter::repeat_n;
+
 use restoration::{MAX_OFFSET, Region};
 
 use crate::{
     LOUPE, SMOOTH,
     calls::{Nans, compare, compare_widened, part, same},
     expected,
-    pictures::{PASSES, Picture, any_passes},
+    pictures::{KINDS, PASSES, Picture, any_passes},
     random::Random,
     report::Report,
     tally::Tally,
 };
 
-pub const PICTURES: u32 = 3_000;
+/// Pictures of each kind.
+const EACH: usize = 3_000;
+pub const PICTURES: u64 = (KINDS.len() * EACH) as u64;
 /// Rectangles of each.
-const RECTANGLES: u32 = 10;
+const RECTANGLES: u64 = 10;
 /// Sides of pictures.
 const SIDE: usize = 80;
 /// Sides of a strip: long enough for a widened rectangle with both ends cut.
 const STRIP: (u32, u32) = (40, 2);
 /// Rectangles of all strips, which lie or stand.
-pub const STRIP_RECTANGLES: u64 =
-    PASSES as u64 * 2 * intervals(STRIP.0) as u64 * intervals(STRIP.1) as u64;
+pub const STRIP_RECTANGLES: u64 = (KINDS.len() as u32 * PASSES * 2) as u64
+    * intervals(STRIP.0) as u64
+    * intervals(STRIP.1) as u64;
 
 /// How many intervals a side has.
 const fn intervals(side: u32) -> u32 {
@@ -31,13 +36,13 @@ const fn intervals(side: u32) -> u32 {
 pub fn random(report: &mut Report) {
     let mut random = Random::new(2);
     let mut tally = Tally::default();
-    for _ in 0..PICTURES {
+    for planes in KINDS.into_iter().flat_map(|planes| repeat_n(planes, EACH)) {
         let mut side = || match random.below(8) {
             0 => 1 + random.below(3) as u32,
             _ => 1 + random.below(SIDE) as u32,
         };
         let sides = (side(), side());
-        let picture = Picture::new(any_passes(&mut random), sides, &mut random);
+        let picture = Picture::new(planes, any_passes(&mut random), sides, &mut random);
         if !report.takes() {
             continue;
         }
@@ -48,16 +53,16 @@ pub fn random(report: &mut Report) {
             compare_rectangle(report, &picture, &whole, wanted, &mut random, &mut tally);
         }
     }
-    finish(&tally, report, (PICTURES * RECTANGLES).into());
+    finish(&tally, report, PICTURES * RECTANGLES);
 }
 
 /// Every rectangle of strips.
 pub fn all(report: &mut Report) {
     let mut random = Random::new(3);
     let mut tally = Tally::default();
-    for passes in 0..PASSES {
+    for (planes, passes) in kinds_and_passes() {
         for sides in [STRIP, (STRIP.1, STRIP.0)] {
-            let picture = Picture::new(passes, sides, &mut random);
+            let picture = Picture::new(planes, passes, sides, &mut random);
             let whole = picture.smoothed();
             for wanted in every(picture.whole) {
                 if report.takes() {
@@ -68,6 +73,12 @@ pub fn all(report: &mut Report) {
         }
     }
     finish(&tally, report, STRIP_RECTANGLES);
+}
+
+/// Both kinds of pictures with all passes.
+pub fn kinds_and_passes() -> impl Iterator<Item = (u32, u32)> {
+    let with_passes = |planes| (0..PASSES).map(move |passes| (planes, passes));
+    KINDS.into_iter().flat_map(with_passes)
 }
 
 fn every(r: Region) -> impl Iterator<Item = Region> {
@@ -113,7 +124,7 @@ pub fn compare_rectangle(
     let expected = part(picture.whole, whole, wanted);
     let by_loupe = picture
         .loupe()
-        .smooth(wanted, |r| part(picture.whole, &picture.planes, r));
+        .smooth(wanted, |r| part(picture.whole, &picture.samples, r));
     let agrees = |given: &[f32]| same(given, &expected, Nans::Alike);
     let shown = || format!("{call:?}, compared with the whole run");
     report.call(SMOOTH, 0, (agrees(&out), true), shown);

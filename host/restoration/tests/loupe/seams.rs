@@ -7,17 +7,17 @@ use restoration::{BLOCK, Region, margin};
 use crate::{
     CUT_RUNS, LOUPE,
     calls::{Nans, lay, part, same},
-    pictures::{PASSES, Picture},
+    pictures::{KINDS, PASSES, Picture},
     random::Random,
     report::Report,
 };
 
 /// The most groups of a frame per row and column.
 const MOST: u32 = 4;
-/// Pictures of each number of groups with the same passes.
+/// Pictures of each kind and number of groups with the same passes.
 const EACH: u32 = 6;
-/// All numbers of groups but a single one, and all passes with the EPF on.
-pub const PICTURES: u64 = ((MOST * MOST - 1) * (PASSES - 2) * EACH) as u64;
+/// Both kinds, all numbers of groups but a single one, and all passes with the EPF on.
+pub const PICTURES: u64 = KINDS.len() as u64 * ((MOST * MOST - 1) * (PASSES - 2) * EACH) as u64;
 /// Sides of pictures: at least three blocks.
 const LEAST: u32 = 17;
 const SIDE: usize = 48;
@@ -39,17 +39,15 @@ struct Counts {
 pub fn compare(report: &mut Report) {
     let mut random = Random::new(7);
     let mut counts = Counts::default();
-    for groups in (1..=MOST).flat_map(|across| (1..=MOST).map(move |down| (across, down))) {
+    for (planes, groups) in KINDS.into_iter().flat_map(with_groups) {
         // The passes with the EPF on.
-        for passes in (2..PASSES).filter(|_| groups != (1, 1)) {
-            for _ in 0..EACH {
-                let mut side = || LEAST + random.below(SIDE) as u32;
-                let sides = (side(), side());
-                let picture = Picture::of_mixed_groups(passes, sides, groups, &mut random);
-                if report.takes() {
-                    report.input();
-                    compare_picture(report, &picture, &mut counts);
-                }
+        for passes in (2..PASSES).flat_map(|passes| [passes; EACH as usize]) {
+            let mut side = || LEAST + random.below(SIDE) as u32;
+            let sides = (side(), side());
+            let picture = Picture::of_mixed_groups(planes, passes, sides, groups, &mut random);
+            if report.takes() {
+                report.input();
+                compare_picture(report, &picture, &mut counts);
             }
         }
     }
@@ -64,6 +62,13 @@ pub fn compare(report: &mut Report) {
         "  {pictures} pictures of mixed groups: {cuts} cuts, {below_grids} of them below a grid and above a block without one; {strips} strips by the loupe; {samples} samples"
     );
     report.require("cuts below grids", below_grids, PICTURES / 4);
+}
+
+/// A number of planes with each number of groups per row and column, more than one in all.
+fn with_groups(planes: u32) -> impl Iterator<Item = (u32, (u32, u32))> {
+    let groups = (1..=MOST).flat_map(|across| (1..=MOST).map(move |down| (across, down)));
+    let several = groups.filter(|groups| *groups != (1, 1));
+    several.map(move |groups| (planes, groups))
 }
 
 /// Along an axis, the part of a region from one position, counted from its corner, to another.
@@ -122,7 +127,7 @@ fn cut_runs(picture: &Picture, along: Along, side: u32, cut: u32) -> Vec<f32> {
     let whole = picture.whole;
     let margin = margin(picture.settings).value().expect("settings in range");
     let seam = side.min(cut + margin);
-    let mut laid = vec![0.0; picture.planes.len()];
+    let mut laid = vec![0.0; picture.samples.len()];
     let mut piece = |run: Region, kept: Region| {
         let smoothed = picture.part(run).smoothed();
         lay(whole, &mut laid, kept, &part(run, &smoothed, kept));
@@ -140,12 +145,13 @@ fn cut_runs(picture: &Picture, along: Along, side: u32, cut: u32) -> Vec<f32> {
 fn shown(picture: &Picture) -> String {
     let Picture {
         whole,
+        planes,
         settings,
         frame,
         table,
         ..
     } = picture;
-    format!("{whole:?} in {frame:?}, {table:?}, {settings:?}")
+    format!("{whole:?}, planes: {planes}, in {frame:?}, {table:?}, {settings:?}")
 }
 
 /// Strips by the loupe, which together are the whole filter region.
@@ -158,7 +164,7 @@ fn compare_strips(
 ) {
     for from in (0..side).step_by(strip as usize) {
         let wanted = along(picture.whole, from, side.min(from + strip));
-        let planes = |r| part(picture.whole, &picture.planes, r);
+        let planes = |r| part(picture.whole, &picture.samples, r);
         let given = picture.loupe().smooth(wanted, planes);
         let expected = part(picture.whole, whole, wanted);
         let agrees = given.map(|given| same(&given, &expected, Nans::Alike));

@@ -4,10 +4,11 @@ use restoration::{LoupeSetup, Region, Settings};
 
 use crate::{calls::compare_widened, random::Random, report::Report};
 
-pub const RANDOM: u32 = 1_000_000;
+pub const RANDOM: u32 = 2_500_000;
 
 const ITERATIONS: [u32; 6] = [0, 1, 2, 3, 4, u32::MAX];
 const FLAGS: [u32; 3] = [0, 1, 2];
+const PLANES: [u32; 6] = [1, 3, 0, 2, 4, u32::MAX];
 
 /// Lefts and tops of the whole.
 const STARTS: [i32; 13] = [
@@ -122,21 +123,27 @@ fn compare(report: &mut Report, [columns, rows]: [Pair; 2]) {
         height: rows[at].1,
     };
     for iterations in ITERATIONS {
-        for flag in FLAGS {
-            compare_widened(report, setup(region(0), region(1), iterations, flag));
+        for (flag, planes) in FLAGS
+            .into_iter()
+            .flat_map(|flag| PLANES.map(|planes| (flag, planes)))
+        {
+            compare_widened(
+                report,
+                setup([region(0), region(1)], planes, iterations, flag),
+            );
         }
     }
 }
 
-fn setup(whole: Region, wanted: Region, iterations: u32, flag: u32) -> LoupeSetup {
+fn setup([whole, wanted]: [Region; 2], planes: u32, iterations: u32, flag: u32) -> LoupeSetup {
     let mut settings = Settings::DEFAULT;
     settings.epf.iters = iterations;
     settings.gabor.enabled = flag;
     LoupeSetup {
         whole,
         wanted,
+        planes,
         settings,
-        ..LoupeSetup::DEFAULT
     }
 }
 
@@ -152,10 +159,24 @@ pub fn random(report: &mut Report) {
         };
         let iterations = random.one_of(&[0, 1, 2, 3, 0, 1, 2, 3, 4, 256, u32::MAX]);
         let flag = random.one_of(&[0, 1, 0, 1, 0, 1, 2, 256, u32::MAX]);
+        let planes = any_planes(&mut random);
         if report.takes() {
             report.input();
-            compare_widened(report, setup(region(0), region(1), iterations, flag));
+            compare_widened(
+                report,
+                setup([region(0), region(1)], planes, iterations, flag),
+            );
         }
+    }
+}
+
+/// Mostly one or three.
+fn any_planes(random: &mut Random) -> u32 {
+    if random.once_in(10) {
+        let any = random.next() as u32;
+        random.one_of(&[0, 2, 4, 257, 259, any, u32::MAX])
+    } else {
+        random.one_of(&[1, 3])
     }
 }
 

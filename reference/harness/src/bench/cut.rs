@@ -2,10 +2,12 @@
 
 use std::hint::black_box;
 
-use restoration::{CutTable, Region, accepted};
+use restoration::{CHANNELS, CutTable, Region, accepted};
 
 use super::{Times, best, head};
 use crate::random::Random;
+
+const PLANES: u32 = CHANNELS as u32;
 
 /// Rectangles whose files have 16,765,498 and 16,589,830 bytes.
 const FILES: [(&str, usize, Region); 2] = [
@@ -18,13 +20,17 @@ pub fn print() {
     for (name, count, region) in FILES {
         let table = CutTable::new(&vec![region; count]);
         let samples = patterns(count * region.sample_count());
-        let mut file = vec![0; restoration::cut_length(table).value().expect("a file")];
+        let length = restoration::cut_length(table, PLANES).value();
+        let mut file = vec![0; length.expect("a file")];
         let mut copy = vec![0; file.len()];
         let bodies = 4 * samples.len();
         let mut back = vec![0; samples.len()];
 
         let times = best(
-            || accepted(restoration::write_cut(table, &samples, &mut file)).expect("accepted"),
+            || {
+                let number = restoration::write_cut(table, PLANES, &samples, &mut file);
+                accepted(number).expect("accepted");
+            },
             || {
                 copy[..bodies].copy_from_slice(bytes_of(&samples));
                 black_box(&copy);
@@ -48,7 +54,7 @@ fn read_all(file: &[u8], region: Region, samples: &mut [u32]) {
     let rectangles = samples.chunks_exact_mut(region.sample_count());
     for (k, samples) in (0..).zip(rectangles) {
         let read = restoration::read_cut(file, k, samples).value();
-        assert_eq!(read, Ok(region));
+        assert_eq!(read, Ok((region, PLANES)));
     }
 }
 

@@ -2,9 +2,12 @@
 
 use std::{cell::RefCell, hint::black_box};
 
-use restoration::{EpfStep, GaborSettings, MAX_HEADER_BYTES, Region};
+use restoration::{EpfStep, GaborSettings, MAX_HEADER_BYTES, PLANES, Region};
 
-use super::{COLUMNS, COPIED, FILTERED, Picture, Times, best, head, row, run, smooth};
+use super::{
+    COLUMNS, COPIED, FILTERED, Picture, Times, best, grey, head, rectangles::SHARES, row, run,
+    smooth,
+};
 use crate::{
     bits,
     epf::{DEFAULTS, step_of},
@@ -25,7 +28,15 @@ const GABOR_PICTURES: [Picture; 4] = [
     Picture::new(7, 2040),
 ];
 
-/// Every pass by itself, and a whole run from start to result.
+/// Grey pictures.
+const GREY_PICTURES: [Picture; 4] = [
+    Picture::square(64),
+    Picture::new(143, 111),
+    Picture::square(504),
+    Picture::square(2040),
+];
+
+/// Every pass by itself, and a whole run from start to result; the same on grey pictures.
 pub fn print() {
     head(&COLUMNS);
     for picture in PICTURES {
@@ -38,6 +49,7 @@ pub fn print() {
         let times = run::beside_original(&run::input(picture));
         row("whole run", picture, times);
     }
+    grey::print(&GREY_PICTURES, &SHARES);
 }
 
 /// Other sizes, copied blocks, and headers.
@@ -55,50 +67,83 @@ pub fn print_cases() {
     header();
 }
 
-pub fn gabor(picture: Picture) -> Times {
-    let (plane, width) = (picture.plane(), picture.width as usize);
+/// Samples of a Gabor-like pass.
+pub fn gabor_source(picture: Picture) -> Vec<f32> {
     let mut random = Random::for_name("bench gabor");
-    let source: Vec<f32> = (0..picture.samples())
+    (0..picture.samples())
         .map(|_| random.within(0, 1 << 20) as f32 / 1024.0)
-        .collect();
+        .collect()
+}
+
+pub fn gabor(picture: Picture) -> Times {
+    let source = gabor_source(picture);
     let target = RefCell::new(vec![0.0f32; picture.samples()]);
     let weights = black_box(DEFAULT_WEIGHTS);
     let ours = || {
         let image = picture.region();
         let settings = GaborSettings::with_weights(weights);
         let source = black_box(&source);
-        gabor_pass(image, settings, source, &mut target.borrow_mut());
+        gabor_pass(image, PLANES, settings, source, &mut target.borrow_mut());
     };
     let theirs = || {
-        let mut target = target.borrow_mut();
-        for (channel, &weights) in weights.iter().enumerate() {
-            let planes = channel * plane..(channel + 1) * plane;
-            let source = &black_box(&source)[planes.clone()];
-            oracle::gabor_plane(source, &mut target[planes], width, weights);
-        }
+        original_gabor(
+            picture,
+            weights,
+            black_box(&source),
+            &mut target.borrow_mut(),
+        );
     };
     best_of_same(&target, ours, theirs)
 }
 
+/// All planes by the original's function of one.
+pub fn original_gabor(
+    picture: Picture,
+    weights: oracle::Weights,
+    source: &[f32],
+    target: &mut [f32],
+) {
+    let (plane, width) = (picture.plane(), picture.width as usize);
+    let planes = source
+        .chunks_exact(plane)
+        .zip(target.chunks_exact_mut(plane));
+    for ((source, target), weights) in planes.zip(weights) {
+        oracle::gabor_plane(source, target, width, weights);
+    }
+}
+
 /// One edge-preserving step with the default settings and one sigma per block.
 pub fn epf(step: u32, picture: Picture, sigmas: &[f32]) -> Times {
-    let (plane, width) = (picture.plane(), picture.width as usize);
     let source = smooth(picture.samples());
     let target = RefCell::new(vec![0.0f32; picture.samples()]);
     let settings = black_box(DEFAULTS);
     let ours = || {
         let (image, step) = (picture.region(), step_of(step, settings));
         let source = black_box(&source);
-        epf_pass(image, step, sigmas, source, &mut target.borrow_mut());
+        let target = &mut target.borrow_mut();
+        epf_pass(image, PLANES, step, sigmas, source, target);
     };
     let theirs = || {
-        let mut target = target.borrow_mut();
-        let mut parts = target.chunks_exact_mut(plane);
-        let targets = core::array::from_fn(|_| parts.next().expect("three planes"));
-        let sources = core::array::from_fn(|c| &black_box(&source)[c * plane..][..plane]);
-        oracle::epf_step(step, settings, sigmas, (width, 0), sources, targets);
+        let (source, target) = (black_box(&source), &mut target.borrow_mut());
+        original_step(step, settings, sigmas, picture, source, target);
     };
     best_of_same(&target, ours, theirs)
+}
+
+/// A step over three planes by the original.
+pub fn original_step(
+    step: u32,
+    settings: oracle::Edge,
+    sigmas: &[f32],
+    picture: Picture,
+    source: &[f32],
+    target: &mut [f32],
+) {
+    let (plane, width) = (picture.plane(), picture.width as usize);
+    let mut parts = target.chunks_exact_mut(plane);
+    let targets = core::array::from_fn(|_| parts.next().expect("three planes"));
+    let sources = core::array::from_fn(|c| &source[c * plane..][..plane]);
+    oracle::epf_step(step, settings, sigmas, (width, 0), sources, targets);
 }
 
 /// Runs both alternately on the same target. Afterwards both must write all of it, with the same bits.
@@ -118,16 +163,30 @@ fn best_of_same(
     times
 }
 
-/// All rows of an image whose filter region is the whole image.
-pub fn gabor_pass(image: Region, settings: GaborSettings, source: &[f32], target: &mut [f32]) {
+/// All rows of an image whose filter region is the whole image, on sets of so many planes.
+pub fn gabor_pass(
+    image: Region,
+    planes: u32,
+    settings: GaborSettings,
+    source: &[f32],
+    target: &mut [f32],
+) {
     let to = image.height;
-    let number = restoration::gabor_pass(image, image, 1, settings, 0, to, source, target);
+    let number = restoration::gabor_pass(image, image, planes, 1, settings, 0, to, source, target);
     assert_eq!(number, 0);
 }
 
-pub fn epf_pass(image: Region, step: EpfStep, sigmas: &[f32], source: &[f32], target: &mut [f32]) {
+pub fn epf_pass(
+    image: Region,
+    planes: u32,
+    step: EpfStep,
+    sigmas: &[f32],
+    source: &[f32],
+    target: &mut [f32],
+) {
     let to = image.height;
-    let number = restoration::epf_pass(image, image, 1, step, sigmas, 0, to, source, target);
+    let number =
+        restoration::epf_pass(image, image, planes, 1, step, sigmas, 0, to, source, target);
     assert_eq!(number, 0);
 }
 

@@ -2,7 +2,7 @@
 //! runs of larger ones.
 
 use super::{
-    COLUMNS, COPIED, FILTERED, Picture, head,
+    COLUMNS, COPIED, FILTERED, Picture, grey, head,
     passes::{epf, gabor},
     row, run,
 };
@@ -18,25 +18,25 @@ const PICTURES: [Picture; 4] = [
 const LARGE: [Picture; 2] = [Picture::square(504), Picture::square(2040)];
 
 /// How many blocks of ten are copied, and the end of the row's name.
-type Share = (usize, &'static str);
-const ALL_FILTERED: Share = (0, "");
-const WITH_COPIED: [Share; 2] = [(5, ", half copied"), (9, ", nine in ten copied")];
+pub type Share = (usize, &'static str);
+pub const SHARES: [Share; 3] = [(0, ""), (5, ", half copied"), (9, ", nine in ten copied")];
 
-/// Every pass by itself and whole runs.
+/// Every pass by itself and whole runs; the same on grey pictures.
 pub fn print() {
     head(&COLUMNS);
     for picture in PICTURES {
         row("Gabor-like", picture, gabor(picture));
-        for share in [ALL_FILTERED].into_iter().chain(WITH_COPIED) {
+        for share in SHARES {
             steps(picture, share);
             whole_run(picture, share);
         }
     }
     for picture in LARGE {
-        for share in WITH_COPIED {
+        for &share in &SHARES[1..] {
             whole_run(picture, share);
         }
     }
+    grey::print(&PICTURES, &SHARES);
 }
 
 fn steps(picture: Picture, (in_ten, name): Share) {
@@ -56,7 +56,7 @@ fn whole_run(picture: Picture, (in_ten, name): Share) {
 
 /// One sigma per block, the same for every pass of a picture. The share that is copied, rounded down, is at random
 /// places.
-fn sigmas(picture: Picture, in_ten: usize) -> Vec<f32> {
+pub fn sigmas(picture: Picture, in_ten: usize) -> Vec<f32> {
     let mut random = Random::for_name("bench rectangles");
     let blocks = picture.block_count();
     let mut copied = blocks * in_ten / 10;

@@ -2,7 +2,7 @@
 
 use std::hint::black_box;
 
-use restoration::{BLOCK, MAX_ITERS, Region, Run, Setup};
+use restoration::{BLOCK, MAX_ITERS, PLANES, Region, Run, Setup};
 
 use super::{
     FILTERED, Picture, Times, best_timed, head,
@@ -140,11 +140,11 @@ pub fn with_result(input: &mut Input, out: &mut [f32]) {
 fn passes(input: &mut Input) {
     let image = input.setup.image;
     let (first, second) = (&mut input.first[..], &mut input.second[..]);
-    gabor_pass(image, input.setup.settings.gabor, first, second);
+    gabor_pass(image, PLANES, input.setup.settings.gabor, first, second);
     let (mut source, mut target) = (second, first);
     for step in 0..3 {
         let step = step_of(step, DEFAULTS);
-        epf_pass(image, step, &input.sigmas, source, target);
+        epf_pass(image, PLANES, step, &input.sigmas, source, target);
         (source, target) = (target, source);
     }
 }

@@ -6,7 +6,7 @@ use std::collections::HashSet;
 
 use restoration::BLOCK;
 
-use super::{NAMES, Pass, block_count, settings, textured, tiled};
+use super::{Kind, Pass, block_count, textured, tiled};
 use crate::{
     pass::by_bands,
     picture::{self, plain},
@@ -33,8 +33,8 @@ const FILTERED: f32 = 0.3;
 /// The largest left and top of a filter region, in blocks.
 const FARTHEST: i128 = 40;
 
-pub fn compare(step: u32, amount: Amount, report: &mut Report) {
-    let name = NAMES[step as usize];
+pub fn compare(kind: Kind, amount: Amount, report: &mut Report) {
+    let name = kind.name;
     let mut random = Random::for_name(&format!("{name}, copied blocks"));
     let mut row = Row::new(name, "copied blocks");
     let mut seen = Seen::default();
@@ -43,7 +43,7 @@ pub fn compare(step: u32, amount: Amount, report: &mut Report) {
             break;
         }
         let drawn = draw(n);
-        one(step, drawn, &mut random, &mut row, &mut seen);
+        one(kind, drawn, &mut random, &mut row, &mut seen);
     }
     if let Amount::All(scale) = amount {
         seen.require(PICTURES * scale, &mut row);
@@ -63,20 +63,14 @@ fn draw(n: u64) -> Drawn {
     (sides.into(), share)
 }
 
-fn one(step: u32, (sides, share): Drawn, random: &mut Random, row: &mut Row, seen: &mut Seen) {
+fn one(kind: Kind, (sides, share): Drawn, random: &mut Random, row: &mut Row, seen: &mut Seen) {
     let place = placed(sides, random);
     let copied: Vec<bool> = (0..block_count(place.filter))
         .map(|_| random.within(0, 9) < SHARES[share])
         .collect();
     let sigmas: Vec<f32> = copied.iter().map(|&copied| sigma(copied, random)).collect();
-    let pass = Pass {
-        place,
-        full: place.preserve_outside.into(),
-        step,
-        settings: settings(random),
-        sigmas: &sigmas,
-    };
-    let source = textured(picture::set_len(&place), random);
+    let pass = Pass::of(kind, place, kind.settings(random), &sigmas);
+    let source = textured(kind.set_len(&place), random);
     let band = tiled::band_height(picture::result(&place).height, random);
     seen.add(&place, share, &copied, band, &source);
     by_bands(&pass, band, &source, random, row);
@@ -115,9 +109,9 @@ fn sigma(copied: bool, random: &mut Random) -> f32 {
 }
 
 /// A count's name, and whether a sample is of the kind.
-type Kind = (&'static str, fn(f32) -> bool);
+type SampleKind = (&'static str, fn(f32) -> bool);
 /// Kinds of special samples.
-const SPECIAL: [Kind; 4] = [
+const SPECIAL: [SampleKind; 4] = [
     ("pictures with NaN", f32::is_nan),
     ("pictures with infinities", f32::is_infinite),
     ("pictures with subnormals", f32::is_subnormal),

@@ -1,6 +1,6 @@
 //! A step on pictures with all samples subnormal or near overflow.
 
-use super::{NAMES, Pass, block_count, settings, tiled};
+use super::{Kind, Pass, block_count, tiled};
 use crate::{
     pass::by_bands,
     picture,
@@ -16,35 +16,29 @@ const PICTURES: u64 = 1_000;
 const WIDEST: i128 = 180;
 const HIGHEST: i128 = 24;
 
-pub fn compare(step: u32, amount: Amount, random: &mut Random, report: &mut Report) {
+pub fn compare(kind: Kind, amount: Amount, random: &mut Random, report: &mut Report) {
     for end in ENDS {
-        let mut row = Row::new(NAMES[step as usize], end.name());
+        let mut row = Row::new(kind.name, end.name());
         while row.draws(PICTURES, amount) {
-            one(end, step, random, &mut row);
+            one(end, kind, random, &mut row);
         }
         report.add(row);
     }
 }
 
-fn one(end: End, step: u32, random: &mut Random, row: &mut Row) {
+fn one(end: End, kind: Kind, random: &mut Random, row: &mut Row) {
     let scale = end.draw(random);
     let sides = (random.within(1, WIDEST), random.within(1, HIGHEST));
     let place = tiled::placed((sides.0 as u32, sides.1 as u32), random);
     let sigmas: Vec<f32> = (0..block_count(place.filter))
         .map(|_| sigma(random))
         .collect();
-    let mut settings = settings(random);
+    let mut settings = kind.settings(random);
     if !random.once_in(3) {
         settings.channel_scale = scale.channel_scale(settings.channel_scale, random);
     }
     let band = tiled::band_height(picture::result(&place).height, random);
-    let pass = Pass {
-        place,
-        full: place.preserve_outside.into(),
-        step,
-        settings,
-        sigmas: &sigmas,
-    };
-    let source = scale.samples(picture::set_len(&place), random);
+    let pass = Pass::of(kind, place, settings, &sigmas);
+    let source = scale.samples(kind.set_len(&place), random);
     by_bands(&pass, band, &source, random, row);
 }

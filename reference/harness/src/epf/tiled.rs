@@ -5,7 +5,7 @@
 
 use restoration::BLOCK;
 
-use super::{around, block_count, with_sigmas};
+use super::{Kind, around, block_count, with_sigmas};
 use crate::{
     picture,
     random::Random,
@@ -25,12 +25,12 @@ const HIGHEST: u32 = 40;
 /// The largest left and top of a filter region, in blocks.
 const FARTHEST: i128 = 40;
 
-pub fn compare(step: u32, amount: Amount, random: &mut Random, row: &mut Row) {
+pub fn compare(kind: Kind, amount: Amount, random: &mut Random, row: &mut Row) {
     for height in 1..=HIGHEST {
         let drawn = random.within((2 * TILE + 1).into(), WIDEST.into()) as u32;
         for width in widths().chain([drawn]) {
             if row.takes(amount) {
-                one(step, (width, height), random, row);
+                one(kind, (width, height), random, row);
             }
         }
     }
@@ -76,11 +76,11 @@ fn before((width, height): (u32, u32), random: &mut Random) -> (oracle::Region, 
     (image, oracle::Region::with_size(width, height))
 }
 
-fn one(step: u32, sides: (u32, u32), random: &mut Random, row: &mut Row) {
+fn one(kind: Kind, sides: (u32, u32), random: &mut Random, row: &mut Row) {
     let place = placed(sides, random);
     let sigmas = sigmas(place.filter, random);
     let band = band_height(picture::result(&place).height, random);
-    with_sigmas(place, step, band, &sigmas, random, row);
+    with_sigmas(place, kind, band, &sigmas, random, row);
 }
 
 /// Any band height for these rows that is not a multiple of 8.

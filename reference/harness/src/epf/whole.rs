@@ -2,7 +2,7 @@
 //! `apply_epf`. Where groups are mixed that is the one without its carry, and again the unchanged one after its
 //! missing grids are filled in.
 
-use restoration::{BLOCK, Blocks, MAX_GROUP_SIZE_SHIFT, MAX_ITERS};
+use restoration::{BLOCK, Blocks, MAX_GROUP_SIZE_SHIFT, MAX_ITERS, PLANES};
 
 use super::{
     BANDS, DEFAULTS, Pass, SIDES, around, placements, settings, textured, two_samples, whole_images,
@@ -102,7 +102,7 @@ fn all_placements((width, height): (u32, u32), amount: Amount, random: &mut Rand
             let case = sigma::filled(frame, blocks, (1, 1), false, random);
             let band = random.within(1, BANDS.into()) as u32;
             let steps = Steps::new(&case, place, (iterations, settings(random)), band);
-            let source = textured(picture::set_len(&place), random);
+            let source = textured(picture::set_len(&place, PLANES), random);
             steps.check(source, random, row);
         }
     }
@@ -174,7 +174,7 @@ fn with_image(
     let iterations = random.within(1, MAX_ITERS.into()) as u32;
     let band = random.within(1, 64) as u32;
     let steps = Steps::new(case, place, (iterations, settings(random)), band);
-    let source = textured(picture::set_len(&place), random);
+    let source = textured(picture::set_len(&place, PLANES), random);
     compare(steps, source, random);
 }
 
@@ -250,6 +250,7 @@ impl<'a> Steps<'a> {
         for &step in steps {
             let pass = Pass {
                 place: self.place,
+                planes: PLANES,
                 full: self.place.preserve_outside.into(),
                 step,
                 settings: self.settings,

@@ -13,6 +13,7 @@ const LAST_STEP: u32 = 2;
 pub struct Input {
     pub image: Region,
     pub filter: Region,
+    pub planes: u32,
     pub preserve_outside: u32,
     pub step: u32,
     pub rows: (i128, i128),
@@ -32,10 +33,11 @@ fn checked(input: Input) -> Ruled<()> {
     if !on_block(filter.left) || !on_block(filter.top) {
         return Err(NOT_ON_BLOCKS);
     }
-    pass::sets(image, input.sets)?;
+    pass::sets(image, input.planes, input.sets)?;
     if input.sigmas as i128 != blocks(filter.width) * blocks(filter.height) {
         return Err(WRONG_LENGTH);
     }
+    pass::planes(input.planes)?;
     if input.step > LAST_STEP {
         return Err(OUT_OF_RANGE);
     }

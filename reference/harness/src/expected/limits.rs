@@ -8,7 +8,6 @@ macro_rules! widened {
 
 widened! {
     BLOCK
-    CHANNELS
     GROUP_DIM
     MAX_ALIGNMENT
     MAX_AREA

@@ -13,3 +13,4 @@ pub const BLOCK_NOT_HELD: u32 = Refusal::BlockNotHeld as u32;
 pub const OUT_OF_RANGE: u32 = Refusal::OutOfRange as u32;
 pub const BAND_NOT_OPEN: u32 = Refusal::BandNotOpen as u32;
 pub const PASS_NOT_DONE: u32 = Refusal::PassNotDone as u32;
+pub const WANTED_OUTSIDE: u32 = Refusal::WantedOutside as u32;

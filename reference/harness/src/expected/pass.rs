@@ -1,7 +1,7 @@
 //! The checks that all passes over rows share.
 
 use super::{
-    CHANNELS, MAX_AREA, MAX_OFFSET, MAX_SIDE, Region, Ruled,
+    MAX_AREA, MAX_OFFSET, MAX_SIDE, Region, Ruled,
     numbers::{NOT_INSIDE, OUT_OF_LIMITS, OUT_OF_RANGE, WRONG_LENGTH},
 };
 
@@ -16,9 +16,14 @@ pub fn in_range(r: Region) -> bool {
     sides_in_range(r) && r.left.abs() <= MAX_OFFSET && r.top.abs() <= MAX_OFFSET
 }
 
-/// Samples of all planes of a region.
-pub fn samples(r: Region) -> i128 {
-    CHANNELS * r.width * r.height
+/// Samples of so many planes of a region.
+pub fn samples(r: Region, planes: u32) -> i128 {
+    i128::from(planes) * r.width * r.height
+}
+
+/// A picture has one plane or three. Where a number of planes is another, no length that needs it is checked.
+pub fn planes_fit(planes: u32) -> bool {
+    matches!(planes, 1 | 3)
 }
 
 pub fn inside(inner: Region, outer: Region) -> bool {
@@ -36,12 +41,19 @@ pub fn placed(image: Region, filter: Region) -> Ruled<()> {
     inside(filter, image).then_some(()).ok_or(NOT_INSIDE)
 }
 
-/// Both sets have the length of all planes of the image region.
-pub fn sets(image: Region, lengths: [usize; 2]) -> Ruled<()> {
+/// Both sets have the length of all planes of the image region, if there may be so many planes.
+pub fn sets(image: Region, planes: u32, lengths: [usize; 2]) -> Ruled<()> {
     let valid = lengths
         .iter()
-        .all(|&length| length as i128 == samples(image));
-    valid.then_some(()).ok_or(WRONG_LENGTH)
+        .all(|&length| length as i128 == samples(image, planes));
+    (valid || !planes_fit(planes))
+        .then_some(())
+        .ok_or(WRONG_LENGTH)
+}
+
+/// A number of planes: 1 or 3.
+pub fn planes(number: u32) -> Ruled<()> {
+    planes_fit(number).then_some(()).ok_or(OUT_OF_RANGE)
 }
 
 /// A flag: 0 or 1.

@@ -4,11 +4,9 @@ use super::{
     BLOCK, MAX_BANDS, MAX_ITERS, MAX_SIDE, Region, blocks,
     checks::first_that_applies,
     numbers::*,
-    pass::{in_range, inside, sides_in_range},
+    pass::{in_range, inside, planes_fit, samples, sides_in_range},
     sigma::{self, Frame, all_held, of_entries},
 };
-
-pub use super::pass::samples;
 
 /// A flag is 0 or this; any other number is out of range.
 const YES: u32 = 1;
@@ -18,6 +16,7 @@ const YES: u32 = 1;
 pub struct Setup {
     pub image: Region,
     pub filter: Region,
+    pub planes: u32,
     pub preserve_outside: u32,
     pub gabor: u32,
     pub iterations: i128,
@@ -49,7 +48,12 @@ impl Setup {
 
     /// Samples of a set.
     pub fn set(&self) -> i128 {
-        samples(self.image)
+        samples(self.image, self.planes)
+    }
+
+    /// Samples of the result.
+    pub fn out(&self) -> i128 {
+        samples(self.result(), self.planes)
     }
 
     /// One sigma per block of the filter region; none with the edge filter off.
@@ -61,23 +65,27 @@ impl Setup {
         }
     }
 
-    fn edge_on(&self) -> bool {
+    pub fn edge_on(&self) -> bool {
         self.iterations > 0
+    }
+
+    pub fn planes_fit(&self) -> bool {
+        planes_fit(self.planes)
     }
 
     fn full_fits(&self) -> bool {
         self.preserve_outside <= YES
     }
 
-    fn gabor_fits(&self) -> bool {
+    pub fn gabor_fits(&self) -> bool {
         self.gabor <= YES
     }
 
-    fn iterations_fit(&self) -> bool {
+    pub fn iterations_fit(&self) -> bool {
         self.iterations <= MAX_ITERS
     }
 
-    fn on_blocks(&self) -> bool {
+    pub fn on_blocks(&self) -> bool {
         let on_block = |place: i128| place >= 0 && place % BLOCK == 0;
         on_block(self.filter.left) && on_block(self.filter.top)
     }
@@ -86,7 +94,7 @@ impl Setup {
         (1..=MAX_SIDE).contains(&self.band_height)
     }
 
-    fn wrong_sets(&self, lengths: [usize; 2]) -> bool {
+    pub fn wrong_sets(&self, lengths: [usize; 2]) -> bool {
         lengths.iter().any(|&length| length as i128 != self.set())
     }
 
@@ -97,6 +105,7 @@ impl Setup {
             && inside(self.filter, self.image)
             && (!self.edge_on() || self.on_blocks())
             && self.iterations_fit()
+            && self.planes_fit()
             && self.full_fits()
             && self.gabor_fits()
             && self.height_fits()
@@ -144,20 +153,17 @@ pub fn start(input: Start) -> u32 {
     let groups = input.frame.groups();
     let table_fits = input.sigmas_of().table_fits();
     let entries = of_entries(input.sigmas_of());
+    let has = |number| entries.contains(&number);
     first_that_applies(&[
         (OUT_OF_LIMITS, true, &|| !in_range(s.image)),
         (OUT_OF_LIMITS, true, &|| !in_range(s.filter)),
         (OUT_OF_LIMITS, true, &|| groups == Err(OUT_OF_LIMITS)),
-        (OUT_OF_LIMITS, table_fits, &|| {
-            entries.contains(&OUT_OF_LIMITS)
-        }),
+        (OUT_OF_LIMITS, table_fits, &|| has(OUT_OF_LIMITS)),
         (NOT_INSIDE, true, &|| !inside(s.filter, s.image)),
         (NOT_ON_BLOCKS, edge_runs, &|| !s.on_blocks()),
-        (WRONG_LENGTH, true, &|| s.wrong_sets(input.sets)),
+        (WRONG_LENGTH, s.planes_fit(), &|| s.wrong_sets(input.sets)),
         (WRONG_LENGTH, groups.is_ok(), &|| !table_fits),
-        (WRONG_LENGTH, table_fits, &|| {
-            entries.contains(&WRONG_LENGTH)
-        }),
+        (WRONG_LENGTH, table_fits, &|| has(WRONG_LENGTH)),
         (WRONG_LENGTH, s.iterations_fit(), &|| {
             input.sigmas as i128 != s.sigmas()
         }),
@@ -165,10 +171,9 @@ pub fn start(input: Start) -> u32 {
             !all_held(input.sigmas_of())
         }),
         (OUT_OF_RANGE, true, &|| !s.iterations_fit()),
+        (OUT_OF_RANGE, true, &|| !s.planes_fit()),
         (OUT_OF_RANGE, true, &|| groups == Err(OUT_OF_RANGE)),
-        (OUT_OF_RANGE, table_fits, &|| {
-            entries.contains(&OUT_OF_RANGE)
-        }),
+        (OUT_OF_RANGE, table_fits, &|| has(OUT_OF_RANGE)),
         (OUT_OF_RANGE, true, &|| !s.full_fits()),
         (OUT_OF_RANGE, true, &|| !s.gabor_fits()),
         (OUT_OF_RANGE, true, &|| !s.height_fits()),
@@ -234,9 +239,11 @@ pub fn band(run: Record, sets: [usize; 2], sigmas: usize, k: i128) -> u32 {
     let s = run.setup;
     let sigmas_known = s.iterations_fit() && (!s.edge_on() || sides_in_range(s.filter));
     first_that_applies(&[
-        (WRONG_LENGTH, sides_in_range(s.image), &|| {
-            s.wrong_sets(sets)
-        }),
+        (
+            WRONG_LENGTH,
+            s.planes_fit() && sides_in_range(s.image),
+            &|| s.wrong_sets(sets),
+        ),
         (WRONG_LENGTH, sigmas_known, &|| sigmas as i128 != s.sigmas()),
         (OUT_OF_RANGE, true, &|| !run.fits()),
         (BAND_NOT_OPEN, true, &|| run.finished()),
@@ -258,13 +265,15 @@ pub fn advance(run: Record) -> u32 {
 pub fn result(run: Record, sets: [usize; 2], out: usize) -> u32 {
     let s = run.setup;
     first_that_applies(&[
-        (WRONG_LENGTH, sides_in_range(s.image), &|| {
-            s.wrong_sets(sets)
-        }),
         (
             WRONG_LENGTH,
-            s.full_fits() && sides_in_range(s.result()),
-            &|| out as i128 != samples(s.result()),
+            s.planes_fit() && sides_in_range(s.image),
+            &|| s.wrong_sets(sets),
+        ),
+        (
+            WRONG_LENGTH,
+            s.planes_fit() && s.full_fits() && sides_in_range(s.result()),
+            &|| out as i128 != s.out(),
         ),
         (OUT_OF_RANGE, true, &|| !run.fits()),
         (PASS_NOT_DONE, true, &|| !run.finished()),

@@ -5,7 +5,7 @@
 
 use std::sync::atomic::{AtomicU64, Ordering::Relaxed};
 
-use restoration::{CHANNELS, GaborSettings, Region};
+use restoration::{CHANNELS, GaborSettings, PLANES, Region};
 
 use super::{PICTURES, Pass, any_picture, random_pass, weights};
 use crate::{
@@ -166,7 +166,7 @@ fn bound(row: &[f32], weights: [f32; 2]) -> f64 {
 pub fn compare(amount: Amount, random: &mut Random, report: &mut Report) {
     let mut row = Row::new(NAME, "rule in f32");
     while row.draws(PICTURES, amount) {
-        let (pass, band) = random_pass(random);
+        let (pass, band) = random_pass(PLANES, random);
         any_picture(&one_row_of(pass), band, random, &mut row);
         OWN.fetch_add(1, Relaxed);
     }
@@ -193,7 +193,9 @@ fn compare_with_kernel(random: &mut Random, row: &mut Row) {
         .collect();
     let mut target = vec![0.0; source.len()];
     let settings = GaborSettings::with_weights(weights);
-    let number = restoration::gabor_pass(image, image, 1, settings, 0, 1, &source, &mut target);
+    let number = restoration::gabor_pass(
+        image, image, PLANES, 1, settings, 0, 1, &source, &mut target,
+    );
     row.count(0);
     if number != 0 {
         row.differs(&(image, weights), &number, &0);

@@ -46,6 +46,14 @@ impl Tally {
         self.band.require(&BAND_NUMBERS, amount);
         self.advance.require(&ADVANCE_NUMBERS, amount);
         self.result.require(&RESULT_NUMBERS, amount);
+        for row in [
+            &mut self.start,
+            &mut self.band,
+            &mut self.advance,
+            &mut self.result,
+        ] {
+            row.require_planes(amount);
+        }
     }
 
     pub fn report(self, report: &mut Report) {
@@ -88,6 +96,7 @@ pub fn margin(setup: &Setup, tally: &mut Tally) -> u32 {
 pub fn start(input: &mut Input, tally: &mut Tally) -> (u32, Run) {
     let before = input.clone();
     let expected = rule::start(before.rule());
+    tally.start.of_planes(before.setup.planes, expected);
     let answer = input.start();
     let (run, sigmas_as_expected) = if expected == 0 {
         let run = counted(Run {
@@ -117,6 +126,7 @@ pub fn band(state: &mut State, k: u32, tally: &mut Tally) -> u32 {
     let mut before = state.clone();
     let run = record_rule(&before.run);
     let expected = rule::band(run, before.sets(), before.sigmas.len(), k.into());
+    tally.band.of_planes(run.setup.planes, expected);
     let answer = restoration::band(
         state.run,
         &state.sigmas,
@@ -143,12 +153,13 @@ pub fn band(state: &mut State, k: u32, tally: &mut Tally) -> u32 {
 
 /// Copies the rows that the band has written from the state after the call.
 fn rewrite(before: &mut State, after: &mut State, k: u32) {
-    let place = place(&before.run.setup);
+    let setup = before.run.setup;
+    let place = place(&setup);
     let part = picture::result(&place);
-    let height = before.run.setup.band_height;
+    let height = setup.band_height;
     let rows = (k * height, part.height.min((k + 1) * height));
     let ([_, before], [_, after]) = (before.read_and_written(), after.read_and_written());
-    for run in picture::runs(place.image, part, rows) {
+    for run in picture::runs(setup.planes, place.image, part, rows) {
         before[run.clone()].copy_from_slice(&after[run]);
     }
 }
@@ -157,6 +168,7 @@ fn rewrite(before: &mut State, after: &mut State, k: u32) {
 pub fn advance(run: &mut Run, tally: &mut Tally) -> u32 {
     let before = *run;
     let expected = rule::advance(record_rule(&before));
+    tally.advance.of_planes(before.setup.planes, expected);
     let answer = restoration::advance(before);
     *run = if expected == 0 {
         counted(Run {
@@ -178,6 +190,7 @@ pub fn result(state: &mut State, out: &mut [f32], tally: &mut Tally) -> u32 {
     let (before, out_before) = (state.clone(), out.to_vec());
     let run = record_rule(&before.run);
     let expected = rule::result(run, before.sets(), out.len());
+    tally.result.of_planes(run.setup.planes, expected);
     let number = restoration::result(state.run, &state.first, &state.second, out);
     let copied = if expected == 0 {
         let setup = state.run.setup;

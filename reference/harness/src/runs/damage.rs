@@ -33,6 +33,8 @@ const AREAS: [(u32, u32); 6] = [
     (u32::MAX, u32::MAX),
 ];
 const BAND_HEIGHTS: [u32; 7] = [0, 1, 2, BLOCK, MAX_SIDE, MAX_SIDE + 1, u32::MAX];
+/// Numbers of planes, most of them out of range.
+const PLANES_DRAWN: [u32; 9] = [1, 3, 1, 0, 2, 4, 255, 256, u32::MAX];
 /// Flags, as `u32` and as bytes: mostly 0 or 1.
 const FLAGS: [u32; 8] = [0, 1, 0, 1, 2, 255, 256, u32::MAX];
 const BYTES: [u8; 7] = [0, 1, 0, 1, 2, 128, 255];
@@ -81,16 +83,18 @@ fn setup(s: &mut Setup, random: &mut Random) {
     let Setup {
         image,
         filter,
+        planes,
         preserve_outside,
         settings,
         band_height,
     } = s;
-    match random.within(0, 9) {
+    match random.within(0, 11) {
         0 | 1 => region(image, random),
         2 | 3 => region(filter, random),
         4 => *preserve_outside = random.one_of(&FLAGS),
         5 | 6 => passes(settings, random),
         7 | 8 => *band_height = random.one_of(&BAND_HEIGHTS),
+        9 | 10 => *planes = random.one_of(&PLANES_DRAWN),
         _ => floats(settings, random),
     }
 }
@@ -104,7 +108,7 @@ pub fn passes(s: &mut Settings, random: &mut Random) {
     }
 }
 
-fn region(r: &mut Region, random: &mut Random) {
+pub fn region(r: &mut Region, random: &mut Random) {
     let near = |n: i32, random: &mut Random| n.wrapping_add(random.within(-9, 9) as i32);
     match random.within(0, 8) {
         0 => r.left = random.one_of(&CORNERS),
@@ -143,7 +147,7 @@ fn move_both(s: &mut Setup, random: &mut Random) {
 }
 
 /// Takes a column or a row from a grid, and its cells from the slice.
-fn narrow(h: &mut Input, random: &mut Random) {
+pub fn narrow(h: &mut Input, random: &mut Random) {
     let present = |entry: &&mut [u32]| entry[0] == 1 && entry[1].min(entry[2]) > 1;
     let entries = h.table.chunks_exact_mut(TABLE_ENTRY);
     let mut grids: Vec<&mut [u32]> = entries.filter(present).collect();
@@ -200,7 +204,27 @@ fn another_number(n: u32, random: &mut Random) -> u32 {
 }
 
 fn lengths(slices: [&mut Vec<f32>; 3], random: &mut Random) {
+    if random.once_in(8) {
+        let [first, second, _] = slices;
+        return of_other_planes([first, second], random);
+    }
     resize(slices[random.within(0, 2) as usize], random);
+}
+
+/// Both sets as long as sets of the other number of planes would be.
+pub fn of_other_planes(sets: [&mut Vec<f32>; 2], random: &mut Random) {
+    let more = random.once_in(2);
+    for set in sets {
+        let length = set.len();
+        let other = if more {
+            CHANNELS * length
+        } else {
+            length / CHANNELS
+        };
+        if other as i128 <= MOST_SAMPLES {
+            set.resize(other, 1.0);
+        }
+    }
 }
 
 pub fn resize(slice: &mut Vec<f32>, random: &mut Random) {

@@ -2,13 +2,17 @@
 
 use core::fmt;
 
-use restoration::{EpfSettings, EpfSigma, GaborSettings, Run, RunAnswer, Settings, Setup};
+use restoration::{
+    CHANNELS, EpfSettings, EpfSigma, GREY_PLANES, GaborSettings, PLANES, Run, RunAnswer, Settings,
+    Setup,
+};
 
 use crate::{
     bits,
     convert::{edge, frame, original, wide, wide_frame},
     expected::{self, runs as rule},
     gabor::one_row::expected_run,
+    grey::definition,
     originals, picture, sigma,
 };
 
@@ -79,13 +83,41 @@ impl Input {
         self.setup.settings.epf.iters > 0 && originals::is_mixed(filter, self.frame, &grids)
     }
 
-    /// The result of a whole run by the original, on one row after the rule's Gabor-like pass. A run
-    /// without passes is not compared with it: its result is a part of the first set.
+    /// The result of a whole run by the original, on one row after the rule's Gabor-like pass; of a grey
+    /// picture by the definition. A run without passes is not compared with it: its result is a part of the
+    /// first set.
     pub fn original(&self) -> Vec<f32> {
         if setup_rule(&self.setup).passes() == 0 {
             return result_part(&self.setup, &self.first);
         }
+        if self.setup.planes != PLANES {
+            return self.defined();
+        }
         self.original_run()().concat()
+    }
+
+    /// The result of a whole run by the definition, with the block sigmas of the rule.
+    pub fn defined(&self) -> Vec<f32> {
+        let sigmas = self.expected_sigmas();
+        definition::run(&self.setup, &place(&self.setup), &sigmas, &self.first)
+    }
+
+    /// A picture of three planes with all of them or the first one alone.
+    pub fn of_planes(self, planes: u32) -> Self {
+        if planes == GREY_PLANES {
+            self.into_grey()
+        } else {
+            self
+        }
+    }
+
+    /// The picture of the first plane alone.
+    pub fn into_grey(mut self) -> Self {
+        self.setup.planes = GREY_PLANES;
+        let plane = self.first.len() / CHANNELS;
+        self.first.truncate(plane);
+        self.second.truncate(plane);
+        self
     }
 
     /// A whole run by the original, on one row after the rule's Gabor-like pass, on its own copies of planes
@@ -160,6 +192,7 @@ pub fn setup_rule(s: &Setup) -> rule::Setup {
     rule::Setup {
         image: wide(original(s.image)),
         filter: wide(original(s.filter)),
+        planes: s.planes,
         preserve_outside: s.preserve_outside,
         gabor: s.settings.gabor.enabled,
         iterations: s.settings.epf.iters.into(),
@@ -196,7 +229,7 @@ pub fn place(s: &Setup) -> oracle::Place {
 pub fn result_part(s: &Setup, set: &[f32]) -> Vec<f32> {
     let place = place(s);
     let part = picture::result(&place);
-    picture::runs(place.image, part, (0, part.height))
+    picture::runs(s.planes, place.image, part, (0, part.height))
         .flat_map(|run| set[run].iter().copied())
         .collect()
 }
@@ -220,6 +253,7 @@ fn setup_fields(setup: &Setup) -> Vec<u32> {
     let &Setup {
         image,
         filter,
+        planes,
         preserve_outside,
         settings,
         band_height,
@@ -228,7 +262,7 @@ fn setup_fields(setup: &Setup) -> Vec<u32> {
     for r in [image, filter] {
         all.extend([r.left as u32, r.top as u32, r.width, r.height]);
     }
-    all.extend([preserve_outside, band_height]);
+    all.extend([planes, preserve_outside, band_height]);
     all
 }
 

@@ -2,8 +2,8 @@
 //! because they depend on a value that is out of range.
 
 use restoration::{
-    BLOCK, CHANNELS, GROUP_DIM, MAX_BANDS, MAX_GRID_SIDE, MAX_ITERS, MAX_OFFSET, MAX_SIDE, Region,
-    Setup, TABLE_ENTRY,
+    BLOCK, CHANNELS, GREY_PLANES, GROUP_DIM, MAX_BANDS, MAX_GRID_SIDE, MAX_ITERS, MAX_OFFSET,
+    MAX_SIDE, PLANES, Region, Setup, TABLE_ENTRY,
 };
 
 use super::{
@@ -134,6 +134,40 @@ const STARTS: &[Damage<Input, u32>] = &[
     ("band height 16,385", 9, |h| {
         h.setup.band_height = MAX_SIDE + 1
     }),
+    ("one plane", 0, |h| planes(h, 1, 1)),
+    ("one plane, sets of three", 7, |h| planes(h, 1, 3)),
+    ("three planes, sets of one", 7, |h| planes(h, 3, 1)),
+    ("one plane, a set of one and one of three", 7, |h| {
+        h.setup.planes = 1;
+        h.first.truncate(SAMPLES / CHANNELS);
+    }),
+    ("no plane, no samples", 9, |h| planes(h, 0, 0)),
+    ("two planes, sets of two", 9, |h| planes(h, 2, 2)),
+    ("four planes, sets of four", 9, |h| planes(h, 4, 4)),
+    ("255 planes, a short set", 9, |h| {
+        h.setup.planes = 255;
+        h.first.pop();
+    }),
+    ("4,294,967,295 planes, band height 0", 9, |h| {
+        h.setup.planes = u32::MAX;
+        h.setup.band_height = 0;
+    }),
+    ("two planes, a short table", 7, |h| {
+        h.setup.planes = 2;
+        h.table.pop();
+    }),
+    ("two planes, a sigma too many", 7, |h| {
+        h.setup.planes = 2;
+        h.sigmas.push(0.0);
+    }),
+    ("no plane, a grid too narrow", 8, |h| {
+        h.setup.planes = 0;
+        narrow(h);
+    }),
+    ("two planes, regions off their blocks", 6, |h| {
+        h.setup.planes = 2;
+        off_blocks(&mut h.setup);
+    }),
     ("256 bands", 0, |h| rows(h, MAX_BANDS as u32)),
     ("257 bands", 9, |h| rows(h, MAX_BANDS as u32 + 1)),
     ("edge filter off, off blocks, a narrow grid", 0, |h| {
@@ -204,6 +238,37 @@ const RECORDS: &[Damage<State, [u32; 3]>] = &[
     }),
     ("a Gabor flag of 2", [9, 9, 9], |t| {
         t.run.setup.settings.gabor.enabled = 2
+    }),
+    ("one plane", [0, 11, 11], |t| one_plane(t)),
+    ("one plane, sets of three", [7, 11, 7], |t| {
+        t.run.setup.planes = 1
+    }),
+    ("three planes, sets of one", [7, 11, 7], |t| {
+        one_plane(t);
+        t.run.setup.planes = 3;
+    }),
+    ("no plane, a short set", [9, 9, 9], |t| {
+        t.run.setup.planes = 0;
+        t.first.pop();
+    }),
+    ("two planes, a short set", [9, 9, 9], |t| {
+        t.run.setup.planes = 2;
+        t.second.pop();
+    }),
+    ("two planes, a sigma too many", [7, 9, 9], |t| {
+        t.run.setup.planes = 2;
+        t.sigmas.push(0.0);
+    }),
+    ("four planes, finished", [9, 9, 9], |t| {
+        t.run.setup.planes = 4;
+        finish(t);
+    }),
+    ("one plane, finished", [10, 11, 0], |t| {
+        one_plane(t);
+        finish(t);
+    }),
+    ("4,294,967,295 planes", [9, 9, 9], |t| {
+        t.run.setup.planes = u32::MAX
     }),
     ("the last flag", [9, 9, 9], |t| {
         t.run.done[MAX_BANDS - 1] = 1
@@ -329,14 +394,16 @@ pub fn compare(random: &mut Random, row: &mut Row, tally: &mut Tally) {
         damage(&mut state);
         nans::in_state(&mut state, random);
         // The result's slice has the right length, then one sample less.
-        let mut out = vec![0.0; SAMPLES];
+        let s = state.run.setup;
+        let grey = s.planes == GREY_PLANES;
+        let mut out = vec![0.0; if grey { SAMPLES / CHANNELS } else { SAMPLES }];
         bits::sprinkle(&mut out, random);
         let number = calls::result(&mut state, &mut out, tally);
         expect(what, number, expected[2], row);
         out.pop();
         let number = calls::result(&mut state, &mut out, tally);
-        let s = state.run.setup;
-        let known = s.preserve_outside == 1 || s.preserve_outside == 0 && s.filter.height > 0;
+        let part = s.preserve_outside == 1 || s.preserve_outside == 0 && s.filter.height > 0;
+        let known = part && matches!(s.planes, GREY_PLANES | PLANES);
         expect(what, number, if known { 7 } else { expected[2] }, row);
         let number = calls::band(&mut state.clone(), 0, tally);
         expect(what, number, expected[0], row);
@@ -366,6 +433,21 @@ fn valid() -> Input {
         second: vec![0.25; SAMPLES],
         sigmas: vec![0.0; BLOCKS],
     }
+}
+
+/// A setup of so many planes, and sets of so many.
+fn planes(h: &mut Input, planes: u32, of_sets: usize) {
+    h.setup.planes = planes;
+    let samples = SAMPLES / CHANNELS * of_sets;
+    h.first.resize(samples, 0.5);
+    h.second.resize(samples, 0.25);
+}
+
+/// A grey picture.
+fn one_plane(t: &mut State) {
+    t.run.setup.planes = GREY_PLANES;
+    t.first.truncate(SAMPLES / CHANNELS);
+    t.second.truncate(SAMPLES / CHANNELS);
 }
 
 /// All four passes are over.
