@@ -5,7 +5,7 @@ use Prim.Native.Nat.{ℕ, zero, suc, ◌+◌, ◌*◌, ◌/◌, ◌%◌, ◌^◌
 use native.Mathlib.Nat.{suc-add, add-suc, pow-zero, pow-suc}
 use native.Mathlib.Omega.{arith}
 use borrow.Author.Tests.{le-leb}
-use lib.ListN.{length, get_or, set, take, drop, drop_of_length-le}
+use lib.ListN.{length, get_or, set, take, drop, drop_of_length-le, get_or-append}
 use lib.Seq.{sets, sets-eq, get_or-append-add, drop-drop}
 use borrow.Rule.Slice.PartMut.{put_mid}
 use Rattle.cut_bytes.specs.Bytes.{bytes_of, number_at, stored}
@@ -71,6 +71,11 @@ number-after xs ys i zero = refl
 number-after xs ys i (suc n) =
     let e : length xs + i + 1 ≡ length xs + (i + 1) = omega arith in
     rw (e, get_or-append-add xs ys i 0, number-after xs ys (i + 1) n)
+
+pub number-before : (xs ys : List ℕ) (i n : ℕ) → i + n ≤ length xs → number_at (xs ++ ys) i n ≡ number_at xs i n
+unfolding number_at
+number-before xs ys i zero l = refl
+number-before xs ys i (suc n) l = rw (get_or-append xs ys 0 i (omega arith), number-before xs ys (i + 1) n (omega arith))
 
 number-first : (n v : ℕ) (ys : List ℕ) → v < 256 ^ n → number_at (bytes_of n v ++ ys) 0 n ≡ v
 unfolding number_at bytes_of

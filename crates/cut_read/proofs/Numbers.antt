@@ -10,7 +10,7 @@ use lib.ListN.{length}
 use Rattle.refusals.specs.Numbers.{wrong_length, out_of_range}
 use Rattle.std.specs.Prelude.{Result, Ok, Err}
 use Rattle.refusals.specs.Checks.{Check, always, first_of}
-use Rattle.refusals.specs.Refusals.{number, IsOutcome}
+use Rattle.refusals.specs.Refusals.{refusal_number as number, IsOutcome}
 use Rattle.refusals.specs.declared.Refusal.{Refusal}
 use Rattle.refusals.proofs.Outcomes.{number-nonzero}
 use Rattle.refusals.proofs.Tables.{numbered, zero-none}

@@ -1,7 +1,7 @@
 -- What reading a cut file answers and leaves, for all files and slices (Specification 16). Definitions only.
 use Rattle.std.specs.Prelude.{cond, List, ℕ, eqb, length, Result, Ok, Err}
 use Rattle.refusals.specs.Checks.{first_of}
-use Rattle.refusals.specs.Refusals.{number}
+use Rattle.refusals.specs.Refusals.{refusal_number}
 use Rattle.refusals.specs.declared.Refusal.{Refusal}
 use Rattle.region.specs.Regions.{zero_region}
 use Rattle.cut_file.specs.Read.{planes_in, count_in, region_in, samples_in, file_checks, region_checks, read_checks}
@@ -12,7 +12,7 @@ use Rattle.cut_read.specs.declared.CutAnswer.{CutAnswer}
 -- the answer at the C boundary: a count, or 0 beside the number of a refusal
 abbrev pub count_answer_of : Result ℕ Refusal → CountAnswer
 count_answer_of (Ok n) = record { number = 0; count = n }
-count_answer_of (Err e) = record { number = number e; count = 0 }
+count_answer_of (Err e) = record { number = refusal_number e; count = 0 }
 
 -- a rectangle: its region, and the number of planes of the file
 abbrev pub cut_in : List ℕ → ℕ → Cut
@@ -21,7 +21,7 @@ cut_in s k = record { region = region_in s k; planes = planes_in s }
 -- a region and a number of planes, or zeros beside the number of a refusal
 abbrev pub cut_answer_of : Result Cut Refusal → CutAnswer
 cut_answer_of (Ok c) = record { number = 0; region = c.region; planes = c.planes }
-cut_answer_of (Err e) = record { number = number e; region = zero_region; planes = 0 }
+cut_answer_of (Err e) = record { number = refusal_number e; region = zero_region; planes = 0 }
 
 -- the number of rectangles
 unfoldable pub count_outcome : List ℕ → CountAnswer

@@ -10,7 +10,7 @@ use lib.ListN.{length}
 use lib.Ieee.Fits.{and_l, and_r, and_i}
 use Rattle.std.specs.Prelude.{Result, Ok, Err}
 use Rattle.refusals.specs.Checks.{first_of}
-use Rattle.refusals.specs.Refusals.{number, IsOutcome}
+use Rattle.refusals.specs.Refusals.{refusal_number as number, IsOutcome}
 use Rattle.refusals.specs.declared.Refusal.{Refusal}
 use Rattle.refusals.proofs.Outcomes.{number-nonzero}
 use Rattle.refusals.proofs.Tables.{is_true, of-true, met, numbered, zero-none}

@@ -1,7 +1,7 @@
 -- What writing a cut file answers and leaves, for all tables and slices (Specification 16). Definitions only.
 use Rattle.std.specs.Prelude.{cond, List, ℕ, eqb, length, Result, Ok, Err}
 use Rattle.refusals.specs.Checks.{first_of}
-use Rattle.refusals.specs.Refusals.{number}
+use Rattle.refusals.specs.Refusals.{refusal_number}
 use Rattle.refusals.specs.declared.Refusal.{Refusal}
 use Rattle.cut_file.specs.declared.CutTable.{CutTable}
 use Rattle.cut_file.specs.File.{file_length, file_of}
@@ -11,7 +11,7 @@ use Rattle.cut_write.specs.declared.LengthAnswer.{LengthAnswer}
 -- the answer at the C boundary: a length, or 0 beside the number of a refusal
 abbrev pub length_answer_of : Result ℕ Refusal → LengthAnswer
 length_answer_of (Ok n) = record { number = 0; length = n }
-length_answer_of (Err e) = record { number = number e; length = 0 }
+length_answer_of (Err e) = record { number = refusal_number e; length = 0 }
 
 -- the length of the file that a table needs with a number of planes
 unfoldable pub length_outcome : CutTable → ℕ → LengthAnswer

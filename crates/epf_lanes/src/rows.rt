@@ -15,7 +15,7 @@ use epf_rects::Rect;
 use epf_sizes::{FIELDS, STRIDE, WINDOW_PLANE};
 use epf_slopes::{SLOPES, first_slope};
 use limits::BLOCK;
-use planes::Layout;
+use planes::{Layout, copy_run};
 use std::simd::prelude::*;
 
 // Stores the first lanes of a vector, as many as the slice holds.
@@ -28,7 +28,7 @@ fn store(dst: &mut [f32], v: f32x4)
         v.copy_to_slice(dst);
         return;
     }
-    dst.copy_from_slice(&v.to_array()[..m]);
+    copy_run(dst, 0, &v.to_array(), 0, m);
 }
 
 // Filters the four lanes of row r from lane i on, or as many as the row has, in N planes. The row's slopes start at index `first`.

@@ -1,12 +1,14 @@
 -- Lanes of vectors: differences and weights lane by lane. Assumes nothing.
 use mathlib.Core.Path.{◌≡◌, refl}
 use mathlib.Core.List.{List, [], ◌∷◌}
-use Prim.Native.Nat.{ℕ, zero, suc}
+use Prim.Native.Nat.{ℕ, zero, suc, ◌<◌}
 use native.Mathlib.Omega.{arith}
-use lib.Ieee.{Float, binary32, sub, add, mul, lt, of_bits}
+use lib.Ieee.{Float, binary32, sub, add, mul, lt, of_bits, nan}
 use lib.Lanes.{zip2, sel_l}
-use lib.ListN.{length, replicate}
+use lib.ListN.{length, replicate, get_or}
 use Rattle.epf_step.specs.Steps.{positive, weight_by}
+use Rattle.epf_step.specs.Bounds.{WeightBounded}
+use Rattle.epf_step.proofs.Bounds.{weight-bounded}
 use Rattle.rounding.specs.Zeros.{parted}
 
 -- n lanes of differences
@@ -30,3 +32,12 @@ lanes-weigh zero (d ∷ ds) ss h k = absurd (omega (arith, h))
 lanes-weigh (suc n) [] ss h k = absurd (omega (arith, h))
 lanes-weigh (suc n) (d ∷ ds) [] h k = absurd (omega (arith, k))
 lanes-weigh (suc n) (d ∷ ds) (s ∷ ss) h k = rw (lanes-weigh n ds ss (omega (arith, h)) (omega (arith, k)))
+
+-- each of n lanes of weights is bounded
+pub lanes-bounded : (n : ℕ) (ds ss : List Float) → length ds ≡ n → length ss ≡ n
+    → (k : ℕ) → k < n → WeightBounded (get_or ds k nan) (get_or ss k nan) (get_or (zip2 (λ d s. weight_by s d) ds ss) k nan)
+lanes-bounded zero ds ss h l k i = absurd (omega (arith, i))
+lanes-bounded (suc n) [] ss h l k i = absurd (omega (arith, h))
+lanes-bounded (suc n) (d ∷ ds) [] h l k i = absurd (omega (arith, l))
+lanes-bounded (suc n) (d ∷ ds) (s ∷ ss) h l zero i = (weight-bounded d s _ refl).1
+lanes-bounded (suc n) (d ∷ ds) (s ∷ ss) h l (suc k) i = lanes-bounded n ds ss (omega (arith, h)) (omega (arith, l)) k (omega (arith, i))

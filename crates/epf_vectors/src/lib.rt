@@ -3,7 +3,7 @@
 #![tactic(auto)]
 
 ghost use Rattle.std.specs.Prelude.{◌≡◌};
-ghost use Rattle.epf_vectors.specs.Lanes.{lanes_apart, lanes_weighed};
+ghost use Rattle.epf_vectors.specs.Lanes.{lanes_apart, lanes_weighed, LanesBounded};
 
 use std::simd::prelude::*;
 
@@ -18,9 +18,11 @@ pub fn differences(x: f32x4, y: f32x4) -> f32x4
     below.select(zero, d) - below.select(d, zero)
 }
 
-// The weights of four neighbours or lanes, from their distances and slopes, as `epf_step::weight` has them.
+// The weights of four neighbours or lanes, from their distances and slopes, as `epf_step::weight` has them. Each is from 0 to 1 if its
+// distance is not negative and its slope not positive.
 pub fn weights(distances: f32x4, slopes: f32x4) -> f32x4
-    ensures { result ≡ lanes_weighed distances slopes }
+    ensures weighed { result ≡ lanes_weighed distances slopes }
+    ensures bounded { LanesBounded distances slopes result }
 {
     let x = f32x4::splat(1.0) + distances * slopes;
     let zero = f32x4::splat(0.0);

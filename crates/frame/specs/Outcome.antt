@@ -3,7 +3,7 @@ use Rattle.std.specs.Prelude.{Bool, cond, not, ◌||◌, List, [], ◌∷◌, �
 use Rattle.refusals.specs.Numbers.{out_of_limits, out_of_range}
 use Rattle.refusals.specs.Checks.{Check, always, first_of}
 use Rattle.refusals.specs.declared.Refusal.{Refusal}
-use Rattle.refusals.specs.Refusals.{number}
+use Rattle.refusals.specs.Refusals.{refusal_number}
 use Rattle.frame.specs.declared.Frame.{Frame}
 use Rattle.frame.specs.declared.GroupSizes.{GroupSizes}
 use Rattle.frame.specs.declared.Split.{Split}
@@ -58,8 +58,8 @@ split_outcome block shift = split_answered (first_of (split_checks shift)) (grou
 -- ---- the answer for a result of `group_sizes` and `split_block`: 0 and the value, or the refusal's number and zeros
 abbrev pub frame_answer : Result GroupSizes Refusal → FrameAnswer
 frame_answer (Ok sizes) = record { number = 0; sizes = sizes }
-frame_answer (Err e) = record { number = number e; sizes = no_sizes }
+frame_answer (Err e) = record { number = refusal_number e; sizes = no_sizes }
 
 abbrev pub split_answer : Result Split Refusal → SplitAnswer
 split_answer (Ok split) = record { number = 0; group = split.group; inner = split.inner }
-split_answer (Err e) = record { number = number e; group = 0; inner = 0 }
+split_answer (Err e) = record { number = refusal_number e; group = 0; inner = 0 }

@@ -11,7 +11,7 @@ use Rattle.refusals.specs.Numbers.{wrong_length, out_of_range}
 use Rattle.refusals.specs.Checks.{first_of}
 use Rattle.refusals.specs.Flags.{flag_fits, flag_set}
 use Rattle.refusals.specs.declared.Refusal.{Refusal}
-use Rattle.refusals.specs.Refusals.{number, number_of}
+use Rattle.refusals.specs.Refusals.{refusal_number as number, number_of}
 use Rattle.refusals.proofs.Outcomes.{number-nonzero}
 use Rattle.region_placement.specs.Placed.{placed_checks}
 use Rattle.region.specs.declared.Region.{Region}

@@ -23,6 +23,7 @@ pub struct RestorationFilter {
 
 impl RestorationFilter {
     // Reads the Gabor bundle and then the EPF bundle, or refuses with 7, 1, 2 or 3.
+    #[inline(always)]
     #[tactic(auto, using(crate::proofs::Steps::restoration_steps))]
     pub fn read(reader: &mut BitReader, encoding: Encoding) -> Result<RestorationFilter, Refusal>
         ensures { Reads reader.old (restoration_at encoding) result reader.new }
@@ -36,6 +37,7 @@ impl RestorationFilter {
 
     // Reads both bundles from a bit position on, and answers the next position too.
     // Form: as at `EdgePreservingFilter::parse` (header_epf): a shared function would ask that a reader may be called.
+    #[inline(always)]
     pub fn parse(
         bytes: &[u8],
         at: usize,

@@ -6,7 +6,7 @@ use mathlib.Core.Path.{◌≡◌, refl, ◌∙◌}
 use borrow.Author.Tests.{ne_eqb}
 use Rattle.std.specs.Prelude.{Result, Ok, Err}
 use Rattle.refusals.specs.declared.Refusal.{Refusal}
-use Rattle.refusals.specs.Refusals.{number, IsOutcome}
+use Rattle.refusals.specs.Refusals.{refusal_number as number, IsOutcome}
 use Rattle.refusals.proofs.Outcomes.{number-nonzero}
 use Rattle.header_bits.specs.Outcome.{Outcome, accepted, refused, checked, and_then}
 use Rattle.header_bits.specs.Bits.{u, yes, flag}

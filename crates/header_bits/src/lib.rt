@@ -68,6 +68,9 @@ impl BitReader<'_> {
     }
 
     // Reads a field, or refuses with 7 or 1.
+    // Form: the hint, here and at readers of the crates above, lets an answer's fields be stored once. Without it each call
+    // of C's copies a bundle's record up to three times.
+    #[inline(always)]
     #[tactic(auto, using(crate::proofs::Checked::u_long, crate::proofs::Checked::u_short, crate::proofs::Checked::u_whole))]
     pub fn read(&mut self, width: Width) -> Result<u32, Refusal>
         ensures { Reads self.old (u (width_of width)) result self.new }

@@ -75,6 +75,7 @@ impl Default for EdgePreservingFilter {
 }
 
 // Reads the fields of a filter that is on.
+#[inline(always)]
 #[tactic(auto, using(crate::proofs::Steps::parameter_steps))]
 fn read_parameters(
     reader: &mut BitReader,
@@ -101,6 +102,7 @@ fn read_parameters(
 
 impl EdgePreservingFilter {
     // Reads the EPF bundle (Specification 5.6), or refuses with 7, 1 or 2.
+    #[inline(always)]
     #[tactic(auto, using(crate::proofs::Steps::epf_steps))]
     pub fn read(reader: &mut BitReader, encoding: Encoding) -> Result<EdgePreservingFilter, Refusal>
         ensures { Reads reader.old (epf_at encoding) result reader.new }
@@ -120,6 +122,7 @@ impl EdgePreservingFilter {
     // Reads the EPF bundle from a bit position on, and answers the next position too.
     // Form: one `parse` for the bundles of three crates would ask (`requires`) that a reader handed in may be called, which
     // no public function does; a trait with this method would need a law for each bundle, more than the lines that it saves.
+    #[inline(always)]
     pub fn parse(
         bytes: &[u8],
         at: usize,

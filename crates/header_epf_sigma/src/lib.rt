@@ -62,6 +62,7 @@ fn read_custom(reader: &mut BitReader, var_dct: bool) -> Result<EpfSigma, Refusa
 }
 
 // Reads the sigma settings. `quant_mul` can be present only in VarDCT.
+#[inline(always)]
 #[tactic(auto, using(crate::proofs::Steps::sigma_steps, crate::proofs::Steps::sigma_default))]
 pub fn read_sigma(reader: &mut BitReader, var_dct: bool) -> Result<EpfSigma, Refusal>
     ensures { Reads reader.old (read (sigma_fields var_dct)) result reader.new }

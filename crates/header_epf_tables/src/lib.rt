@@ -27,6 +27,7 @@ fn read_halves<const N: usize>(reader: &mut BitReader) -> Result<[f32; N], Refus
 // The sharpness table: custom if the header has one, otherwise the defaults. `present`: the custom bit is there.
 // Form: `present` is the condition of a row of the standard's table, as `defaults` are its defaults: the function reads the
 // row `sharp_fields` of the definition, which is in the stream or not.
+#[inline(always)]
 #[tactic(auto, using(crate::proofs::Steps::sharp_steps, crate::proofs::Steps::sharp_absent))]
 pub fn read_sharp_lut(
     reader: &mut BitReader,
@@ -49,6 +50,7 @@ pub fn read_sharp_lut(
 }
 
 // The channel scales: custom if the header has them, otherwise the defaults. 32 ignored bits follow custom scales.
+#[inline(always)]
 #[tactic(auto, using(crate::proofs::Steps::scale_steps))]
 pub fn read_channel_scale(reader: &mut BitReader, defaults: [f32; 3]) -> Result<[f32; 3], Refusal>
     ensures { Reads reader.old (read (scale_fields defaults)) result reader.new }

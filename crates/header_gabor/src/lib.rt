@@ -56,6 +56,7 @@ fn read_channels(reader: &mut BitReader) -> Result<Gabor, Refusal>
     })
 }
 
+#[inline(always)]
 #[tactic(auto, using(crate::proofs::Steps::weight_steps, crate::proofs::Steps::channels_default))]
 fn read_weights(reader: &mut BitReader) -> Result<Gabor, Refusal>
     ensures { Reads reader.old (read weight_fields) result reader.new }
@@ -75,6 +76,7 @@ fn read_weights(reader: &mut BitReader) -> Result<Gabor, Refusal>
 
 impl Gabor {
     // Reads the Gabor bundle (Specification 5.4), or refuses with 7, 1, 2 or 3.
+    #[inline(always)]
     #[tactic(auto, using(crate::proofs::Steps::gabor_steps))]
     pub fn read(reader: &mut BitReader) -> Result<Gabor, Refusal>
         ensures { Reads reader.old gabor_at result reader.new }

@@ -2,7 +2,7 @@
 use Rattle.std.specs.Prelude.{ℕ, List, [], ◌∷◌, eqb, Float}
 use Rattle.refusals.specs.Numbers.{half_not_finite}
 use Rattle.refusals.specs.Checks.{Check, always, first_of}
-use Rattle.refusals.specs.Refusals.{number}
+use Rattle.refusals.specs.Refusals.{refusal_number}
 use Rattle.header_bits.specs.Outcome.{Outcome, accepted, refused, checked, and_then}
 use Rattle.header_bits.specs.Bits.{u}
 use Rattle.header_half.specs.declared.Half.{Half}
@@ -24,4 +24,4 @@ f16 s p = and_then (u 16 s p) finite
 -- number, value and next bit position of each case of a reading
 abbrev pub half_outcome : Half → Outcome Float
 half_outcome (Value v next) = accepted v next
-half_outcome (Refused e) = refused (number e)
+half_outcome (Refused e) = refused (refusal_number e)

@@ -4,7 +4,7 @@
 
 ghost use Rattle.std.specs.Prelude.{◌≡◌, ◌&&◌, not, ◌*◌, T, eqb, length};
 ghost use Rattle.refusals.specs.Checks.{first_of};
-ghost use Rattle.refusals.specs.Refusals.{number, number_of, IsOutcome};
+ghost use Rattle.refusals.specs.Refusals.{refusal_number, number_of, IsOutcome};
 ghost use Rattle.region.specs.Measures.{picture_fits};
 ghost use Rattle.planes.specs.Band.{planes_fit};
 ghost use Rattle.run_setup.specs.Makers.{setup_with};
@@ -68,7 +68,7 @@ fn wrong_slice(planes: u32, wanted: Region, out: &[f32]) -> bool
 
 // Whether a call is refused with this refusal.
 fn is_refused<T: Copy>(answer: Result<T, Refusal>, refusal: Refusal) -> bool
-    ensures { result ≡ eqb (number_of answer) (number refusal) }
+    ensures { result ≡ eqb (number_of answer) (refusal_number refusal) }
 {
     match answer {
         Ok(_) => false,
@@ -78,7 +78,7 @@ fn is_refused<T: Copy>(answer: Result<T, Refusal>, refusal: Refusal) -> bool
 
 // The refusal of a call whose settings leave the margin unknown: 7 or 9. `groups` is the answer of `check_groups`, not 4.
 fn settings_refusal(groups: Result<(), Refusal>, settings: Settings, sigmas: &[f32]) -> Refusal
-    ensures { number result ≡ settings_number (number_of groups) settings.epf.iters (length sigmas.now) }
+    ensures { refusal_number result ≡ settings_number (number_of groups) settings.epf.iters (length sigmas.now) }
 {
     if is_refused(groups, Refusal::WrongLength) {
         return Refusal::WrongLength;

@@ -5,7 +5,7 @@ use native.Mathlib.Nat.{mod-lt, mod-eq_of_lt, add-mod_right, mod-eq-sub-mod, add
 use native.Mathlib.Decide.{dec_lt, dec_le}
 use native.Mathlib.Omega.{arith}
 use borrow.Author.Tests.{lt-ltb, le-ltb}
-use lib.IntN.{ℤ, pos, negsuc, neg_ℤ, ◌+ℤ◌, ◌-ℤ◌, sub_ℕ, +ℤ_comm, +ℤ_assoc, neg_ℤ-+ℤ}
+use lib.IntN.{ℤ, pos, negsuc, neg_ℤ, ◌+ℤ◌, ◌-ℤ◌, ◌*ℤ◌, sub_ℕ, +ℤ_comm, +ℤ_assoc, neg_ℤ-+ℤ}
 use lib.Signed.{mag}
 use Rattle.mirror.specs.Mirror.{folded, mirror, modℤ}
 
@@ -16,6 +16,18 @@ pub modℤ-lt : (z : ℤ) (m : ℕ) → 0 < m → modℤ z m < m
 unfolding modℤ
 modℤ-lt (pos k) m p = mod-lt k p
 modℤ-lt (negsuc k) m p = omega (arith, mod-lt k p)
+
+-- a number and its modulo differ by a multiple of the modulus
+pub modℤ-is : (z : ℤ) (m : ℕ) → 0 < m → (q : ℤ) × (z ≡ q *ℤ pos m +ℤ pos (modℤ z m))
+unfolding modℤ
+modℤ-is (pos k) m p = (pos (k / m), ap pos (sym (div-add-mod' k m)))
+modℤ-is (negsuc k) m p = (negsuc (k / m), rw whole (sym (below ∙ ap negsuc (omega (arith, mod-lt k p, div-add-mod' k m)))))
+  where
+    whole : suc (k / m) * m ≡ suc (k / m * m + (m - 1))
+    whole = omega (arith, suc-mul (k / m) m)
+
+    below : negsuc (k / m * m + (m - 1)) +ℤ pos (m - 1 - k % m) ≡ negsuc (k / m * m + (m - 1) - (m - 1 - k % m))
+    below = rw (lt-ltb (m - 1 - k % m) (suc (k / m * m + (m - 1))) (omega arith)) (ap negsuc (omega arith))
 
 -- adding the modulus changes nothing
 modℤ-more : (z : ℤ) (m : ℕ) → modℤ (z +ℤ pos m) m ≡ modℤ z m

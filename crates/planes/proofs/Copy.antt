@@ -67,3 +67,19 @@ module _ (d : List Float) (at : ℕ) (s : List Float) (from n : ℕ) where
               let e : at + (k - at) ≡ k = omega arith in
               let here : get_or (put_mid at n d part) k nan ≡ get_or part (k - at) nan = search (rules, places) in
               here ∙ get_or-between s from (from + n) (k - at) nan (omega arith) ∙ sym (rw e at (fill-at d at n read (k - at) p (omega arith)))
+
+-- a whole list is overwritten by the first samples of another
+pub copied-whole : (d s : List Float) (n : ℕ) → length d ≡ n → n ≤ length s → copied_run d 0 s 0 n ≡ take n s
+copied-whole d s n e l =
+    copied-run d 0 s 0 n (omega (arith, e)) (omega (arith, l))
+    ∙ ext_get_or nan _ _ (length-fill d 0 n read ∙ e ∙ sym (length-take-le n s l)) each
+  where
+    read : ℕ → Float
+    read i = get_or s (0 + i) nan
+
+    each : (k : ℕ) → k < length (fill d 0 n read) → get_or (fill d 0 n read) k nan ≡ get_or (take n s) k nan
+    each k m =
+        let p : k < n = omega (arith, m, e, length-fill d 0 n read) in
+        let z : 0 + k ≡ k = omega arith in
+        let there : get_or (take n s) k nan ≡ get_or s k nan = search (rules, places) in
+        rw z at (fill-at d 0 n read k (omega (arith, e)) p) ∙ sym there

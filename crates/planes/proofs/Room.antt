@@ -1,15 +1,24 @@
 -- Room in a slice: what the tests of a run and of a set say, and where rows and the filter region's part of a plane lie. Assumes nothing.
 use mathlib.Core.Path.{◌≡◌}
 use mathlib.Core.Bool.{true, ◌&&◌}
-use Prim.Native.Nat.{ℕ, ◌+◌, ◌*◌, ◌<◌, ◌≤◌}
+use Prim.Native.Nat.{ℕ, ◌+◌, ◌-◌, ◌*◌, ◌<◌, ◌≤◌}
 use native.Mathlib.Nat.{suc-mul, mul-le-mul, mul-le-mul_right, add-mul}
+use native.Mathlib.Decide.{dec_le}
 use native.Mathlib.Omega.{arith}
-use borrow.Author.Tests.{leb-true, eqb-true, le-leb, eq-eqb}
+use borrow.Author.Tests.{leb-true, eqb-true, le-leb, lt-leb, eq-eqb}
 use lib.Dec.{eqb, leb}
 use Rattle.planes.specs.declared.Layout.{Layout}
 use Rattle.planes.specs.Band.{layout_fits, set_fits}
 use Rattle.planes.proofs.Stored.{and_first, and_second, layout-fits}
 use Rattle.planes.specs.Fits.{LayoutFits}
+
+-- a test that n samples from index `at` end at `end` or before, without overflow
+pub run_ends : (at n end : ℕ) → n ≤ end → leb at (end - n) ≡ leb (at + n) end
+run_ends at n end h = go (dec_le (at + n) end)
+  where
+    go : Dec (at + n ≤ end) → leb at (end - n) ≡ leb (at + n) end
+    go (yes p) = rw (le-leb at (end - n) (omega arith), le-leb (at + n) end p)
+    go (no p) = rw (lt-leb at (end - n) (omega arith), lt-leb (at + n) end (omega arith))
 
 -- ---- rows of w samples
 

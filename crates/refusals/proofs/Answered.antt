@@ -6,7 +6,7 @@ use borrow.Author.Tests.{ne_eqb}
 use lib.Dec.{eqb}
 use Rattle.std.specs.Prelude.{Result, Ok, Err, IsOk, is_ok}
 use Rattle.refusals.specs.declared.Refusal.{Refusal}
-use Rattle.refusals.specs.Refusals.{number, IsOutcome}
+use Rattle.refusals.specs.Refusals.{IsOutcome}
 use Rattle.refusals.specs.Answered.{value_or}
 use Rattle.refusals.proofs.Outcomes.{number-nonzero}
 

@@ -4,7 +4,7 @@ use Prim.Native.Nat.{◌<◌}
 use native.Mathlib.Omega.{arith}
 use Rattle.refusals.specs.declared.Refusal.{Refusal}
 use Rattle.refusals.specs.declared.Refusal.TheVariants.{BitsRunOut, HalfNotFinite, KernelNearZero, OutOfLimits, NotInside, NotOnBlocks, WrongLength, BlockNotHeld, OutOfRange, BandNotOpen, PassNotDone, NotACutFile, BadEntry, WrongEnd, WantedOutside}
-use Rattle.refusals.specs.Refusals.{number}
+use Rattle.refusals.specs.Refusals.{refusal_number as number}
 
 pub number-positive : (e : Refusal) → 0 < number e
 number-positive BitsRunOut = omega arith

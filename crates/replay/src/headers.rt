@@ -90,10 +90,11 @@ fn bytes_in<'a>(n: &[i64], out: &'a mut [u8]) -> Option<&'a [u8]> {
     Some(bytes)
 }
 
-// The numbers of a header's bytes, and those after them. The first number of a row is how many bytes there are.
+// The numbers of a header's bytes, and those after them. The first number of a row is how many bytes there are; a negative one counts
+// as 0, as `number_at` has it.
 fn split_header(n: &[i64]) -> Option<(&[i64], &[i64])> {
-    let (count, rest) = n.split_first()?;
-    rest.split_at_checked(usize::try_from(*count).ok()?)
+    let (_, rest) = n.split_first()?;
+    rest.split_at_checked(number_at(n, 0))
 }
 
 // Whether a row agrees. `reader`: whether what it reads from the bytes is what the numbers after them say.

@@ -59,7 +59,7 @@ fn is_row(line: &[u8]) -> bool {
 fn row_of<F: Fn(&[i64]) -> bool>(line: &[u8], name: &[u8], agrees: &F) -> Tally
     requires { F.IsAlwaysCallable agrees.now }
 {
-    match line.split_at_checked(replay_text::end_of(line, b' ')) {
+    match line.split_at_checked(replay_text::end_of(line, 0, b' ')) {
         Some((word, rest)) if word == name => Tally {
             rows: 1,
             differ: u64::from(!agrees_on(rest, agrees)),

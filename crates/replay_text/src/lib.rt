@@ -1,15 +1,26 @@
-// Words of a row of text: where the first one ends, and the number that a word denotes.
+// Words of a row of text: where one ends, and the number that a word denotes.
 #![tactic(auto)]
 
-ghost use Rattle.std.specs.Prelude.{◌≡◌, ◌≤◌, ◌<◌, MatchOption};
+ghost use Rattle.std.specs.Prelude.{◌≡◌, ◌≤◌, ◌<◌, ◌==◌, MatchOption};
+ghost use Rattle.std.specs.List.{position_or_len};
 ghost use Rattle.replay_text.specs.Words.{end_of};
 ghost use Rattle.replay_text.specs.Numbers.{digit_of, value_of, spelled, number_of};
 
 // The index of the first such byte, or the length of a text without one.
-pub fn end_of(text: &[u8], byte: u8) -> usize
-    ensures { result ≡ end_of text.now byte }
+fn first(text: &[u8], byte: u8) -> usize
+    ensures { result ≡ position_or_len (λ x. x == byte) text.now }
 {
     text.iter().position(|x| *x == byte).unwrap_or(text.len())
+}
+
+// The index of the first such byte from `at` on, or the end of the text.
+pub fn end_of(text: &[u8], at: usize, byte: u8) -> usize
+    ensures { result ≡ end_of text.now at byte }
+{
+    if text.len() <= at {
+        return text.len();
+    }
+    at + first(&text[at..], byte)
 }
 
 // The value of a digit of the base, as `char::to_digit` has it, but without capital letters.

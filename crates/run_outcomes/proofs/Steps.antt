@@ -4,7 +4,7 @@ use mathlib.Core.List.{List, [], ◌∷◌}
 use lib.Dec.{T}
 use Rattle.std.specs.Prelude.{Result, Ok, Err, IsErrAnd}
 use Rattle.refusals.specs.declared.Refusal.{Refusal}
-use Rattle.refusals.specs.Refusals.{number, number_of}
+use Rattle.refusals.specs.Refusals.{refusal_number as number, number_of}
 use Rattle.refusals.specs.Checks.{Check, first_of}
 use Rattle.refusals.proofs.Outcomes.{number-nonzero}
 use Rattle.refusals.proofs.Tables.{numbered}

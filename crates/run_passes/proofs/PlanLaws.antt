@@ -11,7 +11,7 @@ use lib.ListN.{length, get_or, take}
 use lib.Ieee.{Float}
 use Rattle.std.specs.Prelude.{Result, Ok, Err}
 use Rattle.refusals.specs.declared.Refusal.{Refusal}
-use Rattle.refusals.specs.Refusals.{IsOutcome, number}
+use Rattle.refusals.specs.Refusals.{IsOutcome, refusal_number as number}
 use Rattle.refusals.proofs.Outcomes.{number-nonzero}
 use Rattle.epf.specs.declared.EpfStep.{EpfStep}
 use Rattle.epf_step.specs.Steps.{scaled}

@@ -59,7 +59,8 @@ pub enum Pass {
     Edge(EpfStep),
 }
 
-const MAX_ITERS: u32 = 3;
+// The most iterations of the edge-preserving filter.
+pub const MAX_ITERS: u32 = 3;
 
 // Three iterations have all steps; fewer start with step 1.
 const ALL_STEPS: u32 = 3;

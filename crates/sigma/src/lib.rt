@@ -12,6 +12,7 @@ ghost use Rattle.sigma.specs.Outcome.{SigmasOutcome, sigmas_outcome};
 ghost use Rattle.sigma.specs.Runs.{row_sigma, RunFits, RunOf, GridsOf, RowFits};
 
 use frame::Frame;
+use planes::copy_run;
 use refusals::Refusal;
 use sigma_grids::{grid_of, grid_start};
 use sigma_groups::blocks::{Blocks, SoundBlocks};
@@ -61,7 +62,7 @@ impl<'a> Grids<'a> {
         };
         let first = grid_start(self.groups.table, run.group).unwrap();
         let from = first + (run.row as usize * grid.width as usize + run.column as usize);
-        sigmas.copy_from_slice(&self.grids[from..from + run.n as usize]);
+        copy_run(sigmas, 0, self.grids, from, run.n as usize);
     }
 
     // The run that starts at block (bx, by) and has at most `limit` blocks.

@@ -1,10 +1,10 @@
 // The group table of a frame, and where each group's grid starts in the grids slice (Specification 7.4).
 #![tactic(auto)]
 
-ghost use Rattle.std.specs.Prelude.{◌≡◌, true, false, ◌+◌, ◌*◌, ◌≤◌, get_or, MatchOption};
+ghost use Rattle.std.specs.Prelude.{◌≡◌, true, false, ◌+◌, ◌*◌, ◌≤◌, eqb, get_or, MatchOption};
 ghost use Rattle.refusals.specs.Refusals.{IsOutcome};
 ghost use Rattle.sigma_grids.specs.Table.{present, grid_width, grid_height, bad_grid_side, bad_grid};
-ghost use Rattle.sigma_grids.specs.Table.{cells, grid_start, some_below};
+ghost use Rattle.sigma_grids.specs.Table.{cells, grid_start};
 ghost use Rattle.sigma_grids.specs.Start.{no_entries, start_outcome};
 
 use refusals::Refusal;
@@ -37,19 +37,40 @@ fn number_at(table: &[u32], i: usize) -> u32
     table.get(i).copied().unwrap_or(0)
 }
 
-// The grid of a group, or `None` if it is missing or the table has no entry for it.
-pub fn grid_of(table: &[u32], group: u32) -> Option<Grid>
-    ensures { MatchOption result (present table.now group ≡ false)
-        (λ grid. (present table.now group ≡ true) × (grid.width ≡ grid_width table.now group)
-        × (grid.height ≡ grid_height table.now group)) }
+// The grid of an entry that the table's end may cut.
+fn grid_past_end(table: &[u32], entry: usize) -> Option<Grid>
+    requires { entry ≤ 12884901888 }
+    ensures { MatchOption result (eqb (get_or table.now entry 0) 1 ≡ false)
+        (λ grid. (eqb (get_or table.now entry 0) 1 ≡ true) × (grid.width ≡ get_or table.now (entry + 1) 0)
+        × (grid.height ≡ get_or table.now (entry + 2) 0)) }
 {
-    let entry = ENTRY * group as usize;
     if number_at(table, entry) != PRESENT {
         return None;
     }
     Some(Grid {
         width: number_at(table, entry + 1),
         height: number_at(table, entry + 2),
+    })
+}
+
+// The grid of a group, or `None` if it is missing or the table has no entry for it.
+// Form: the numbers of an entry by their indices, of which the last one's bound is tested once for all three: every entry of a frame's
+// groups lies in the table, and this is asked for each group of a table and each run of sigmas.
+pub fn grid_of(table: &[u32], group: u32) -> Option<Grid>
+    ensures { MatchOption result (present table.now group ≡ false)
+        (λ grid. (present table.now group ≡ true) × (grid.width ≡ grid_width table.now group)
+        × (grid.height ≡ grid_height table.now group)) }
+{
+    let entry = ENTRY * group as usize;
+    if table.len() < entry + ENTRY {
+        return grid_past_end(table, entry);
+    }
+    if table[entry] != PRESENT {
+        return None;
+    }
+    Some(Grid {
+        width: table[entry + 1],
+        height: table[entry + 2],
     })
 }
 
@@ -70,12 +91,6 @@ fn bad_grid(table: &[u32], group: u32) -> bool
     }
 }
 
-fn some_bad_grid(table: &[u32], groups: u32) -> bool
-    ensures { result ≡ some_below groups (bad_grid table.now) }
-{
-    (0..groups).any(|g| bad_grid(table, g))
-}
-
 // The number of cells of a group in the grids slice.
 #[tactic(auto, unfolding(crate::specs::Table::cells))]
 fn cells(table: &[u32], group: u32) -> usize
@@ -88,19 +103,6 @@ fn cells(table: &[u32], group: u32) -> usize
     }
 }
 
-// The number of cells of all groups before this one, whose grids have sides in range: where this group's grid starts.
-// Form: `sum` would be no shorter, as its closure needs a `requires` for `cells` and for the sum.
-fn cells_before(table: &[u32], group: u32) -> usize
-    requires { (group ≤ 256) × (some_below group (bad_grid table.now) ≡ false) }
-    ensures { result ≡ grid_start table.now group }
-{
-    let mut start = 0;
-    for g in 0..group {
-        start += cells(table, g);
-    }
-    start
-}
-
 // Whether the table lacks an entry for a group before this one, or has more entries than a frame has groups.
 #[tactic(auto, unfolding(crate::specs::Start::no_entries))]
 fn no_entries(table: &[u32], group: u32) -> bool
@@ -109,15 +111,20 @@ fn no_entries(table: &[u32], group: u32) -> bool
     MAX_TABLE < table.len() || table.len() < ENTRY * group as usize
 }
 
-// The start of a group's grid in the grids slice, or refusal 4 or 7.
+// The start of a group's grid in the grids slice, which is the number of cells of all groups before it, or refusal 4 or 7.
+// Form: no `sum`, since a grid out of range ends the loop; tests and cells go in one loop, since each run of block sigmas asks this.
 pub fn grid_start(table: &[u32], group: u32) -> Result<usize, Refusal>
     ensures { IsOutcome result (start_outcome table.now group).number (grid_start table.now group) }
 {
     if no_entries(table, group) {
         return Err(Refusal::WrongLength);
     }
-    if some_bad_grid(table, group) {
-        return Err(Refusal::OutOfLimits);
+    let mut start = 0;
+    for g in 0..group {
+        if bad_grid(table, g) {
+            return Err(Refusal::OutOfLimits);
+        }
+        start += cells(table, g);
     }
-    Ok(cells_before(table, group))
+    Ok(start)
 }

@@ -11,7 +11,7 @@ ghost use Rattle.sigma_groups.specs.Fitting.{TableOf};
 use crate::blocks::SoundBlocks;
 use frame::{GroupSizes, SoundFrame};
 use refusals::Refusal;
-use sigma_grids::{ENTRY, PRESENT, grid_of};
+use sigma_grids::{ENTRY, PRESENT};
 
 // The groups of a frame in range: its sizes, and its group table, which has an entry for each group.
 #[derive(Clone, Copy)]
@@ -32,14 +32,14 @@ fn bad_presence(table: &[u32], group: u32) -> bool
 }
 
 // Whether a group's grid is present and lacks a cell.
+// Form: the numbers of its entry by their indices: this is asked for each block, and `grid_of` would test the table's length each time.
 #[tactic(auto, unfolding(sigma_grids::specs::Table::grid_lacks_block))]
 fn grid_lacks_block(table: &[u32], group: u32, column: u32, row: u32) -> bool
+    requires { 3 * group + 3 ≤ length table.now }
     ensures { result ≡ grid_lacks_block table.now group column row }
 {
-    match grid_of(table, group) {
-        None => false,
-        Some(grid) => grid.width <= column || grid.height <= row,
-    }
+    let entry = ENTRY * group as usize;
+    table[entry] == PRESENT && (table[entry + 1] <= column || table[entry + 2] <= row)
 }
 
 impl<'a> Groups<'a> {

@@ -5,7 +5,7 @@ use native.Mathlib.Omega.{arith}
 use borrow.Author.Tests.{eq-eqb, ne_eqb}
 use lib.ListN.{length}
 use borrow.Author.Rules.{rules}
-use Rattle.refusals.specs.Refusals.{number}
+use Rattle.refusals.specs.Refusals.{refusal_number as number}
 use Rattle.refusals.proofs.Outcomes.{number-nonzero}
 use Rattle.refusals.specs.Numbers.{accepted, wrong_end}
 use Rattle.refusals.specs.Checks.{first_of}

@@ -3,7 +3,7 @@ use mathlib.Core.Path.{◌≡◌, sym, ◌∙◌}
 use Prim.Native.Nat.{◌≤◌, ◌<◌}
 use borrow.Author.Rules.{rules}
 use Rattle.refusals.specs.Checks.{first_of}
-use Rattle.refusals.specs.Refusals.{number}
+use Rattle.refusals.specs.Refusals.{refusal_number as number}
 use Rattle.refusals.proofs.Outcomes.{number-nonzero}
 use Rattle.cut_file.specs.Read.{count_in, file_checks}
 use Rattle.cut_read.proofs.Numbers.{file-refused, rectangle-missing, rectangle-there}

@@ -12,7 +12,7 @@ use Rattle.std.specs.Prelude.{Option, Some}
 use Rattle.std.specs.Option.{option_eq}
 use Rattle.refusals.specs.Numbers.{wrong_length}
 use Rattle.refusals.specs.Checks.{first_of}
-use Rattle.refusals.specs.Refusals.{number}
+use Rattle.refusals.specs.Refusals.{refusal_number as number}
 use Rattle.refusals.proofs.Outcomes.{number-nonzero}
 use Rattle.cut_bytes.specs.Bytes.{number_at}
 use Rattle.cut_file.specs.File.{sample_count, entry_at, body_at}

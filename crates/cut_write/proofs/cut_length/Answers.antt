@@ -3,7 +3,7 @@ use mathlib.Core.Path.{◌≡◌, sym, ◌∙◌}
 use borrow.Author.Rules.{rules}
 use native.Mathlib.Omega.{arith}
 use Rattle.refusals.specs.Checks.{first_of}
-use Rattle.refusals.specs.Refusals.{number}
+use Rattle.refusals.specs.Refusals.{refusal_number as number}
 use Rattle.refusals.proofs.Outcomes.{number-nonzero}
 use Rattle.cut_file.specs.Write.{table_checks}
 use Rattle.cut_write.proofs.Tables.{planes-good, planes-bad, length-table, length-planes, length-long, length-accepted}

@@ -8,7 +8,7 @@ use lib.Dec.{T}
 use lib.ListN.{length, get_or, take}
 use Rattle.std.proofs.lemmas.List.{length-take, get_or-take}
 use Rattle.std.specs.Prelude.{Option, Some, None, Result, Err, ok_or}
-use Rattle.refusals.specs.Refusals.{number}
+use Rattle.refusals.specs.Refusals.{refusal_number as number}
 use Rattle.refusals.specs.declared.Refusal.{Refusal}
 use Rattle.refusals.specs.declared.Refusal.TheVariants.{OutOfLimits}
 use Rattle.refusals.proofs.Tables.{is_true}

@@ -8,7 +8,7 @@ use borrow.Author.Rules.{rules}
 use Rattle.std.proofs.lemmas.List.{length-take, length-drop}
 use lib.Seq.{sets, length-sets}
 use Rattle.refusals.specs.Checks.{first_of}
-use Rattle.refusals.specs.Refusals.{number, number_of}
+use Rattle.refusals.specs.Refusals.{refusal_number as number, number_of}
 use Rattle.refusals.proofs.Outcomes.{number-nonzero}
 use Rattle.cut_bytes.specs.Bytes.{bytes_of, stored}
 use Rattle.cut_bytes.proofs.Laws.{bytes_inside}

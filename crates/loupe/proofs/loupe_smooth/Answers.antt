@@ -1,7 +1,7 @@
 -- `loupe::loupe_smooth` meets its contract: at each end both clauses follow from what the calls before it answered. Assumes nothing.
 use mathlib.Core.Path.{◌≡◌, refl, sym}
 use borrow.Author.Rules.{rules}
-use Rattle.refusals.specs.Refusals.{number, number_of}
+use Rattle.refusals.specs.Refusals.{refusal_number as number, number_of}
 use Rattle.refusals.proofs.Outcomes.{number-nonzero}
 use Rattle.loupe.specs.Outcome.{LoupeHanded}
 use Rattle.loupe.proofs.Answers.{answered-early, answered-start, answered-accepted}

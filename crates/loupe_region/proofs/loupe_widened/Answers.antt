@@ -3,7 +3,7 @@ use mathlib.Core.Path.{◌≡◌, sym, ap, ◌∙◌}
 use mathlib.Core.Bool.{Bool, cond, not}
 use borrow.Author.Rules.{rules}
 use Rattle.refusals.specs.Numbers.{out_of_range}
-use Rattle.refusals.specs.Refusals.{number, number_of}
+use Rattle.refusals.specs.Refusals.{refusal_number as number, number_of}
 use Rattle.refusals.proofs.Outcomes.{number-nonzero}
 use Rattle.loupe_region.proofs.Answers.{rectangle-refused, rectangle-passed}
 use Rattle.loupe_region.proofs.loupe_widened.Goals as goal

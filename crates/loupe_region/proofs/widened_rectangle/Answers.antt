@@ -3,7 +3,7 @@ use mathlib.Core.Path.{◌≡◌, sym, ap, ◌∙◌}
 use mathlib.Core.Bool.{true, false}
 use Prim.Native.Nat.{ℕ}
 use borrow.Author.Rules.{rules}
-use Rattle.refusals.specs.Refusals.{number, number_of}
+use Rattle.refusals.specs.Refusals.{refusal_number as number, number_of}
 use Rattle.refusals.specs.Checks.{first_of}
 use Rattle.region_interval.proofs.Flags.{yes}
 use Rattle.region.specs.Measures.{picture_fits, rectangle_fits}

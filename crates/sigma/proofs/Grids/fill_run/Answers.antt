@@ -4,12 +4,13 @@ use Prim.Native.Nat.{ℕ, ◌+◌, ◌*◌, ◌≤◌}
 use native.Mathlib.Omega.{arith}
 use lib.ListN.{length, length-replicate, get_or-replicate}
 use lib.Ieee.{nan}
-use Rattle.std.proofs.lemmas.List.Edits.{get_or-between}
+use Rattle.planes.proofs.Copy.{copied-run}
+use Rattle.planes.proofs.SetLaws.{length-tab, get_d-tab}
 use Rattle.refusals.proofs.Answered.{outcome_is_ok, outcome_ok}
 use Rattle.sigma_grids.specs.Table.{grid_start}
 use Rattle.sigma_grids.proofs.Laws.{start-number}
 use Rattle.sigma.specs.Runs.{Holds}
-use Rattle.sigma.proofs.Runs.{is-tab, length-part, first_cell, run_room, run-present, run-missing}
+use Rattle.sigma.proofs.Runs.{is-tab, fill-whole, first_cell, run_room, run-present, run-missing}
 use Rattle.sigma.proofs.Grids.fill_run.Goals as goal
 
 pub returns-in_default : goal.returns-in_default
@@ -36,6 +37,8 @@ returns c =
     let from : ℕ = c.unwrap-first.result + (run.row * c.in-Some.grid.width + run.column) in
     let from_is : from ≡ first_cell s.groups.table.now s.grids.now run = rw (start, c.in-Some.ensures.1) in
     let room : from + run.n ≤ length s.grids.now = omega (arith, from_is, run_room _ _ _ holds) in
-    c.copy_from_slice.ensures.after
-    ∙ is-tab _ _ _ (length-part s.grids.now from run.n room)
-    (λ i l. get_or-between s.grids.now from (from + run.n) i nan (omega arith) ∙ run-present s.groups.table.now s.grids.now run c.in-Some.ensures.0 s.modular _ i from_is)
+    let copied = copied-run c.args.sigmas.now 0 s.grids.now from run.n (omega (arith, c.requires.1)) room in
+    c.copy_run.ensures
+    ∙ copied
+    ∙ fill-whole _ run.n _ c.requires.1
+    ∙ is-tab _ run.n _ (length-tab run.n _) (λ i l. get_d-tab run.n _ i l ∙ run-present s.groups.table.now s.grids.now run c.in-Some.ensures.0 s.modular _ i from_is)

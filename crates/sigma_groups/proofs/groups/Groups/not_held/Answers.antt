@@ -45,3 +45,8 @@ overflow_mul-group c = omega (arith, entry_lt _ _ _ c.args.self.entries _ _ c.if
 
 pub overflow_add-group : goal.overflow_add-group
 overflow_add-group c = omega (arith, entry_lt _ _ _ c.args.self.entries _ _ c.if-self-column.false c.if-self-row.false, entries-le _ _ _ c.args.self.entries)
+
+pub grid_lacks_block-requires : goal.grid_lacks_block-requires
+grid_lacks_block-requires c =
+    rw (c.split-column.ensures, c.split-row.ensures)
+    (entry_lt _ _ _ c.args.self.entries _ _ (rw c.split-column.ensures at c.if-self-column.false) (rw c.split-row.ensures at c.if-self-row.false))
